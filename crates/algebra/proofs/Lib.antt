@@ -1,4 +1,11 @@
--- The laws, and what follows from them over any field.
+-- The laws, and what follows from them over any field. Each file uses only those above it.
 pub mod Laws
 pub mod Order
+pub mod Sums
+pub mod Powers
+pub mod Polynomials
+pub mod Pairing
+pub mod Weights
+pub mod Distance
+pub mod Naturality
 pub mod Below

@@ -1,0 +1,62 @@
+-- Every definition of `specs/` goes through a map that keeps the operations: what is computed and then mapped is what is computed from the mapped.
+-- Holds: `Homomorphism`, and a lemma for each definition: `sum-natural`, `power-natural`, `value-natural`, `valueOf-natural`, `fromRoots-natural`, `weight-natural`.
+use mathlib.Core.Path.{_≡_, refl, sym, ap, ap₂, _∙_}
+use mathlib.Core.Bool.{Bool, not}
+use mathlib.Core.List.{List, [], _∷_, map}
+use Prim.Native.Nat.{ℕ, zero, suc}
+use Rattle.algebra.specs.Ops.{Ops}
+use Rattle.algebra.specs.Sum.{sum, power}
+use Rattle.algebra.specs.Polynomial.{value, valueOf, timesRoot, timesRootAfter, fromRoots}
+use Rattle.algebra.specs.Weight.{weight}
+use Rattle.algebra.proofs.Weights.{countOf-ext}
+
+-- A map that keeps the operations.
+pub record Homomorphism {F G : Type 0} (o : Ops F) (p : Ops G) (h : F → G) : Type 0 where
+  pub on-zero : h (o .zero) ≡ p .zero
+  pub on-one : h (o .one) ≡ p .one
+  pub on-add : (a b : F) → h (o .add a b) ≡ p .add (h a) (h b)
+  pub on-neg : (a : F) → h (o .neg a) ≡ p .neg (h a)
+  pub on-mul : (a b : F) → h (o .mul a b) ≡ p .mul (h a) (h b)
+  pub on-inv : (a : F) → h (o .inv a) ≡ p .inv (h a)
+  pub on-test : (a : F) → o .isZero a ≡ p .isZero (h a)
+
+module _ {F G : Type 0} (o : Ops F) (p : Ops G) (h : F → G) (H : Homomorphism o p h) where
+  pub sum-natural : (n : ℕ) (f : ℕ → F) → h (sum o n f) ≡ sum p n (λ i. h (f i))
+  unfolding sum
+  sum-natural zero f = H .on-zero
+  sum-natural (suc n) f = H .on-add (sum o n f) (f n) ∙ ap (λ t. p .add t (h (f n))) (sum-natural n f)
+
+  pub power-natural : (a : F) (i : ℕ) → h (power o a i) ≡ power p (h a) i
+  unfolding power
+  power-natural a zero = H .on-one
+  power-natural a (suc i) = H .on-mul a (power o a i) ∙ ap (p .mul (h a)) (power-natural a i)
+
+  pub value-natural : (c : List F) (x : F) → h (value o c x) ≡ value p (map h c) (h x)
+  unfolding value
+  value-natural [] x = H .on-zero
+  value-natural (a ∷ c) x =
+      H .on-add a (o .mul x (value o c x)) ∙ ap (p .add (h a)) (H .on-mul x (value o c x) ∙ ap (p .mul (h x)) (value-natural c x))
+
+  pub valueOf-natural : (n : ℕ) (c : ℕ → F) (x : F) → h (valueOf o n c x) ≡ valueOf p n (λ i. h (c i)) (h x)
+  unfolding valueOf
+  valueOf-natural zero c x = H .on-zero
+  valueOf-natural (suc n) c x =
+      H .on-add (c 0) (o .mul x (valueOf o n (λ i. c (suc i)) x))
+      ∙ ap (p .add (h (c 0))) (H .on-mul x (valueOf o n (λ i. c (suc i)) x) ∙ ap (p .mul (h x)) (valueOf-natural n (λ i. c (suc i)) x))
+
+  timesRootAfter-natural : (c : List F) (a b : F) → map h (timesRootAfter o a b c) ≡ timesRootAfter p (h a) (h b) (map h c)
+  unfolding timesRootAfter
+  timesRootAfter-natural [] a b = refl
+  timesRootAfter-natural (x ∷ c) a b =
+      ap₂ _∷_ (H .on-add b (o .neg (o .mul a x)) ∙ ap (p .add (h b)) (H .on-neg (o .mul a x) ∙ ap (p .neg) (H .on-mul a x))) (timesRootAfter-natural c a x)
+
+  pub timesRoot-natural : (c : List F) (a : F) → map h (timesRoot o a c) ≡ timesRoot p (h a) (map h c)
+  timesRoot-natural c a = timesRootAfter-natural c a (o .zero) ∙ ap (λ t. timesRootAfter p (h a) t (map h c)) (H .on-zero)
+
+  pub fromRoots-natural : (roots : List F) → map h (fromRoots o roots) ≡ fromRoots p (map h roots)
+  unfolding fromRoots
+  fromRoots-natural [] = ap (λ t. t ∷ []) (H .on-one)
+  fromRoots-natural (a ∷ roots) = timesRoot-natural (fromRoots o roots) a ∙ ap (timesRoot p (h a)) (fromRoots-natural roots)
+
+  pub weight-natural : (n : ℕ) (b : ℕ → F) → weight o n b ≡ weight p n (λ i. h (b i))
+  weight-natural n b = countOf-ext n (λ i. not (o .isZero (b i))) (λ i. not (p .isZero (h (b i)))) (λ i l. ap not (H .on-test (b i)))
