@@ -1,0 +1,1 @@
+-- What is true of the code, over any field and any n, k, m.
