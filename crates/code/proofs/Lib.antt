@@ -1,1 +1,3 @@
 -- What is true of the code, over any field and any n, k, m.
+pub mod Blocks
+pub mod LevelCode
