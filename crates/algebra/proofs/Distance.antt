@@ -15,7 +15,7 @@ use borrow.Author.Tests.{eq-eqb, ne-eqb, lt-ltb, le-ltb}
 use Rattle.algebra.specs.Ops.{Ops, sub, pick}
 use Rattle.algebra.specs.Sum.{sum, power}
 use Rattle.algebra.specs.Polynomial.{value, valueOf, fromRoots}
-use Rattle.algebra.specs.Weight.{countOf, weight}
+use Rattle.algebra.specs.Weight.{total, countOf, weight}
 use Rattle.algebra.proofs.Laws.{Field, Tested, is-zero, non-zero, mul-zero, zero-mul, mul-comm, mul-eq-zero, eq-of-sub, add-neg}
 use Rattle.algebra.proofs.Order.{Order}
 use Rattle.algebra.proofs.Sums.{sum-zeros, sum-single}
@@ -31,7 +31,7 @@ powersWhere o α test (suc n) = pick (test n) (power o α n ∷ powersWhere o α
 
 module _ {F : Type 0} (o : Ops F) (α : F) (test : ℕ → Bool) where
   pub length-powersWhere : (n : ℕ) → length (powersWhere o α test n) ≡ countOf n test
-  unfolding powersWhere countOf
+  unfolding powersWhere total
   length-powersWhere zero = refl
   length-powersWhere (suc n) = at (test n) (length-powersWhere n)
     where

@@ -1,32 +1,65 @@
--- Counts of the places at which a test holds, and weights of sequences over a field.
--- Holds: `countOf-ext`, `countOf-le`, `countOf-mono`, `countOf-add`, `countOf-split`, `countOf-without`, `countOf-none`, `weight-short`.
+-- Totals of numbers, counts of the places at which a test holds, and weights of sequences over a field.
+-- Holds: `total-ext`, `total-mono`, `total-add`, `total-scale`, `total-split`, `total-blocks`; `countOf-ext`, `countOf-le`, `countOf-mono`,
+-- `countOf-none`, `countOf-without`; `zero-test`, `nonzero-test`, `weight-short`.
 use mathlib.Core.Path.{_≡_, refl, sym, ap, ap₂, subst, _∙_}
 use mathlib.Core.Bool.{Bool, true, false, not}
-use Prim.Native.Nat.{ℕ, zero, suc, _+_, _≤_, _<_}
-use native.Mathlib.Nat.{add-zero, add-suc, add-assoc}
+use Prim.Native.Nat.{ℕ, zero, suc, _+_, _*_, _≤_, _<_}
+use native.Mathlib.Nat.{add-zero, add-suc, add-assoc, zero-mul, suc-mul}
 use native.Mathlib.Omega.{arith}
 use native.Mathlib.Decide.{ℕ-discrete, decLt}
 use lib.Dec.{eqb, ltb, T}
 use borrow.Author.Tests.{eq-eqb, ne-eqb}
 use Rattle.algebra.specs.Ops.{Ops, pick}
-use Rattle.algebra.specs.Weight.{countOf, weight}
+use Rattle.algebra.specs.Weight.{total, countOf, weight}
 use Rattle.algebra.proofs.Laws.{Field, Tested, is-zero, non-zero}
+
+pub total-ext : (n : ℕ) (f g : ℕ → ℕ) → ((i : ℕ) → i < n → f i ≡ g i) → total n f ≡ total n g
+unfolding total
+total-ext zero f g h = refl
+total-ext (suc n) f g h = ap₂ _+_ (total-ext n f g (λ i l. h i (omega arith))) (h n (omega arith))
+
+pub total-mono : (n : ℕ) (f g : ℕ → ℕ) → ((i : ℕ) → i < n → f i ≤ g i) → total n f ≤ total n g
+unfolding total
+total-mono zero f g h = omega arith
+total-mono (suc n) f g h = omega (arith, total-mono n f g (λ i l. h i (omega arith)), h n (omega arith))
+
+pub total-add : (n : ℕ) (f g : ℕ → ℕ) → total n (λ i. f i + g i) ≡ total n f + total n g
+unfolding total
+total-add zero f g = refl
+total-add (suc n) f g = omega (arith, total-add n f g)
+
+pub total-scale : (n a : ℕ) (f : ℕ → ℕ) → total n (λ i. a * f i) ≡ a * total n f
+unfolding total
+total-scale zero a f = omega arith
+total-scale (suc n) a f = omega (arith, total-scale n a f)
+
+pub total-split : (n m : ℕ) (f : ℕ → ℕ) → total (n + m) f ≡ total n f + total m (λ i. f (n + i))
+unfolding total
+total-split n zero f = ap (λ (t : ℕ). total t f) (add-zero n) ∙ sym (add-zero (total n f))
+total-split n (suc m) f =
+    ap (λ (t : ℕ). total t f) (add-suc n m)
+    ∙ (ap (λ (t : ℕ). t + f (n + m)) (total-split n m f) ∙ add-assoc (total n f) (total m (λ i. f (n + i))) (f (n + m)))
+
+-- A total over m blocks of n terms, block by block.
+pub total-blocks : (m n : ℕ) (f : ℕ → ℕ) → total (m * n) f ≡ total m (λ s. total n (λ i. f (s * n + i)))
+unfolding total
+total-blocks zero n f = ap (λ (t : ℕ). total t f) (zero-mul n)
+total-blocks (suc m) n f =
+    ap (λ (t : ℕ). total t f) (suc-mul m n) ∙ (total-split (m * n) n f ∙ ap (λ (t : ℕ). t + total n (λ i. f (m * n + i))) (total-blocks m n f))
 
 abbrev pub both : Bool → Bool → Bool
 both true b = b
 both false b = false
 
 pub countOf-ext : (n : ℕ) (f g : ℕ → Bool) → ((i : ℕ) → i < n → f i ≡ g i) → countOf n f ≡ countOf n g
-unfolding countOf
-countOf-ext zero f g h = refl
-countOf-ext (suc n) f g h = ap₂ (λ (s : ℕ) (b : Bool). s + pick b 1 0) (countOf-ext n f g (λ i l. h i (omega arith))) (h n (omega arith))
+countOf-ext n f g h = total-ext n (λ i. pick (f i) 1 0) (λ i. pick (g i) 1 0) (λ i l. ap {B = ℕ} (λ (b : Bool). pick b 1 0) (h i l))
 
 one-le : (b : Bool) → pick b 1 0 ≤ 1
 one-le true = omega arith
 one-le false = omega arith
 
 pub countOf-le : (n : ℕ) (f : ℕ → Bool) → countOf n f ≤ n
-unfolding countOf
+unfolding total
 countOf-le zero f = omega arith
 countOf-le (suc n) f = omega (arith, countOf-le n f, one-le (f n))
 
@@ -38,26 +71,17 @@ step-mono false false h = omega arith
 
 -- A test that holds wherever another does holds at least as often.
 pub countOf-mono : (n : ℕ) (f g : ℕ → Bool) → ((i : ℕ) → i < n → f i ≡ true → g i ≡ true) → countOf n f ≤ countOf n g
-unfolding countOf
-countOf-mono zero f g h = omega arith
-countOf-mono (suc n) f g h = omega (arith, countOf-mono n f g (λ i l. h i (omega arith)), step-mono (f n) (g n) (h n (omega arith)))
-
-pub countOf-split : (n m : ℕ) (f : ℕ → Bool) → countOf (n + m) f ≡ countOf n f + countOf m (λ i. f (n + i))
-unfolding countOf
-countOf-split n zero f = ap (λ (t : ℕ). countOf t f) (add-zero n) ∙ sym (add-zero (countOf n f))
-countOf-split n (suc m) f =
-    ap (λ (t : ℕ). countOf t f) (add-suc n m)
-    ∙ (ap (λ (t : ℕ). t + pick (f (n + m)) 1 0) (countOf-split n m f) ∙ add-assoc (countOf n f) (countOf m (λ i. f (n + i))) (pick (f (n + m)) 1 0))
+countOf-mono n f g h = total-mono n (λ i. pick (f i) 1 0) (λ i. pick (g i) 1 0) (λ i l. step-mono (f i) (g i) (h i l))
 
 -- A test that holds nowhere below n counts nothing.
 pub countOf-none : (n : ℕ) (f : ℕ → Bool) → ((i : ℕ) → i < n → f i ≡ false) → countOf n f ≡ 0
-unfolding countOf
+unfolding total
 countOf-none zero f h = refl
 countOf-none (suc n) f h = ap₂ (λ (s : ℕ) (b : Bool). s + pick b 1 0) (countOf-none n f (λ i l. h i (omega arith))) (h n (omega arith))
 
 -- A place where the test holds adds one to the count without that place.
 pub countOf-without : (n p : ℕ) (f : ℕ → Bool) → p < n → f p ≡ true → countOf n f ≡ suc (countOf n (λ i. both (f i) (not (eqb i p))))
-unfolding countOf
+unfolding total
 countOf-without zero p f l e = absurd (omega arith)
 countOf-without (suc n) p f l e = at (ℕ-discrete n p) (λ d. countOf-without n p f d e)
   where
@@ -98,7 +122,7 @@ module _ {F : Type 0} (K : Field F) where
 
   -- A sequence that is zero from r on has at most r nonzero terms.
   pub weight-short : (r n : ℕ) (b : ℕ → F) → ((i : ℕ) → r ≤ i → i < n → b i ≡ 𝟘) → weight (K .ops) n b ≤ r
-  unfolding countOf
+  unfolding total
   weight-short r zero b h = omega arith
   weight-short r (suc n) b h = at (decLt n r) (weight-short r n b (λ i l s. h i l (omega arith)))
     where

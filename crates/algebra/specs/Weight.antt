@@ -1,14 +1,18 @@
 -- Weight: how many of the first n terms of a sequence are nonzero. Distance: in how many of the first n places two sequences of numbers differ.
--- Holds: `countOf`, `weight`, `distance`.
+-- Holds: `total`, `countOf`, `weight`, `distance`.
 use mathlib.Core.Bool.{Bool, not}
 use Prim.Native.Nat.{ℕ, zero, suc, _+_}
 use lib.Dec.{eqb}
 use Rattle.algebra.specs.Ops.{Ops, pick}
 
+-- f 0 + .. + f (n - 1), of numbers
+unfoldable pub total : ℕ → (ℕ → ℕ) → ℕ
+total zero f = 0
+total (suc n) f = total n f + f n
+
 -- At how many of 0 .. n - 1 the test holds.
-unfoldable pub countOf : ℕ → (ℕ → Bool) → ℕ
-countOf zero test = 0
-countOf (suc n) test = countOf n test + pick (test n) 1 0
+abbrev pub countOf : ℕ → (ℕ → Bool) → ℕ
+countOf n test = total n (λ i. pick (test i) 1 0)
 
 abbrev pub weight : {F : Type 0} → Ops F → ℕ → (ℕ → F) → ℕ
 weight o n b = countOf n (λ i. not (o .isZero (b i)))
