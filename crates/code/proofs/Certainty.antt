@@ -1,7 +1,7 @@
 -- The certainty of the first differing block, over any field and any n, k, m with (m+1)k ≤ n (demand 3; 000, Theorem 3.4).
 -- Received symbols are of any type R; `cost v a` is what receiving v costs where a was sent, and the only law used is that two different
 -- symbols cost at least 2 together. So a later meaning of cost changes no proof here.
--- Holds: `windowCost`; `sent-difference` (transmissions that agree so far differ by combinations); `first-block-certain`;
+-- Holds: `costTo`; `sent-difference` (transmissions that agree so far differ by combinations); `first-block-certain`;
 -- `agree-through` (near windows 0 .. j determine blocks 0 .. j).
 use mathlib.Core.Path.{_≡_, refl, sym, ap, ap₂, subst, _∙_}
 use mathlib.Core.Logic.{_⊎_, inl, inr}
@@ -25,6 +25,10 @@ use Rattle.code.specs.Transmission.{earlier, sentSymbol}
 use Rattle.code.specs.Level.{combination}
 use Rattle.code.proofs.Blocks.{codeOver}
 use Rattle.code.proofs.LevelCode.{combination-weight}
+
+-- What blocks b .. b+l of a frame, of n symbols each, cost for what was received.
+unfoldable pub costTo : {R F : Type 0} → ℕ → (R → F → ℕ) → (ℕ → ℕ → R) → (ℕ → ℕ → F) → ℕ → ℕ → ℕ
+costTo n cost w a b l = total (suc l) (λ s. total n (λ i. cost (w (b + s) i) (a (b + s) i)))
 
 module _ {F : Type 0} (K : Field F) (α : F) (n k m : ℕ) where
   infixl 60 _⊕_
@@ -106,10 +110,6 @@ module _ {F : Type 0} (K : Field F) (α : F) (n k m : ℕ) where
   distancesTo-total zero = omega arith
   distancesTo-total (suc l) = ap (λ (t : ℕ). t + levelDistance n k (suc l)) (distancesTo-total l)
 
-  -- The cost of the blocks b .. b+l of a frame for what was received.
-  pub costTo : {R : Type 0} → (R → F → ℕ) → (ℕ → ℕ → R) → (ℕ → ℕ → F) → ℕ → ℕ → ℕ
-  costTo cost w a b l = total (suc l) (λ s. total n (λ i. cost (w (b + s) i) (a (b + s) i)))
-
   module _ (order : Order (K .ops) n α) (fits : (m + 1) * k ≤ n) {R : Type 0} (cost : R → F → ℕ)
       (apart : (v : R) (a b : F) → (a ≡ b → ⊥) → 2 ≤ cost v a + cost v b) where
 
@@ -124,10 +124,10 @@ module _ {F : Type 0} (K : Field F) (α : F) (n k m : ℕ) where
     -- Two messages that agree before block b and differ in it: blocks b .. b+l of the two transmissions together cost at least 2 (d_0 + .. + d_l).
     pub costs-apart : (u v : ℕ → ℕ → F) (w : ℕ → ℕ → R) (b l : ℕ) → l ≤ m → ((s r : ℕ) → s < b → r < k → u s r ≡ v s r)
         → (r : ℕ) → r < k → (u b r ≡ v b r → ⊥)
-        → 2 * distancesTo n k l ≤ costTo cost w (sentSymbol c u) b l + costTo cost w (sentSymbol c v) b l
+        → 2 * distancesTo n k l ≤ costTo n cost w (sentSymbol c u) b l + costTo n cost w (sentSymbol c v) b l
     unfolding costTo
     costs-apart u v w b l low agree r inside differ =
-        subst (λ (t : ℕ). t ≤ costTo cost w (sentSymbol c u) b l + costTo cost w (sentSymbol c v) b l)
+        subst (λ (t : ℕ). t ≤ costTo n cost w (sentSymbol c u) b l + costTo n cost w (sentSymbol c v) b l)
           (total-scale (suc l) 2 (levelDistance n k) ∙ ap (λ (t : ℕ). 2 * t) (sym (distancesTo-total l)))
         (subst (λ (t : ℕ). total (suc l) (λ s. 2 * levelDistance n k s) ≤ t)
           (total-add (suc l) (λ s. total n (λ i. cost (w (b + s) i) (sentSymbol c u (b + s) i))) (λ s. total n (λ i. cost (w (b + s) i) (sentSymbol c v (b + s) i))))
@@ -180,7 +180,7 @@ module _ {F : Type 0} (K : Field F) (α : F) (n k m : ℕ) where
 
     -- Blocks b .. b+l of two transmissions that are both near what was received: the messages, if they agree before block b, agree in block b.
     pub block-certain : (u v : ℕ → ℕ → F) (w : ℕ → ℕ → R) (b l : ℕ) → l ≤ m → ((s r : ℕ) → s < b → r < k → u s r ≡ v s r)
-        → costTo cost w (sentSymbol c u) b l + costTo cost w (sentSymbol c v) b l < 2 * distancesTo n k l → (r : ℕ) → r < k → u b r ≡ v b r
+        → costTo n cost w (sentSymbol c u) b l + costTo n cost w (sentSymbol c v) b l < 2 * distancesTo n k l → (r : ℕ) → r < k → u b r ≡ v b r
     block-certain u v w b l low agree near = at (compare (u b) (v b) k)
       where
         at : ((r : ℕ) → r < k → u b r ≡ v b r) ⊎ ((r : ℕ) × (r < k) × (u b r ≡ v b r → ⊥)) → (r : ℕ) → r < k → u b r ≡ v b r
@@ -189,7 +189,7 @@ module _ {F : Type 0} (K : Field F) (α : F) (n k m : ℕ) where
 
     -- Near windows 0 .. j determine the blocks 0 .. j, whatever else was received.
     pub agree-through : (u v : ℕ → ℕ → F) (w : ℕ → ℕ → R) (j : ℕ)
-        → ((b : ℕ) → b < j → costTo cost w (sentSymbol c u) b m + costTo cost w (sentSymbol c v) b m < 2 * distancesTo n k m)
+        → ((b : ℕ) → b < j → costTo n cost w (sentSymbol c u) b m + costTo n cost w (sentSymbol c v) b m < 2 * distancesTo n k m)
         → (b r : ℕ) → b < j → r < k → u b r ≡ v b r
     agree-through u v w zero near b r l s = absurd (omega arith)
     agree-through u v w (suc j) near b r l s = at (decLt b j) (agree-through u v w j (λ i h. near i (omega arith)))

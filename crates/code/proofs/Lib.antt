@@ -2,3 +2,4 @@
 pub mod Blocks
 pub mod LevelCode
 pub mod Certainty
+pub mod Windows
