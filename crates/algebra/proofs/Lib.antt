@@ -2,3 +2,4 @@
 pub mod Laws
 pub mod Order
 pub mod Below
+pub mod Tests

@@ -1,0 +1,9 @@
+-- The laws of the fields, and facts about symbols.
+pub mod Xor
+pub mod Inverse
+pub mod Order
+pub mod Powers
+pub mod Binary
+pub mod Five
+pub mod Eight
+pub mod Laws
