@@ -17,7 +17,7 @@ use Rattle.algebra.proofs.Below.{FieldBelow}
 use Rattle.field.specs.Binary.{timesAlpha, timesBits, binary}
 use Rattle.field.proofs.Xor.{xor-assoc, xor-swap, xor-double}
 use Rattle.field.proofs.Order.{OrderBelow}
-use Rattle.field.proofs.Powers.{Addition, Doubling, Tables, Generated, productOf, field-with, order-with, product-nought, product-one, product-comm, product-distributes-right, product-double, one-below}
+use Rattle.field.proofs.Powers.{Addition, Doubling, Listed, Generated, productOf, field-with, order-with, product-nought, product-one, product-comm, product-distributes-right, product-double, one-below}
 
 pub binary-addition : (w : ℕ) → Addition (2 ^ w) bitXor (λ a. a)
 binary-addition w =
@@ -95,7 +95,7 @@ module _ (w r : ℕ) (low : 2 ^ w ≤ r) (high : r < 2 * 2 ^ w) where
         }
 
   -- With the lists of powers and exponents.
-  module _ (n : ℕ) (powers exponents : List ℕ) (listed : Tables (2 ^ w) n (timesAlpha w r) powers exponents) where
+  module _ (n : ℕ) (powers exponents : List ℕ) (listed : Listed (2 ^ w) n (timesAlpha w r) powers exponents) where
     generated : Generated (2 ^ w) n bitXor (λ a. a) (timesAlpha w r) powers exponents
     generated = record { addition = binary-addition w; doubling = binary-doubling; listed = listed }
 

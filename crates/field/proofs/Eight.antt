@@ -8,7 +8,7 @@ use Rattle.algebra.proofs.Tests.{all}
 use Rattle.field.specs.Binary.{timesAlpha}
 use Rattle.field.specs.Fields.{eight, alpha}
 use Rattle.field.proofs.Order.{OrderBelow}
-use Rattle.field.proofs.Powers.{Tables, tables}
+use Rattle.field.proofs.Powers.{Listed, listed-by-tests}
 use Rattle.field.proofs.Binary.{binary-field, binary-order}
 
 abbrev powers : List ℕ
@@ -17,9 +17,9 @@ powers = 1 ∷ 2 ∷ 4 ∷ 3 ∷ 6 ∷ 7 ∷ 5 ∷ []
 abbrev exponents : List ℕ
 exponents = 0 ∷ 0 ∷ 1 ∷ 3 ∷ 2 ∷ 6 ∷ 4 ∷ 5 ∷ []
 
-listed : Tables 8 7 (timesAlpha 3 11) powers exponents
+listed : Listed 8 7 (timesAlpha 3 11) powers exponents
 unfolding all timesAlpha
-listed = tables 8 7 (timesAlpha 3 11) powers exponents tt tt tt tt tt tt tt tt
+listed = listed-by-tests 8 7 (timesAlpha 3 11) powers exponents tt tt tt tt tt tt tt tt
 
 pub eight-field : FieldBelow 8 eight
 unfolding eight

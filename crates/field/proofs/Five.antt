@@ -10,7 +10,7 @@ use Rattle.algebra.proofs.Tests.{all, same, same-pairs, same-triples}
 use Rattle.field.specs.Modular.{modular}
 use Rattle.field.specs.Fields.{five, alpha}
 use Rattle.field.proofs.Order.{OrderBelow}
-use Rattle.field.proofs.Powers.{Addition, Doubling, Tables, Generated, tables, productOf, field-with, order-with}
+use Rattle.field.proofs.Powers.{Addition, Doubling, Listed, Generated, listed-by-tests, productOf, field-with, order-with}
 
 abbrev sum : ℕ → ℕ → ℕ
 sum a b = (a + b) % 5
@@ -51,9 +51,9 @@ doubling =
       ; double-adds = same-pairs 5 (λ a b. double (sum a b)) (λ a b. sum (double a) (double b)) tt
       }
 
-listed : Tables 5 4 double powers exponents
+listed : Listed 5 4 double powers exponents
 unfolding all
-listed = tables 5 4 double powers exponents tt tt tt tt tt tt tt tt
+listed = listed-by-tests 5 4 double powers exponents tt tt tt tt tt tt tt tt
 
 generated : Generated 5 4 sum negative double powers exponents
 generated = record { addition = addition; doubling = doubling; listed = listed }

@@ -7,3 +7,4 @@ pub mod Binary
 pub mod Five
 pub mod Eight
 pub mod Laws
+pub mod Operations

@@ -1,7 +1,7 @@
 -- A field from the powers of one element α. Given are an addition of the numbers below q, the map "times α" that is additive, the list of the
 -- powers α^0 .. α^(n-1) and the list of the exponents of the nonzero numbers. The product of two nonzero numbers is the power at the sum of
 -- their exponents; it is associative and commutative because exponents add, and distributes because "times α" does, as often as it is applied.
--- Holds: the hypotheses `Addition`, `Doubling`, `Tables` (by computed tests: `tables`) and `Generated`, which joins them; `byPowers`, the
+-- Holds: the hypotheses `Addition`, `Doubling`, `Listed` (by computed tests: `listed`) and `Generated`, which joins them; `byPowers`, the
 -- operations; `field-by-powers`, their laws; `field-with`, the same for operations whose product agrees; `order-with`, the order of α.
 use mathlib.Core.Path.{_≡_, refl, sym, ap, ap₂, _∙_, subst, subst₂}
 use mathlib.Core.Bool.{Bool, true, false}
@@ -40,7 +40,7 @@ abbrev pub at : List ℕ → ℕ → ℕ
 at l i = getD l i 0
 
 -- The n powers of α, each α times the one before and the first again after the last, and the exponents of the numbers below q but 0.
-pub record Tables (q n : ℕ) (double : ℕ → ℕ) (powers exponents : List ℕ) : Type 0 where
+pub record Listed (q n : ℕ) (double : ℕ → ℕ) (powers exponents : List ℕ) : Type 0 where
   pub several : 1 < n
   pub first : at powers 0 ≡ 1
   pub next : (i : ℕ) → i < n → double (at powers i) ≡ at powers (suc i % n)
@@ -50,7 +50,7 @@ pub record Tables (q n : ℕ) (double : ℕ → ℕ) (powers exponents : List �
   pub exponent-below : (a : ℕ) → a < q → at exponents a < n
   pub power-of-exponent : (a : ℕ) → a < q → (a ≡ 0 → ⊥) → at powers (at exponents a) ≡ a
 
-pub tables : (q n : ℕ) (double : ℕ → ℕ) (powers exponents : List ℕ)
+pub listed-by-tests : (q n : ℕ) (double : ℕ → ℕ) (powers exponents : List ℕ)
     → T (ltb 1 n)
     → T (eqb (at powers 0) 1)
     → T (all n (λ i. eqb (double (at powers i)) (at powers (suc i % n))))
@@ -59,8 +59,8 @@ pub tables : (q n : ℕ) (double : ℕ → ℕ) (powers exponents : List ℕ)
     → T (all n (λ i. eqb (at exponents (at powers i)) i))
     → T (all q (λ a. ltb (at exponents a) n))
     → T (all q (λ a. eqb (pick (eqb a 0) 0 (at powers (at exponents a))) a))
-    → Tables q n double powers exponents
-tables q n double powers exponents t₁ t₂ t₃ t₄ t₅ t₆ t₇ t₈ =
+    → Listed q n double powers exponents
+listed-by-tests q n double powers exponents t₁ t₂ t₃ t₄ t₅ t₆ t₇ t₈ =
     record
       { several = ltb→lt 1 n t₁
       ; first = eqb→eq (at powers 0) 1 t₂
@@ -77,7 +77,7 @@ tables q n double powers exponents t₁ t₂ t₃ t₄ t₅ t₆ t₇ t₈ =
 pub record Generated (q n : ℕ) (add : ℕ → ℕ → ℕ) (neg double : ℕ → ℕ) (powers exponents : List ℕ) : Type 0 where
   pub addition : Addition q add neg
   pub doubling : Doubling q add double
-  pub listed : Tables q n double powers exponents
+  pub listed : Listed q n double powers exponents
 
 -- α^i × a
 unfoldable pub doublings : (ℕ → ℕ) → ℕ → ℕ → ℕ
@@ -96,7 +96,7 @@ data Element (double : ℕ → ℕ) : ℕ → Type 0 where
 module _ {q n : ℕ} {add : ℕ → ℕ → ℕ} {neg double : ℕ → ℕ} {powers exponents : List ℕ} (G : Generated q n add neg double powers exponents) where
   open Addition (G .addition) using (add-below, neg-below, plus-assoc, plus-comm, plus-zero, plus-neg)
   open Doubling (G .doubling) using (double-below, double-zero, double-adds)
-  open Tables (G .listed) using (several, first, next, power-nonzero, power-below, exponent-of-power, exponent-below, power-of-exponent)
+  open Listed (G .listed) using (several, first, next, power-nonzero, power-below, exponent-of-power, exponent-below, power-of-exponent)
 
   pub one-below : 1 < q
   one-below = subst (λ (a : ℕ). a < q) first (power-below 0 (omega (arith, several)))
