@@ -1,6 +1,6 @@
 -- The laws of the fields, and facts about symbols.
 pub mod Xor
-pub mod Inverse
+pub mod Numbers
 pub mod Order
 pub mod Powers
 pub mod Binary
@@ -8,3 +8,5 @@ pub mod Five
 pub mod Eight
 pub mod Laws
 pub mod Operations
+pub mod Symbols
+pub mod Polynomials

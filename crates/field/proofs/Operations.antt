@@ -7,9 +7,10 @@ use Prim.Native.Nat.{ℕ, _+_, _-_, _*_, _%_, _<_, _≤_}
 use native.Mathlib.Nat.{mul-le-mul}
 use native.Mathlib.Omega.{arith}
 use lib.Bits.{bitXor}
-use lib.Dec.{T, eqb}
+use lib.Dec.{T, eqb, lit≤}
 use lib.ListN.{getD}
 use Rattle.algebra.proofs.Tests.{all, same-pairs}
+use Rattle.field.specs.Numbers.{inverseBelow}
 use Rattle.field.specs.Modular.{modular}
 use Rattle.field.specs.Binary.{binary}
 use Rattle.field.specs.Fields.{five, eight, opsOf, Good, five-elements, eight-elements}
@@ -44,6 +45,10 @@ neg-same q a eight-elements other = refl
 pub eight-else : (q : ℕ) → Good q → (q ≡ 5 → ⊥) → q ≡ 8
 eight-else q five-elements other = absurd (other refl)
 eight-else q eight-elements other = refl
+
+pub good-small : (q : ℕ) → Good q → q ≤ 256
+good-small q five-elements = lit≤ tt
+good-small q eight-elements = lit≤ tt
 
 symbol : (q r v : ℕ) → r ≡ v → v < q → Is q r v
 symbol q r v e h = record { same = e; below = subst (λ (x : ℕ). x < q) (sym e) h }
@@ -91,6 +96,11 @@ module _ (q a : ℕ) (good : Good q) (ha : a < q) where
 
   pub negative-modulo : q ≡ 5 → (a ≡ 0 → ⊥) → Is q (5 - a) (opsOf q .neg a)
   negative-modulo e z = let rest : 5 - a ≡ (5 - a) % 5 = omega arith in is-negative (5 - a) (rest ∙ sym (neg-modulo q e a))
+
+  -- What the search has still to do is the inverse.
+  pub inverse-start : opsOf q .inv a ≡ inverseBelow (opsOf q .mul) q a
+  unfolding opsOf
+  inverse-start = refl
 
   pub is-inverse : (r : ℕ) → r ≡ opsOf q .inv a → Is q r (opsOf q .inv a)
   is-inverse r e = symbol q r (opsOf q .inv a) e (lawsOf q good .inv-below a ha)

@@ -17,7 +17,7 @@ use Rattle.algebra.specs.Sum.{power}
 use Rattle.algebra.proofs.Below.{FieldBelow}
 use Rattle.algebra.proofs.Tests.{all, all-at, same, within}
 use Rattle.field.specs.Numbers.{inverseBelow, numbers}
-use Rattle.field.proofs.Inverse.{inverse-found, inverse-below}
+use Rattle.field.proofs.Numbers.{inverse-found, inverse-below}
 use Rattle.field.proofs.Order.{OrderBelow}
 
 -- The numbers below q are a commutative group.

@@ -70,3 +70,42 @@ pub fn multiply(q: usize, tables: &Tables, a: u8, b: u8) -> u8
     }
     tables[(a as usize) * 8 + (b as usize)]
 }
+
+// 1 / a, and 0 for a = 0: the number whose product with a is 1, looked for from q - 1 down.
+pub fn inverse(q: usize, tables: &Tables, a: u8) -> u8
+    requires { ⌜ Good q × Lent (now tables) × (a < q) ⌝ }
+    ensures { λ r. ⌜ Is q r (opsOf q .inv a) ⌝ }
+{
+    let mut b = q;
+    while 0 < b {
+        b -= 1;
+        let candidate = b as u8;
+        if multiply(q, tables, a, candidate) == 1 {
+            return candidate;
+        }
+    }
+    0
+}
+
+// a + x × b
+pub fn add_product(q: usize, tables: &Tables, a: u8, x: u8, b: u8) -> u8
+    requires { ⌜ Good q × Lent (now tables) × (a < q) × (x < q) × (b < q) ⌝ }
+    ensures { λ r. ⌜ Is q r (opsOf q .add a (opsOf q .mul x b)) ⌝ }
+{
+    let product = multiply(q, tables, x, b);
+    add(q, a, product)
+}
+
+// The value of the polynomial with the coefficients c, lowest power first, at x: "The value of a polynomial without coefficients is 0;
+// otherwise it is the first coefficient plus the point times the value of the rest."
+pub fn value(q: usize, tables: &Tables, c: &[u8], x: u8) -> u8
+    requires { ⌜ Good q × Lent (now tables) × Symbols q (now c) × (x < q) ⌝ }
+    ensures { λ r. ⌜ Is q r (polynomial.value (opsOf q) (now (c .entry)) x) ⌝ }
+{
+    if c.len() == 0 {
+        return 0;
+    }
+    let first = c[0];
+    let rest = value(q, tables, &c[1..], x);
+    add_product(q, tables, first, x, rest)
+}
