@@ -9,3 +9,4 @@ pub mod Weights
 pub mod Distance
 pub mod Naturality
 pub mod Below
+pub mod Tests

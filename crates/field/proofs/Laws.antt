@@ -1,0 +1,20 @@
+-- The laws of the field with q elements and the order of α in it, for every q in use.
+-- Holds: `lawsOf`, `orderOf`.
+use Prim.Native.Nat.{ℕ, _-_}
+use Rattle.algebra.proofs.Below.{FieldBelow}
+use Rattle.field.specs.Modular.{modular}
+use Rattle.field.specs.Binary.{binary}
+use Rattle.field.specs.Fields.{five, eight, alpha, opsOf, Good, five-elements, eight-elements}
+use Rattle.field.proofs.Order.{OrderBelow}
+use Rattle.field.proofs.Five.{five-field, five-order}
+use Rattle.field.proofs.Eight.{eight-field, eight-order}
+
+pub lawsOf : (q : ℕ) → Good q → FieldBelow q (opsOf q)
+unfolding opsOf five eight modular binary
+lawsOf q five-elements = five-field
+lawsOf q eight-elements = eight-field
+
+pub orderOf : (q : ℕ) → Good q → OrderBelow q (opsOf q) (q - 1) alpha
+unfolding opsOf five eight modular binary
+orderOf q five-elements = five-order
+orderOf q eight-elements = eight-order

@@ -1,0 +1,12 @@
+-- The laws of the fields, and facts about symbols.
+pub mod Xor
+pub mod Numbers
+pub mod Order
+pub mod Powers
+pub mod Binary
+pub mod Five
+pub mod Eight
+pub mod Laws
+pub mod Operations
+pub mod Symbols
+pub mod Polynomials

@@ -1,0 +1,110 @@
+-- What the code returns in each branch is the symbol that the field's operation gives.
+-- Holds: `sum-modulo`, `sum-modulo-less`, `sum-xor`; `negative-modulo`, `negative-of-zero`, `negative-same`; `product-modulo`,
+-- `product-listed`; `lent-by-test`, the table's rule over all pairs by one computed test.
+use mathlib.Core.Path.{_≡_, refl, sym, ap, _∙_, subst}
+use mathlib.Core.List.{List}
+use Prim.Native.Nat.{ℕ, _+_, _-_, _*_, _%_, _<_, _≤_}
+use native.Mathlib.Nat.{mul-le-mul}
+use native.Mathlib.Omega.{arith}
+use lib.Bits.{bitXor}
+use lib.Dec.{T, eqb, lit≤}
+use lib.ListN.{getD}
+use Rattle.algebra.proofs.Tests.{all, same-pairs}
+use Rattle.field.specs.Numbers.{inverseBelow}
+use Rattle.field.specs.Modular.{modular}
+use Rattle.field.specs.Binary.{binary}
+use Rattle.field.specs.Fields.{five, eight, opsOf, Good, five-elements, eight-elements}
+use Rattle.field.specs.Symbols.{Is}
+use Rattle.field.specs.Tables.{Lent}
+use Rattle.field.proofs.Laws.{lawsOf}
+
+-- Five elements; the others.
+module _ (q : ℕ) (e : q ≡ 5) where
+  add-modulo : (a b : ℕ) → opsOf q .add a b ≡ (a + b) % 5
+  unfolding opsOf five modular
+  add-modulo a b = rw e
+
+  neg-modulo : (a : ℕ) → opsOf q .neg a ≡ (5 - a) % 5
+  unfolding opsOf five modular
+  neg-modulo a = rw e
+
+  mul-modulo : (a b : ℕ) → opsOf q .mul a b ≡ a * b % 5
+  unfolding opsOf five modular
+  mul-modulo a b = rw e
+
+add-xor : (q a b : ℕ) → Good q → (q ≡ 5 → ⊥) → opsOf q .add a b ≡ bitXor a b
+unfolding opsOf eight binary
+add-xor q a b five-elements other = absurd (other refl)
+add-xor q a b eight-elements other = refl
+
+neg-same : (q a : ℕ) → Good q → (q ≡ 5 → ⊥) → opsOf q .neg a ≡ a
+unfolding opsOf eight binary
+neg-same q a five-elements other = absurd (other refl)
+neg-same q a eight-elements other = refl
+
+pub eight-else : (q : ℕ) → Good q → (q ≡ 5 → ⊥) → q ≡ 8
+eight-else q five-elements other = absurd (other refl)
+eight-else q eight-elements other = refl
+
+pub good-small : (q : ℕ) → Good q → q ≤ 256
+good-small q five-elements = lit≤ tt
+good-small q eight-elements = lit≤ tt
+
+symbol : (q r v : ℕ) → r ≡ v → v < q → Is q r v
+symbol q r v e h = record { same = e; below = subst (λ (x : ℕ). x < q) (sym e) h }
+
+module _ (q a b : ℕ) (good : Good q) (ha : a < q) (hb : b < q) where
+  is-sum : (r : ℕ) → r ≡ opsOf q .add a b → Is q r (opsOf q .add a b)
+  is-sum r e = symbol q r (opsOf q .add a b) e (lawsOf q good .add-below a b ha hb)
+
+  is-product : (r : ℕ) → r ≡ opsOf q .mul a b → Is q r (opsOf q .mul a b)
+  is-product r e = symbol q r (opsOf q .mul a b) e (lawsOf q good .mul-below a b ha hb)
+
+  pub sum-xor : (q ≡ 5 → ⊥) → Is q (bitXor a b) (opsOf q .add a b)
+  sum-xor other = is-sum (bitXor a b) (sym (add-xor q a b good other))
+
+  pub sum-modulo : q ≡ 5 → a + b < 5 → Is q (a + b) (opsOf q .add a b)
+  sum-modulo e h = let small : a + b ≡ (a + b) % 5 = omega arith in is-sum (a + b) (small ∙ sym (add-modulo q e a b))
+
+  pub sum-modulo-less : q ≡ 5 → 5 ≤ a + b → Is q (a + b - 5) (opsOf q .add a b)
+  sum-modulo-less e h = let less : a + b - 5 ≡ (a + b) % 5 = omega arith in is-sum (a + b - 5) (less ∙ sym (add-modulo q e a b))
+
+  pub product-modulo : q ≡ 5 → Is q (a * b % 5) (opsOf q .mul a b)
+  product-modulo e = is-product (a * b % 5) (sym (mul-modulo q e a b))
+
+  pub product-fits : q ≡ 5 → a * b < 256
+  product-fits e = let x : a ≤ 4 = omega arith in let y : b ≤ 4 = omega arith in omega (arith, mul-le-mul x y)
+
+  pub product-place : (q ≡ 5 → ⊥) → a * 8 + b < 64
+  product-place other = omega (arith, eight-else q good other)
+
+  pub product-listed : (tables : List ℕ) → Lent tables → (q ≡ 5 → ⊥) → Is q (getD tables (a * 8 + b) 0) (opsOf q .mul a b)
+  product-listed tables lent other =
+      let e : q ≡ 8 = eight-else q good other in
+      is-product (getD tables (a * 8 + b) 0)
+      (lent .product a b (omega arith) (omega arith) ∙ ap (λ (k : ℕ). opsOf k .mul a b) (sym e))
+
+module _ (q a : ℕ) (good : Good q) (ha : a < q) where
+  is-negative : (r : ℕ) → r ≡ opsOf q .neg a → Is q r (opsOf q .neg a)
+  is-negative r e = symbol q r (opsOf q .neg a) e (lawsOf q good .neg-below a ha)
+
+  pub negative-same : (q ≡ 5 → ⊥) → Is q a (opsOf q .neg a)
+  negative-same other = is-negative a (sym (neg-same q a good other))
+
+  pub negative-of-zero : q ≡ 5 → a ≡ 0 → Is q 0 (opsOf q .neg a)
+  negative-of-zero e z = let none : 0 ≡ (5 - a) % 5 = omega arith in is-negative 0 (none ∙ sym (neg-modulo q e a))
+
+  pub negative-modulo : q ≡ 5 → (a ≡ 0 → ⊥) → Is q (5 - a) (opsOf q .neg a)
+  negative-modulo e z = let rest : 5 - a ≡ (5 - a) % 5 = omega arith in is-negative (5 - a) (rest ∙ sym (neg-modulo q e a))
+
+  -- What the search has still to do is the inverse.
+  pub inverse-start : opsOf q .inv a ≡ inverseBelow (opsOf q .mul) q a
+  unfolding opsOf
+  inverse-start = refl
+
+  pub is-inverse : (r : ℕ) → r ≡ opsOf q .inv a → Is q r (opsOf q .inv a)
+  is-inverse r e = symbol q r (opsOf q .inv a) e (lawsOf q good .inv-below a ha)
+
+-- The table's rule over all pairs, by one computed test.
+pub lent-by-test : (tables : List ℕ) → T (all 8 (λ a. all 8 (λ b. eqb (getD tables (a * 8 + b) 0) (opsOf 8 .mul a b)))) → Lent tables
+lent-by-test tables t = record { product = same-pairs 8 (λ a b. getD tables (a * 8 + b) 0) (opsOf 8 .mul) t }

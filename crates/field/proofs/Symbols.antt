@@ -1,0 +1,91 @@
+-- Lists of symbols: parts, joins and stores keep every element below q.
+-- Holds: `symbol-at` (an element at any index, 0 past the end), `symbols-take`, `symbols-drop`, `symbols-part`, `symbols-append`,
+-- `symbols-none`, `symbols-more`, `symbols-set`, `symbols-zeros`.
+use mathlib.Core.Path.{_≡_, refl, sym, ap, _∙_, subst}
+use mathlib.Core.Bool.{Bool, true, false}
+use mathlib.Core.List.{List, [], _∷_, _++_}
+use Prim.Native.Nat.{ℕ, zero, suc, _+_, _-_, _<_, _≤_, min}
+use native.Mathlib.Nat.{le-of-suc-le-suc, not-suc-le-zero}
+use native.Mathlib.Omega.{arith}
+use lib.Dec.{eqb, ltb}
+use lib.ListN.{length, getD, take, drop, set, replicate, length-append, length-take, length-drop, length-set, length-replicate, getD-replicate, List·getD-eq-default, List·getD-append}
+use lib.Seq.{getD-take, getD-drop, getD-append-add, getD-set-same, getD-set-other}
+use borrow.Author.Tests.{ltb-true, ltb-false, eqb-true, eqb-false}
+use Rattle.field.specs.Symbols.{Symbols}
+
+module _ (q : ℕ) where
+  below-of : {a b : ℕ} → a ≡ b → b < q → a < q
+  below-of e h = subst (λ (x : ℕ). x < q) (sym e) h
+
+  pub symbol-at : (l : List ℕ) → 0 < q → Symbols q l → (i : ℕ) → getD l i 0 < q
+  symbol-at l positive s i = decide (ltb i (length l)) refl
+    where
+      decide : (t : Bool) → ltb i (length l) ≡ t → getD l i 0 < q
+      decide true e = s .below i (ltb-true i (length l) e)
+      decide false e = below-of (List·getD-eq-default l 0 (ltb-false i (length l) e)) positive
+
+  pub symbols-take : (k : ℕ) (l : List ℕ) → Symbols q l → Symbols q (take k l)
+  symbols-take k l s = record { below = at }
+    where
+      at : (i : ℕ) → i < length (take k l) → getD (take k l) i 0 < q
+      at i h =
+          let within : i < min k (length l) = subst (λ (n : ℕ). i < n) (length-take k l) h in
+          below-of (getD-take k l i 0 (omega arith)) (s .below i (omega arith))
+
+  pub symbols-drop : (k : ℕ) (l : List ℕ) → Symbols q l → Symbols q (drop k l)
+  symbols-drop k l s = record { below = at }
+    where
+      at : (i : ℕ) → i < length (drop k l) → getD (drop k l) i 0 < q
+      at i h =
+          let within : i < length l - k = subst (λ (n : ℕ). i < n) (length-drop k l) h in
+          below-of (getD-drop k l i 0) (s .below (k + i) (omega arith))
+
+  -- The part from a up to e, as code makes it.
+  pub symbols-part : (a e : ℕ) (l : List ℕ) → Symbols q l → Symbols q (take (e - a) (drop a l))
+  symbols-part a e l s = symbols-take (e - a) (drop a l) (symbols-drop a l s)
+
+  pub symbols-append : (l r : List ℕ) → Symbols q l → Symbols q r → Symbols q (l ++ r)
+  symbols-append l r s t = record { below = at }
+    where
+      at : (i : ℕ) → i < length (l ++ r) → getD (l ++ r) i 0 < q
+      at i h = decide (ltb i (length l)) refl
+        where
+          total : i < length l + length r
+          total = subst (λ (n : ℕ). i < n) (length-append l r) h
+          decide : (b : Bool) → ltb i (length l) ≡ b → getD (l ++ r) i 0 < q
+          decide true e = let left : i < length l = ltb-true i (length l) e in below-of (List·getD-append l r 0 i left) (s .below i left)
+          decide false e =
+              let right : length l ≤ i = ltb-false i (length l) e in
+              let place : i ≡ length l + (i - length l) = omega arith in
+              below-of (ap (λ (k : ℕ). getD (l ++ r) k 0) place ∙ getD-append-add l r (i - length l) 0)
+              (t .below (i - length l) (omega (arith, total)))
+
+  pub symbols-none : Symbols q []
+  symbols-none = record { below = λ i h. absurd (not-suc-le-zero h) }
+
+  pub symbols-more : (a : ℕ) (l : List ℕ) → a < q → Symbols q l → Symbols q (a ∷ l)
+  symbols-more a l h s = record { below = at }
+    where
+      at : (i : ℕ) → i < length (a ∷ l) → getD (a ∷ l) i 0 < q
+      at zero g = h
+      at (suc i) g = s .below i (le-of-suc-le-suc g)
+
+  pub symbols-set : (l : List ℕ) (j a : ℕ) → a < q → Symbols q l → Symbols q (set l j a)
+  symbols-set l j a h s = record { below = at }
+    where
+      at : (i : ℕ) → i < length (set l j a) → getD (set l j a) i 0 < q
+      at i g = decide (eqb i j) refl
+        where
+          within : i < length l
+          within = subst (λ (n : ℕ). i < n) (length-set l j a) g
+          decide : (b : Bool) → eqb i j ≡ b → getD (set l j a) i 0 < q
+          decide true e =
+              let same : i ≡ j = eqb-true i j e in
+              below-of (ap (λ (k : ℕ). getD (set l j a) k 0) same ∙ getD-set-same l j a 0 (subst (λ (k : ℕ). k < length l) same within)) h
+          decide false e = below-of (getD-set-other l j i a 0 (eqb-false i j e)) (s .below i within)
+
+  pub symbols-zeros : (n : ℕ) → 0 < q → Symbols q (replicate n 0)
+  symbols-zeros n positive = record { below = at }
+    where
+      at : (i : ℕ) → i < length (replicate {A = ℕ} n 0) → getD (replicate n 0) i 0 < q
+      at i h = below-of (getD-replicate n i 0 0 (subst (λ (k : ℕ). i < k) (length-replicate n 0) h)) positive

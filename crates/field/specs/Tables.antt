@@ -1,0 +1,12 @@
+-- What functions that multiply require of the table that is lent to them (01: "The products of the eight-element field stand as a table
+-- of sixty-four entries"). Callers only pass it on: what it says of the table concerns this crate alone.
+-- Holds: `Lent`.
+use mathlib.Core.Path.{_≡_}
+use mathlib.Core.List.{List}
+use Prim.Native.Nat.{ℕ, _+_, _*_, _<_}
+use lib.ListN.{getD}
+use Rattle.field.specs.Fields.{opsOf}
+
+-- The table holds the product of a and b at 8 a + b.
+pub record Lent (tables : List ℕ) : Type 0 where
+  pub product : (a b : ℕ) → a < 8 → b < 8 → getD tables (a * 8 + b) 0 ≡ opsOf 8 .mul a b

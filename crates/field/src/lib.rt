@@ -1,0 +1,111 @@
+// The fields of 01 with q elements, q chosen at run time: five or eight. A symbol is a `u8` below q.
+// Products of the eight-element field are read from a table that the outermost call makes once and lends down.
+ghost use mathlib.Core.Path.{_≡_};
+ghost use Prim.Native.Nat.{_<_};
+ghost use Rattle.algebra.specs.Ops.{sub};
+ghost use Rattle.algebra.specs.Polynomial as polynomial;
+ghost use Rattle.field.specs.Fields.{Good, opsOf};
+ghost use Rattle.field.specs.Symbols.{Symbols, Is};
+ghost use Rattle.field.specs.Tables.{Lent};
+
+pub type Tables = [u8; 64];
+
+// "The products of the eight-element field stand as a table of sixty-four entries": a × b at 8 a + b.
+const PRODUCTS: Tables = [
+    0, 0, 0, 0, 0, 0, 0, 0,
+    0, 1, 2, 3, 4, 5, 6, 7,
+    0, 2, 4, 6, 3, 1, 7, 5,
+    0, 3, 6, 5, 7, 4, 1, 2,
+    0, 4, 3, 7, 6, 2, 5, 1,
+    0, 5, 1, 4, 2, 7, 3, 6,
+    0, 6, 7, 1, 5, 3, 2, 4,
+    0, 7, 5, 2, 1, 6, 4, 3,
+];
+
+pub fn tables() -> Tables
+    ensures { λ r. ⌜ Lent r ⌝ }
+{
+    PRODUCTS
+}
+
+// a + b
+pub fn add(q: usize, a: u8, b: u8) -> u8
+    requires { ⌜ Good q × (a < q) × (b < q) ⌝ }
+    ensures { λ r. ⌜ Is q r (opsOf q .add a b) ⌝ }
+{
+    if q != 5 {
+        return a ^ b;
+    }
+    let sum = a + b;
+    if sum < 5 { sum } else { sum - 5 }
+}
+
+// -a
+pub fn negate(q: usize, a: u8) -> u8
+    requires { ⌜ Good q × (a < q) ⌝ }
+    ensures { λ r. ⌜ Is q r (opsOf q .neg a) ⌝ }
+{
+    if q != 5 {
+        return a;
+    }
+    if a == 0 { 0 } else { 5 - a }
+}
+
+// a - b
+pub fn subtract(q: usize, a: u8, b: u8) -> u8
+    requires { ⌜ Good q × (a < q) × (b < q) ⌝ }
+    ensures { λ r. ⌜ Is q r (sub (opsOf q) a b) ⌝ }
+{
+    let negative = negate(q, b);
+    add(q, a, negative)
+}
+
+// a × b
+pub fn multiply(q: usize, tables: &Tables, a: u8, b: u8) -> u8
+    requires { ⌜ Good q × Lent (now tables) × (a < q) × (b < q) ⌝ }
+    ensures { λ r. ⌜ Is q r (opsOf q .mul a b) ⌝ }
+{
+    if q == 5 {
+        return a * b % 5;
+    }
+    tables[(a as usize) * 8 + (b as usize)]
+}
+
+// 1 / a, and 0 for a = 0: the number whose product with a is 1, looked for from q - 1 down.
+pub fn inverse(q: usize, tables: &Tables, a: u8) -> u8
+    requires { ⌜ Good q × Lent (now tables) × (a < q) ⌝ }
+    ensures { λ r. ⌜ Is q r (opsOf q .inv a) ⌝ }
+{
+    let mut b = q;
+    while 0 < b {
+        b -= 1;
+        let candidate = b as u8;
+        if multiply(q, tables, a, candidate) == 1 {
+            return candidate;
+        }
+    }
+    0
+}
+
+// a + x × b
+pub fn add_product(q: usize, tables: &Tables, a: u8, x: u8, b: u8) -> u8
+    requires { ⌜ Good q × Lent (now tables) × (a < q) × (x < q) × (b < q) ⌝ }
+    ensures { λ r. ⌜ Is q r (opsOf q .add a (opsOf q .mul x b)) ⌝ }
+{
+    let product = multiply(q, tables, x, b);
+    add(q, a, product)
+}
+
+// The value of the polynomial with the coefficients c, lowest power first, at x: "The value of a polynomial without coefficients is 0;
+// otherwise it is the first coefficient plus the point times the value of the rest."
+pub fn value(q: usize, tables: &Tables, c: &[u8], x: u8) -> u8
+    requires { ⌜ Good q × Lent (now tables) × Symbols q (now c) × (x < q) ⌝ }
+    ensures { λ r. ⌜ Is q r (polynomial.value (opsOf q) (now (c .entry)) x) ⌝ }
+{
+    if c.len() == 0 {
+        return 0;
+    }
+    let first = c[0];
+    let rest = value(q, tables, &c[1..], x);
+    add_product(q, tables, first, x, rest)
+}
