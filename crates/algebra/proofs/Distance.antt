@@ -12,7 +12,7 @@ use native.Mathlib.Decide.{decLt}
 use lib.Dec.{eqb, ltb, T}
 use lib.ListN.{length, getD}
 use borrow.Author.Tests.{eq-eqb, ne-eqb, lt-ltb, le-ltb}
-use Rattle.algebra.specs.Ops.{Ops, sub, pick}
+use Rattle.algebra.specs.Ops.{Ops, sub, pick, both}
 use Rattle.algebra.specs.Sum.{sum, power}
 use Rattle.algebra.specs.Polynomial.{value, valueOf, fromRoots}
 use Rattle.algebra.specs.Weight.{total, countOf, weight}
@@ -22,7 +22,7 @@ use Rattle.algebra.proofs.Sums.{sum-zeros, sum-single}
 use Rattle.algebra.proofs.Powers.{power-add, power-nonzero, root-nonzero}
 use Rattle.algebra.proofs.Polynomials.{valueOf-ext, valueOf-short, valueOf-sub, valueOf-twist, In, here, there, value-at-root, value-off-roots, length-fromRoots}
 use Rattle.algebra.proofs.Pairing.{pairing}
-use Rattle.algebra.proofs.Weights.{both, countOf-ext, countOf-le, countOf-without, weight-short, zero-test, nonzero-test}
+use Rattle.algebra.proofs.Weights.{countOf-ext, countOf-le, countOf-without, weight-short, zero-test, nonzero-test}
 
 -- The powers of α at the places below n where the test holds.
 pub powersWhere : {F : Type 0} → Ops F → F → (ℕ → Bool) → ℕ → List F

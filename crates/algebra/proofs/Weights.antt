@@ -9,7 +9,7 @@ use native.Mathlib.Omega.{arith}
 use native.Mathlib.Decide.{ℕ-discrete, decLt}
 use lib.Dec.{eqb, ltb, T}
 use borrow.Author.Tests.{eq-eqb, ne-eqb}
-use Rattle.algebra.specs.Ops.{Ops, pick}
+use Rattle.algebra.specs.Ops.{Ops, pick, both}
 use Rattle.algebra.specs.Weight.{total, countOf, weight}
 use Rattle.algebra.proofs.Laws.{Field, Tested, is-zero, non-zero}
 
@@ -46,10 +46,6 @@ unfolding total
 total-blocks zero n f = ap (λ (t : ℕ). total t f) (zero-mul n)
 total-blocks (suc m) n f =
     ap (λ (t : ℕ). total t f) (suc-mul m n) ∙ (total-split (m * n) n f ∙ ap (λ (t : ℕ). t + total n (λ i. f (m * n + i))) (total-blocks m n f))
-
-abbrev pub both : Bool → Bool → Bool
-both true b = b
-both false b = false
 
 pub countOf-ext : (n : ℕ) (f g : ℕ → Bool) → ((i : ℕ) → i < n → f i ≡ g i) → countOf n f ≡ countOf n g
 countOf-ext n f g h = total-ext n (λ i. pick (f i) 1 0) (λ i. pick (g i) 1 0) (λ i l. ap {B = ℕ} (λ (b : Bool). pick b 1 0) (h i l))

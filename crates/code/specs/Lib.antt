@@ -1,5 +1,7 @@
--- The code in 01's order and words: the generator, the transmission, windows and fits, the level codes.
+-- The code in 01's order and words: the generator, the transmission, the level codes, the settings, windows and fits.
 pub mod Code
 pub mod Generator
 pub mod Transmission
 pub mod Level
+pub mod Settings
+pub mod Windows

@@ -1,0 +1,41 @@
+-- The three settings (01, "Two fields and three settings"), chosen by number, and the code of each.
+-- Holds: `settings`, `isSetting`, `settingOf`, `codeOf`; 01's table of distances, computed.
+use mathlib.Core.Path.{_≡_, refl}
+use mathlib.Core.Bool.{Bool}
+use mathlib.Core.List.{List, [], _∷_, _++_, map}
+use Prim.Native.Nat.{ℕ, suc, _+_, _-_}
+use lib.Dec.{leb}
+use lib.ListN.{length, getD}
+use Rattle.algebra.specs.Ops.{both}
+use Rattle.field.specs.Fields.{opsOf, alpha}
+use Rattle.code.specs.declared.Setting.{Setting}
+use Rattle.code.specs.Code.{Code, levelDistance, distancesTo, designDistance, limit}
+use Rattle.code.specs.Transmission.{tabulate}
+
+-- "A block has n = q - 1 symbols. An information block has k. The memory is m."
+abbrev pub setting : ℕ → ℕ → ℕ → Setting
+setting q k m = record { q = q; n = q - 1; k = k; m = m }
+
+-- Settings 1, 2 and 3.
+abbrev pub settings : List Setting
+settings = setting 5 1 2 ∷ setting 8 2 2 ∷ setting 8 3 1 ∷ []
+
+-- Question 1: is it the number of a setting?
+abbrev pub isSetting : ℕ → Bool
+isSetting s = both (leb 1 s) (leb s (length settings))
+
+abbrev pub settingOf : ℕ → Setting
+settingOf s = getD settings (s - 1) (setting 0 0 0)
+
+-- The code of a setting, over the field with q elements.
+abbrev pub codeOf : Setting → Code ℕ
+codeOf p = record { ops = opsOf (p .q); α = alpha; n = p .n; k = p .k; m = p .m }
+
+-- d_0, .., d_m, d and t.
+abbrev pub distancesOf : Setting → List ℕ
+distancesOf p = tabulate (p .m + 1) (levelDistance (p .n) (p .k)) ++ designDistance (p .n) (p .k) (p .m) ∷ limit (p .n) (p .k) (p .m) ∷ []
+
+-- 01's table.
+pub table-of-distances : map distancesOf settings ≡ (4 ∷ 3 ∷ 2 ∷ 8 ∷ 4 ∷ []) ∷ (6 ∷ 4 ∷ 2 ∷ 11 ∷ 5 ∷ []) ∷ (5 ∷ 2 ∷ 6 ∷ 3 ∷ []) ∷ []
+unfolding distancesTo tabulate
+table-of-distances = refl
