@@ -4,3 +4,8 @@ pub mod LevelCode
 pub mod Certainty
 pub mod Windows
 pub mod Naturality
+pub mod Lists
+pub mod Settings
+pub mod Numbers
+pub mod Messages
+pub mod Demand3

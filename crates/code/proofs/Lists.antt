@@ -1,0 +1,57 @@
+-- Lists as blocks: tabulated lists, symbols of a list, equal parts.
+-- Holds: `length-tabulate`, `getD-tabulate`, `tabulate-ext`, `symbol-below`, `view-part`, `equal-part`, `part-equal`.
+use mathlib.Core.Path.{_≡_, refl, sym, ap, subst, _∙_}
+use mathlib.Core.List.{List, [], _∷_}
+use Prim.Native.Nat.{ℕ, zero, suc, _+_, _-_, _*_, _/_, _%_, _≤_, _<_}
+use native.Mathlib.Omega.{arith}
+use native.Mathlib.Decide.{decLt}
+use lib.Arith.{digits-div, digits-mod, digits-lt}
+use lib.ListN.{length, getD, take, drop, length-take, length-drop, List·getD-eq-default}
+use lib.Seq.{ext-getD, getD-take, getD-drop}
+use Rattle.field.specs.Symbols.{Symbols}
+use Rattle.code.specs.Transmission.{view, tabulate}
+
+pub length-tabulate : {A : Type 0} (n : ℕ) (f : ℕ → A) → length (tabulate n f) ≡ n
+unfolding tabulate
+length-tabulate zero f = refl
+length-tabulate (suc n) f = ap suc (length-tabulate n (λ i. f (suc i)))
+
+pub getD-tabulate : {A : Type 0} (n : ℕ) (f : ℕ → A) (i : ℕ) (d : A) → i < n → getD (tabulate n f) i d ≡ f i
+unfolding tabulate
+getD-tabulate zero f i d l = absurd (omega arith)
+getD-tabulate (suc n) f zero d l = refl
+getD-tabulate (suc n) f (suc i) d l = getD-tabulate n (λ i. f (suc i)) i d (omega arith)
+
+pub tabulate-ext : {A : Type 0} (n : ℕ) (f g : ℕ → A) → ((i : ℕ) → i < n → f i ≡ g i) → tabulate n f ≡ tabulate n g
+unfolding tabulate
+tabulate-ext zero f g h = refl
+tabulate-ext (suc n) f g h =
+    ap (λ t. t ∷ tabulate n (λ i. f (suc i))) (h 0 (omega arith))
+    ∙ ap (λ t. g 0 ∷ t) (tabulate-ext n (λ i. f (suc i)) (λ i. g (suc i)) (λ i l. h (suc i) (omega arith)))
+
+-- Symbol i of block s of a tabulated frame.
+pub view-tabulate : (blocks w : ℕ) (f : ℕ → ℕ → ℕ) (s i : ℕ) → s < blocks → i < w
+    → view w (tabulate (blocks * w) (λ a. f (a / w) (a % w))) s i ≡ f s i
+view-tabulate blocks w f s i l h =
+    getD-tabulate (blocks * w) (λ a. f (a / w) (a % w)) (s * w + i) 0 (digits-lt l h)
+    ∙ ap (λ (t : ℕ). f t ((s * w + i) % w)) (digits-div s h) ∙ ap (f s) (digits-mod s h)
+
+-- What stands at any place of a list of symbols, and past its end, is below q.
+pub symbol-below : (q : ℕ) (l : List ℕ) → Symbols q l → 0 < q → (i : ℕ) → getD l i 0 < q
+symbol-below q l S h i = at (decLt i (length l))
+  where
+    at : Dec (i < length l) → getD l i 0 < q
+    at (yes s) = S .below i s
+    at (no d) = subst (λ (t : ℕ). t < q) (sym (List·getD-eq-default l 0 (omega arith))) h
+
+-- Lists with equal beginnings have equal symbols there..
+pub equal-part : (a b : List ℕ) (n : ℕ) → take n a ≡ take n b → (i : ℕ) → i < n → getD a i 0 ≡ getD b i 0
+equal-part a b n e i l = sym (getD-take n a i 0 l) ∙ (ap (λ (t : List ℕ). getD t i 0) e ∙ getD-take n b i 0 l)
+
+-- .. and the other way round.
+pub part-equal : (a b : List ℕ) (n : ℕ) → n ≤ length a → n ≤ length b → ((i : ℕ) → i < n → getD a i 0 ≡ getD b i 0) → take n a ≡ take n b
+part-equal a b n la lb h =
+    let long-a : length (take n a) ≡ n = omega (arith, length-take n a) in
+    let long-b : length (take n b) ≡ n = omega (arith, length-take n b) in
+    ext-getD 0 (take n a) (take n b) (long-a ∙ sym long-b)
+    (λ i l. let below : i < n = omega arith in getD-take n a i 0 below ∙ (h i below ∙ sym (getD-take n b i 0 below)))

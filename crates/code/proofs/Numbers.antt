@@ -1,0 +1,152 @@
+-- The bridge for the code: what a setting's definitions give on numbers below q is what the abstract code gives on elements.
+-- Holds: `fieldOf`, `rootOf`, `orderAt`, `overField`, `lifted`; `sent-number`, `combination-number`; `byteCost` and its law; `window-cost`.
+use mathlib.Core.Path.{_≡_, refl, sym, ap, ap₂, subst, fun-ext, _∙_}
+use mathlib.Core.Bool.{Bool, true, false, not}
+use mathlib.Core.List.{List}
+use Prim.Native.Nat.{ℕ, zero, suc, _+_, _-_, _*_, _/_, _%_, _≤_, _<_}
+use native.Mathlib.Nat.{zero-add as nat-zero-add}
+use native.Mathlib.Numerals.{add-one}
+use native.Mathlib.Omega.{arith}
+use lib.Arith.{digits-div}
+use lib.Dec.{eqb}
+use lib.ListN.{length, getD}
+use borrow.Author.Tests.{eqb-true}
+use Rattle.algebra.specs.Ops.{Ops, sub, pick}
+use Rattle.algebra.specs.Weight.{total, distance}
+use Rattle.algebra.proofs.Laws.{Field}
+use Rattle.algebra.proofs.Order.{Order}
+use Rattle.algebra.proofs.Weights.{total-ext, total-scale, total-blocks}
+use Rattle.algebra.proofs.Naturality.{Homomorphism}
+use Rattle.algebra.proofs.Below.{Below, number, element, number-element, number-injective, fieldBelow, number-keeps, orderBelow, FieldBelow}
+use Rattle.field.specs.Fields.{Good, five-elements, eight-elements, opsOf, alpha}
+use Rattle.field.specs.Symbols.{Symbols}
+use Rattle.field.proofs.Laws.{lawsOf, orderOf}
+use Rattle.code.specs.declared.Setting.{Setting}
+use Rattle.code.specs.Code.{Code}
+use Rattle.code.specs.Transmission.{view, sentSymbol, tabulate}
+use Rattle.code.specs.Level.{combination}
+use Rattle.code.specs.Settings.{codeOf}
+use Rattle.code.specs.Windows.{transmission, windowLength, windowDistance, Message}
+use Rattle.code.proofs.Blocks.{codeOver}
+use Rattle.code.proofs.Certainty.{costTo}
+use Rattle.code.proofs.Naturality.{mapped, sentSymbol-natural, combination-natural}
+use Rattle.code.proofs.Lists.{view-tabulate, symbol-below}
+use Rattle.code.proofs.Settings.{Sound}
+
+module _ (p : Setting) (S : Sound p) where
+  pub laws : FieldBelow (p .q) (opsOf (p .q))
+  laws = lawsOf (p .q) (S .good)
+
+  root-below : alpha < p .q
+  root-below = at (S .good)
+    where
+      at : {q : ℕ} → Good q → 2 < q
+      at five-elements = omega arith
+      at eight-elements = omega arith
+
+  pub positive : 0 < p .q
+  positive = omega (arith, laws .one-below)
+
+  -- The field of a setting, its α, and their code.
+  pub fieldOf : Field (Below (p .q))
+  fieldOf = fieldBelow (p .q) (opsOf (p .q)) laws
+
+  pub rootOf : Below (p .q)
+  rootOf = element (p .q) positive alpha
+
+  pub orderAt : Order (fieldOf .ops) (p .n) rootOf
+  unfolding fieldOf rootOf
+  orderAt =
+      subst (λ (n : ℕ). Order (fieldOf .ops) n rootOf) (sym (S .block))
+      (orderBelow (p .q) (opsOf (p .q)) laws (p .q - 1) alpha positive
+      (record { root-below = root-below; distinct = orderOf (p .q) (S .good) .distinct; full = orderOf (p .q) (S .good) .full }))
+
+  abbrev pub overField : Code (Below (p .q))
+  overField = codeOver fieldOf rootOf (p .n) (p .k) (p .m)
+
+  pub keeps : Homomorphism (fieldOf .ops) (opsOf (p .q)) number
+  unfolding fieldOf
+  keeps = number-keeps (p .q) (opsOf (p .q)) laws
+
+  mapped-code : mapped overField (opsOf (p .q)) number ≡ codeOf p
+  unfolding rootOf
+  mapped-code =
+      ap (λ (a : ℕ). record { ops = opsOf (p .q); α = a; n = p .n; k = p .k; m = p .m })
+      (number-element (p .q) positive alpha root-below)
+
+  -- Numbers as elements.
+  pub lifted : (ℕ → ℕ → ℕ) → ℕ → ℕ → Below (p .q)
+  lifted u s r = element (p .q) positive (u s r)
+
+  pub number-lifted : (u : ℕ → ℕ → ℕ) (s r : ℕ) → u s r < p .q → number (lifted u s r) ≡ u s r
+  unfolding lifted
+  number-lifted u s r h = number-element (p .q) positive (u s r) h
+
+  pub lifted-same : (u v : ℕ → ℕ → ℕ) (s r : ℕ) → u s r ≡ v s r → lifted u s r ≡ lifted v s r
+  unfolding lifted
+  lifted-same u v s r e = ap (element (p .q) positive) e
+
+  pub sent-number : (u : ℕ → ℕ → ℕ) → ((s r : ℕ) → u s r < p .q) → (s i : ℕ) → number (sentSymbol overField (lifted u) s i) ≡ sentSymbol (codeOf p) u s i
+  sent-number u below s i =
+      sentSymbol-natural overField (opsOf (p .q)) number keeps (lifted u) s i
+      ∙ ap₂ (λ (c : Code ℕ) (x : ℕ → ℕ → ℕ). sentSymbol c x s i) mapped-code (fun-ext (λ b. fun-ext (λ r. number-lifted u b r (below b r))))
+
+  pub combination-number : (u : ℕ → ℕ → ℕ) → ((s r : ℕ) → u s r < p .q) → (l i : ℕ)
+      → number (combination overField l (lifted u) i) ≡ combination (codeOf p) l u i
+  combination-number u below l i =
+      combination-natural overField (opsOf (p .q)) number keeps l (lifted u) i
+      ∙ ap₂ (λ (c : Code ℕ) (x : ℕ → ℕ → ℕ). combination c l x i) mapped-code (fun-ext (λ b. fun-ext (λ r. number-lifted u b r (below b r))))
+
+  -- What a received byte costs where an element was sent: 2 if they differ.
+  pub byteCost : ℕ → Below (p .q) → ℕ
+  byteCost v a = 2 * pick (not (eqb v (number a))) 1 0
+
+  pub bytes-apart : (v : ℕ) (a b : Below (p .q)) → (a ≡ b → ⊥) → 2 ≤ byteCost v a + byteCost v b
+  unfolding byteCost
+  bytes-apart v a b differ = at (eqb v (number a)) (eqb v (number b)) refl refl
+    where
+      at : (s t : Bool) → eqb v (number a) ≡ s → eqb v (number b) ≡ t → 2 ≤ 2 * pick (not s) 1 0 + 2 * pick (not t) 1 0
+      at true true e f = absurd (differ (number-injective a b (sym (eqb-true v (number a) e) ∙ eqb-true v (number b) f)))
+      at true false e f = omega arith
+      at false t e f = omega arith
+
+  -- Every symbol of a message, and past its end, is below q.
+  pub message-below : (T : ℕ) (x : List ℕ) → Message p T x → (s r : ℕ) → view (p .k) x s r < p .q
+  message-below T x M s r = symbol-below (p .q) x (M .symbols) positive (s * p .k + r)
+
+  -- A message's number of blocks.
+  pub message-blocks : (T : ℕ) (x : List ℕ) → Message p T x → length x / p .k ≡ T
+  message-blocks T x M =
+      let same : T * p .k + 0 ≡ length x = omega (arith, M .long) in
+      let inside : 0 < p .k = omega (arith, S .information) in
+      ap (λ (t : ℕ). t / p .k) (sym same) ∙ digits-div T inside
+
+  -- The transmission's symbols.
+  pub transmission-view : (T : ℕ) (x : List ℕ) → Message p T x → (s i : ℕ) → s < T + p .m → i < p .n
+      → view (p .n) (transmission p x) s i ≡ sentSymbol (codeOf p) (view (p .k) x) s i
+  unfolding transmission
+  transmission-view T x M s i l h =
+      view-tabulate (length x / p .k + p .m) (p .n) (sentSymbol (codeOf p) (view (p .k) x)) s i (subst (λ (t : ℕ). s < t + p .m) (sym (message-blocks T x M)) l) h
+
+  -- Twice the differences in a window are its cost.
+  pub window-cost : (T : ℕ) (w x : List ℕ) → Message p T x → (j : ℕ) → j < T
+      → 2 * windowDistance p w (transmission p x) j ≡ costTo (p .n) byteCost (view (p .n) w) (sentSymbol overField (lifted (view (p .k) x))) j (p .m)
+  unfolding costTo byteCost
+  window-cost T w x M j l =
+      sym (total-scale (windowLength p) 2 differ)
+      ∙ total-blocks (p .m + 1) (p .n) (λ i. 2 * differ i)
+      ∙ ap (λ (t : ℕ). total t (λ s. total (p .n) (λ i. 2 * differ (s * p .n + i)))) (add-one (p .m))
+      ∙ total-ext (suc (p .m)) (λ s. total (p .n) (λ i. 2 * differ (s * p .n + i))) (λ s. total (p .n) (λ i. byteCost (view (p .n) w (j + s) i) (sent (j + s) i)))
+        (λ s h. total-ext (p .n) (λ i. 2 * differ (s * p .n + i)) (λ i. byteCost (view (p .n) w (j + s) i) (sent (j + s) i))
+          (λ i u. symbol s i (omega arith) u))
+    where
+      differ : ℕ → ℕ
+      differ i = pick (not (eqb (getD w (j * p .n + i) 0) (getD (transmission p x) (j * p .n + i) 0))) 1 0
+      sent : ℕ → ℕ → Below (p .q)
+      sent = sentSymbol overField (lifted (view (p .k) x))
+      symbol : (s i : ℕ) → j + s < T + p .m → i < p .n → 2 * differ (s * p .n + i) ≡ byteCost (view (p .n) w (j + s) i) (sent (j + s) i)
+      symbol s i h u =
+          let place : j * p .n + (s * p .n + i) ≡ (j + s) * p .n + i = omega arith in
+          ap (λ (t : ℕ). 2 * pick (not (eqb (getD w t 0) (getD (transmission p x) t 0))) 1 0) place
+          ∙ ap (λ (t : ℕ). 2 * pick (not (eqb (view (p .n) w (j + s) i) t)) 1 0)
+            (transmission-view T x M (j + s) i h u ∙ sym (sent-number (view (p .k) x) (message-below T x M) (j + s) i))

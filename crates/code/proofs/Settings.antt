@@ -1,0 +1,58 @@
+-- What a setting satisfies, in one record, shown for each setting of the list; everything else follows from it.
+-- Holds: `Sound`, `soundOf`.
+use mathlib.Core.Path.{_≡_, refl}
+use mathlib.Core.Bool.{Bool, true, false}
+use mathlib.Core.List.{List, [], _∷_}
+use Prim.Native.Nat.{ℕ, zero, suc, _+_, _-_, _*_, _≤_, _<_}
+use native.Mathlib.Omega.{arith}
+use native.Mathlib.Nat.{not-suc-le-zero, le-of-suc-le-suc}
+use lib.Dec.{T, leb, leb→le}
+use lib.ListN.{length, getD}
+use Rattle.algebra.specs.Ops.{both}
+use Rattle.field.specs.Fields.{Good, five-elements, eight-elements}
+use Rattle.code.specs.declared.Setting.{Setting}
+use Rattle.code.specs.Settings.{setting, settings, isSetting, settingOf}
+
+-- The field is one of ours, a block has one symbol for each of its nonzero elements, information blocks are not empty, and level m has room.
+pub record Sound (p : Setting) : Type 0 where
+  pub good : Good (p .q)
+  pub block : p .n ≡ p .q - 1
+  pub information : 1 ≤ p .k
+  pub room : (p .m + 1) * p .k ≤ p .n
+
+-- The property holds of each setting of a list.
+pub data Each (P : Setting → Type 0) : List Setting → Type 0 where
+  none : Each P []
+  next : {p : Setting} {rest : List Setting} → P p → Each P rest → Each P (p ∷ rest)
+
+pub each-at : {P : Setting → Type 0} {l : List Setting} → Each P l → (i : ℕ) (d : Setting) → i < length l → P (getD l i d)
+each-at none i d h = absurd (not-suc-le-zero h)
+each-at (next p rest) zero d h = p
+each-at (next p rest) (suc i) d h = each-at rest i d (le-of-suc-le-suc h)
+
+both-left : (a b : Bool) → T (both a b) → T a
+both-left true b t = tt
+both-left false b t = t
+
+both-right : (a b : Bool) → T (both a b) → T b
+both-right true b t = t
+both-right false b t = absurd t
+
+-- A setting's number has its place in the list.
+pub setting-place : (s : ℕ) → T (isSetting s) → s - 1 < length settings
+setting-place s t =
+    let low : 1 ≤ s = leb→le 1 s (both-left (leb 1 s) (leb s (length settings)) t) in
+    let high : s ≤ length settings = leb→le s (length settings) (both-right (leb 1 s) (leb s (length settings)) t) in
+    omega arith
+
+sound : (q k m : ℕ) → Good q → 1 ≤ k → (m + 1) * k ≤ q - 1 → Sound (setting q k m)
+sound q k m g i r = record { good = g; block = refl; information = i; room = r }
+
+sounds : Each Sound settings
+sounds =
+    next (sound 5 1 2 five-elements (omega arith) (omega arith))
+    (next (sound 8 2 2 eight-elements (omega arith) (omega arith))
+    (next (sound 8 3 1 eight-elements (omega arith) (omega arith)) none))
+
+pub soundOf : (s : ℕ) → T (isSetting s) → Sound (settingOf s)
+soundOf s t = each-at sounds (s - 1) (setting 0 0 0) (setting-place s t)
