@@ -1,5 +1,5 @@
 -- The bridge for the code: what a setting's definitions give on numbers below q is what the abstract code gives on elements.
--- Holds: `fieldOf`, `rootOf`, `orderAt`, `overField`, `lifted`; `sent-number`, `combination-number`; `byteCost` and its law; `window-cost`.
+-- Holds: `fieldOf`, `rootOf`, `orderAt`, `overField`, `lifted`; `sent-number`, `combination-number`, `rowSymbol-below`; `byteCost` and its law; `window-cost`.
 use mathlib.Core.Path.{_≡_, refl, sym, ap, ap₂, subst, fun-ext, _∙_}
 use mathlib.Core.Bool.{Bool, true, false, not}
 use mathlib.Core.List.{List}
@@ -23,13 +23,14 @@ use Rattle.field.specs.Symbols.{Symbols}
 use Rattle.field.proofs.Laws.{lawsOf, orderOf}
 use Rattle.code.specs.declared.Setting.{Setting}
 use Rattle.code.specs.Code.{Code}
+use Rattle.code.specs.Generator.{rowSymbol}
 use Rattle.code.specs.Transmission.{view, sentSymbol, tabulate}
 use Rattle.code.specs.Level.{combination}
 use Rattle.code.specs.Settings.{codeOf}
 use Rattle.code.specs.Windows.{transmission, windowLength, windowDistance, Message}
 use Rattle.code.proofs.Blocks.{codeOver}
 use Rattle.code.proofs.Certainty.{costTo}
-use Rattle.code.proofs.Naturality.{mapped, sentSymbol-natural, combination-natural}
+use Rattle.code.proofs.Naturality.{mapped, rowSymbol-natural, sentSymbol-natural, combination-natural}
 use Rattle.code.proofs.Lists.{view-tabulate, symbol-below}
 use Rattle.code.proofs.Settings.{Sound}
 
@@ -96,6 +97,13 @@ module _ (p : Setting) (S : Sound p) where
   combination-number u below l i =
       combination-natural overField (opsOf (p .q)) number keeps l (lifted u) i
       ∙ ap₂ (λ (c : Code ℕ) (x : ℕ → ℕ → ℕ). combination c l x i) mapped-code (fun-ext (λ b. fun-ext (λ r. number-lifted u b r (below b r))))
+
+  -- The generator's symbols are below q.
+  pub rowSymbol-below : (j r i : ℕ) → rowSymbol (codeOf p) j r i < p .q
+  rowSymbol-below j r i =
+      subst (λ (t : ℕ). t < p .q)
+      (rowSymbol-natural overField (opsOf (p .q)) number keeps j r i ∙ ap (λ (c : Code ℕ). rowSymbol c j r i) mapped-code)
+      (rowSymbol overField j r i .1)
 
   -- What a received byte costs where an element was sent: 2 if they differ.
   pub byteCost : ℕ → Below (p .q) → ℕ

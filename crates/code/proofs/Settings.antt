@@ -38,12 +38,12 @@ both-right : (a b : Bool) → T (both a b) → T b
 both-right true b t = t
 both-right false b t = absurd t
 
--- A setting's number has its place in the list.
-pub setting-place : (s : ℕ) → T (isSetting s) → s - 1 < length settings
-setting-place s t =
-    let low : 1 ≤ s = leb→le 1 s (both-left (leb 1 s) (leb s (length settings)) t) in
-    let high : s ≤ length settings = leb→le s (length settings) (both-right (leb 1 s) (leb s (length settings)) t) in
-    omega arith
+-- A setting's number is in the list's range.
+pub setting-range : (s : ℕ) → T (isSetting s) → (1 ≤ s) × (s ≤ length settings)
+setting-range s t =
+    ( leb→le 1 s (both-left (leb 1 s) (leb s (length settings)) t)
+    , leb→le s (length settings) (both-right (leb 1 s) (leb s (length settings)) t)
+    )
 
 sound : (q k m : ℕ) → Good q → 1 ≤ k → (m + 1) * k ≤ q - 1 → Sound (setting q k m)
 sound q k m g i r = record { good = g; block = refl; information = i; room = r }
@@ -55,4 +55,4 @@ sounds =
     (next (sound 8 3 1 eight-elements (omega arith) (omega arith)) none))
 
 pub soundOf : (s : ℕ) → T (isSetting s) → Sound (settingOf s)
-soundOf s t = each-at sounds (s - 1) (setting 0 0 0) (setting-place s t)
+soundOf s t = each-at sounds (s - 1) (setting 0 0 0) (omega (arith, setting-range s t))

@@ -1,0 +1,18 @@
+-- `tables::generator_3`: the table is 01's rule, by computation.
+use mathlib.Core.Path.{refl}
+use Rattle.algebra.specs.Sum.{power}
+use Rattle.algebra.specs.Polynomial.{timesRootAfter, fromRoots}
+use Rattle.field.specs.Fields.{opsOf, eight}
+use Rattle.field.specs.Binary.{binary, timesBits, timesAlpha}
+use Rattle.code.specs.Generator.{points, base, rowSymbol}
+use Rattle.code.specs.Transmission.{tabulate}
+use Rattle.tables.specs.Tables.{generatorOf}
+use Rattle.tables.proofs.generator_3.Statement.{statement}
+use Rattle.tables.proofs.generator_3.Tie as tie
+
+returns : tie.Need-returns
+unfolding generatorOf tabulate rowSymbol base points fromRoots timesRootAfter power opsOf eight binary timesBits timesAlpha
+returns c = refl
+
+pub generator-3-spec : {M : Type 1} → statement M
+generator-3-spec = tie.close (tie.spec returns)

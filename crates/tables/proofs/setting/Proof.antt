@@ -1,0 +1,22 @@
+-- `tables::setting` gives 01's table.
+use mathlib.Core.Path.{_≡_, sym, ap}
+use Prim.Native.Nat.{ℕ}
+use native.Mathlib.Omega.{arith}
+use Rattle.code.specs.Settings.{settingOf}
+use Rattle.code.proofs.Settings.{setting-range}
+use Rattle.tables.proofs.setting.Statement.{statement}
+use Rattle.tables.proofs.setting.Tie as tie
+
+returns : tie.Need-returns
+returns c = ap settingOf (sym (c .if1 .taken))
+
+returns-2 : tie.Need-returns-2
+returns-2 c = ap settingOf (sym (c .if2 .taken))
+
+returns-3 : tie.Need-returns-3
+returns-3 c =
+    let third : 3 ≡ c .before .before .args .number = omega (arith, setting-range (c .before .before .args .number) (c .before .before .pre)) in
+    ap settingOf third
+
+pub setting-spec : {M : Type 1} → statement M
+setting-spec = tie.close (tie.spec returns returns-2 returns-3)

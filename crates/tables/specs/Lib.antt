@@ -1,0 +1,2 @@
+-- What the contracts say of the tables.
+pub mod Tables

@@ -1,0 +1,26 @@
+-- The tables of a setting: the generator as 01 keeps it, its rows one after the other, and the matrix that gives information back.
+-- Holds: `generatorOf`, `RowsOf`, `MatrixOf`.
+use mathlib.Core.Path.{_≡_}
+use mathlib.Core.List.{List}
+use Prim.Native.Nat.{ℕ, _+_, _*_, _≤_, _<_}
+use lib.ListN.{getD}
+use Rattle.field.specs.Symbols.{Symbols}
+use Rattle.code.specs.declared.Setting.{Setting}
+use Rattle.code.specs.Generator.{rowSymbol}
+use Rattle.code.specs.Transmission.{view, tabulate}
+use Rattle.code.specs.Level.{Inverses}
+use Rattle.code.specs.Settings.{codeOf}
+
+-- "kept power of z by power of z, row by row, as one nested table"
+unfoldable pub generatorOf : Setting → List (List (List ℕ))
+generatorOf p = tabulate (p .m + 1) (λ j. tabulate (p .k) (λ r. tabulate (p .n) (λ i. rowSymbol (codeOf p) j r i)))
+
+-- Symbol i of row r of G_j stands at ((j k) + r) n + i.
+pub record RowsOf (p : Setting) (rows : List ℕ) : Type 0 where
+  pub at : (j r i : ℕ) → j < p .m + 1 → r < p .k → i < p .n → getD rows ((j * p .k + r) * p .n + i) 0 ≡ rowSymbol (codeOf p) j r i
+  pub symbols : Symbols (p .q) rows
+
+-- The k×k matrix, row by row, that undoes `evaluation`.
+pub record MatrixOf (p : Setting) (matrix : List ℕ) : Type 0 where
+  pub inverses : Inverses (codeOf p) (view (p .k) matrix)
+  pub symbols : Symbols (p .q) matrix
