@@ -1,17 +1,17 @@
 -- Fields with w bits a symbol (`specs/Binary.antt`): exclusive or is a commutative group, "times α" is additive, and the product by the bits
 -- of a factor is the product by exponents. So what is left for such a field is its two lists, and tests over the numbers below 2^w.
 -- Holds: `binary-addition`, `binary-doubling`, `product-by-bits`; from the two lists `binary-field` and `binary-order`.
-use mathlib.Core.Path.{_≡_, refl, sym, ap, ap₂, _∙_, subst}
+use mathlib.Core.Path.{_≡_, refl, sym, ap, ap₂, _∙_}
 use mathlib.Core.Bool.{Bool, true, false}
 use mathlib.Core.List.{List}
-use Prim.Native.Nat.{ℕ, zero, suc, _+_, _*_, _/_, _%_, _^_, _<_, _≤_}
-use native.Mathlib.Nat.{div-add-mod', mod-lt, add-zero, zero-mul, one-mul, not-suc-le-zero, le-of-suc-le-suc, div-eq-of-lt, div-eq-of-lt-le, div-lt-iff-lt-mul, pow-suc, lt-of-lt-of-le, le-refl}
+use Prim.Native.Nat.{ℕ, zero, suc, _*_, _/_, _%_, _^_, _<_, _≤_}
+use native.Mathlib.Nat.{div-add-mod', mod-lt, zero-mul, one-mul, not-suc-le-zero, le-of-suc-le-suc, div-eq-of-lt, div-eq-of-lt-le, div-lt-iff-lt-mul, pow-suc, lt-of-lt-of-le, le-refl}
 use native.Mathlib.Omega.{arith}
 use lib.Arith.{lt-one}
 use lib.Pow.{pow-pos, pow-mono}
 use lib.Bits.{bitXor, xor-lt, xor-comm, xor-zero-r, xor-self, xor-shr, xor-shifted}
 use lib.Dec.{eqb, ltb, lit<}
-use borrow.Author.Tests.{ltb-true, ltb-false, lt-ltb, le-ltb}
+use borrow.Author.Tests.{ltb-true, ltb-false, lt-ltb}
 use Rattle.algebra.specs.Ops.{pick}
 use Rattle.algebra.proofs.Below.{FieldBelow}
 use Rattle.field.specs.Binary.{timesAlpha, timesBits, binary}
@@ -21,14 +21,14 @@ use Rattle.field.proofs.Powers.{Addition, Doubling, Listed, Generated, 
 
 pub binary-addition : (w : ℕ) → Addition (2 ^ w) bitXor (λ a. a)
 binary-addition w =
-    record
-      { add-below = xor-lt w
-      ; neg-below = λ a h. h
-      ; plus-assoc = λ a b c ha hb hc. xor-assoc a b c
-      ; plus-comm = λ a b ha hb. xor-comm a b
-      ; plus-zero = λ a h. xor-zero-r a
-      ; plus-neg = λ a h. xor-self a
-      }
+    record {
+      add-below = xor-lt w;
+      neg-below = λ a h. h;
+      plus-assoc = λ a b c ha hb hc. xor-assoc a b c;
+      plus-comm = λ a b ha hb. xor-comm a b;
+      plus-zero = λ a h. xor-zero-r a;
+      plus-neg = λ a h. xor-self a;
+    }
 
 -- Two bits, each times r.
 scaled-bits : (c d r : ℕ) → c < 2 → d < 2 → bitXor c d * r ≡ bitXor (c * r) (d * r)
@@ -88,11 +88,11 @@ module _ (w r : ℕ) (low : 2 ^ w ≤ r) (high : r < 2 * 2 ^ w) where
 
   pub binary-doubling : Doubling (2 ^ w) bitXor (timesAlpha w r)
   binary-doubling =
-      record
-        { double-below = times-alpha-below
-        ; double-zero = times-alpha 0 (pow-pos w) ∙ ap (λ (c : ℕ). bitXor 0 (c * r)) (no-carry 0 (pow-pos w)) ∙ zero-mul r
-        ; double-adds = times-alpha-adds
-        }
+      record {
+        double-below = times-alpha-below;
+        double-zero = times-alpha 0 (pow-pos w) ∙ ap (λ (c : ℕ). bitXor 0 (c * r)) (no-carry 0 (pow-pos w)) ∙ zero-mul r;
+        double-adds = times-alpha-adds;
+      }
 
   -- With the lists of powers and exponents.
   module _ (n : ℕ) (powers exponents : List ℕ) (listed : Listed (2 ^ w) n (timesAlpha w r) powers exponents) where

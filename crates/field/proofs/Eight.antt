@@ -6,7 +6,7 @@ use lib.Dec.{lit<, lit≤}
 use Rattle.algebra.proofs.Below.{FieldBelow}
 use Rattle.algebra.proofs.Tests.{all}
 use Rattle.field.specs.Binary.{timesAlpha}
-use Rattle.field.specs.Fields.{eight, alpha}
+use Rattle.field.specs.Fields.{eight, eightPolynomial, alpha}
 use Rattle.field.proofs.Order.{OrderBelow}
 use Rattle.field.proofs.Powers.{Listed, listed-by-tests}
 use Rattle.field.proofs.Binary.{binary-field, binary-order}
@@ -17,14 +17,14 @@ powers = 1 ∷ 2 ∷ 4 ∷ 3 ∷ 6 ∷ 7 ∷ 5 ∷ []
 abbrev exponents : List ℕ
 exponents = 0 ∷ 0 ∷ 1 ∷ 3 ∷ 2 ∷ 6 ∷ 4 ∷ 5 ∷ []
 
-listed : Listed 8 7 (timesAlpha 3 11) powers exponents
+listed : Listed 8 7 (timesAlpha 3 eightPolynomial) powers exponents
 unfolding all timesAlpha
-listed = listed-by-tests 8 7 (timesAlpha 3 11) powers exponents tt tt tt tt tt tt tt tt
+listed = listed-by-tests 8 7 (timesAlpha 3 eightPolynomial) powers exponents tt tt tt tt tt tt tt tt
 
 pub eight-field : FieldBelow 8 eight
 unfolding eight
-eight-field = binary-field 3 11 (lit≤ tt) (lit< tt) 7 powers exponents listed
+eight-field = binary-field 3 eightPolynomial (lit≤ tt) (lit< tt) 7 powers exponents listed
 
 pub eight-order : OrderBelow 8 eight 7 alpha
 unfolding eight timesAlpha
-eight-order = binary-order 3 11 (lit≤ tt) (lit< tt) 7 powers exponents listed
+eight-order = binary-order 3 eightPolynomial (lit≤ tt) (lit< tt) 7 powers exponents listed

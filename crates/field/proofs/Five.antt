@@ -33,23 +33,23 @@ remainder a = mod-lt a (lit< tt)
 addition : Addition 5 sum negative
 unfolding all
 addition =
-    record
-      { add-below = λ a b ha hb. remainder (a + b)
-      ; neg-below = λ a h. remainder (5 - a)
-      ; plus-assoc = same-triples 5 (λ a b c. sum (sum a b) c) (λ a b c. sum a (sum b c)) tt
-      ; plus-comm = same-pairs 5 (λ a b. sum a b) (λ a b. sum b a) tt
-      ; plus-zero = same 5 (λ a. sum a 0) (λ a. a) tt
-      ; plus-neg = same 5 (λ a. sum a (negative a)) (λ a. 0) tt
-      }
+    record {
+      add-below = λ a b ha hb. remainder (a + b);
+      neg-below = λ a h. remainder (5 - a);
+      plus-assoc = same-triples 5 (λ a b c. sum (sum a b) c) (λ a b c. sum a (sum b c)) tt;
+      plus-comm = same-pairs 5 (λ a b. sum a b) (λ a b. sum b a) tt;
+      plus-zero = same 5 (λ a. sum a 0) (λ a. a) tt;
+      plus-neg = same 5 (λ a. sum a (negative a)) (λ a. 0) tt;
+    }
 
 doubling : Doubling 5 sum double
 unfolding all
 doubling =
-    record
-      { double-below = λ a h. remainder (a * 2)
-      ; double-zero = refl
-      ; double-adds = same-pairs 5 (λ a b. double (sum a b)) (λ a b. sum (double a) (double b)) tt
-      }
+    record {
+      double-below = λ a h. remainder (a * 2);
+      double-zero = refl;
+      double-adds = same-pairs 5 (λ a b. double (sum a b)) (λ a b. sum (double a) (double b)) tt;
+    }
 
 listed : Listed 5 4 double powers exponents
 unfolding all

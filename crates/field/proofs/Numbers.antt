@@ -1,6 +1,6 @@
 -- The search for an inverse finds one wherever there is one, and goes from n - 1 down.
 -- Holds: `inverse-found`, `inverse-below`; `inverse-here`, `inverse-lower`, `inverse-none`.
-use mathlib.Core.Path.{_≡_, refl, sym, ap, _∙_, subst}
+use mathlib.Core.Path.{_≡_, refl, sym, ap, _∙_}
 use mathlib.Core.Bool.{Bool, true, false}
 use Prim.Native.Nat.{ℕ, zero, suc, _-_, _<_, _≤_}
 use native.Mathlib.Nat.{not-suc-le-zero}

@@ -1,8 +1,8 @@
 -- What the code returns in each branch is the symbol that the field's operation gives.
 -- Holds: `sum-modulo`, `sum-modulo-less`, `sum-xor`; `negative-modulo`, `negative-of-zero`, `negative-same`; `product-modulo`,
--- `product-listed`; `lent-by-test`, the table's rule over all pairs by one computed test.
+-- `product-listed`; `is-inverse`; `good-small`, q is at most 256; `lent-by-test`, the table's rule over all pairs by one computed test.
 use mathlib.Core.Path.{_≡_, refl, sym, ap, _∙_, subst}
-use mathlib.Core.List.{List}
+use mathlib.Core.List.{List, []}
 use Prim.Native.Nat.{ℕ, _+_, _-_, _*_, _%_, _<_, _≤_}
 use native.Mathlib.Nat.{mul-le-mul}
 use native.Mathlib.Omega.{arith}
@@ -18,7 +18,7 @@ use Rattle.field.specs.Symbols.{Is}
 use Rattle.field.specs.Tables.{Lent}
 use Rattle.field.proofs.Laws.{lawsOf}
 
--- Five elements; the others.
+-- The operations with five elements.
 module _ (q : ℕ) (e : q ≡ 5) where
   add-modulo : (a b : ℕ) → opsOf q .add a b ≡ (a + b) % 5
   unfolding opsOf five modular
@@ -32,6 +32,7 @@ module _ (q : ℕ) (e : q ≡ 5) where
   unfolding opsOf five modular
   mul-modulo a b = rw e
 
+-- The operations with any other number of elements.
 add-xor : (q a b : ℕ) → Good q → (q ≡ 5 → ⊥) → opsOf q .add a b ≡ bitXor a b
 unfolding opsOf eight binary
 add-xor q a b five-elements other = absurd (other refl)
@@ -42,10 +43,11 @@ unfolding opsOf eight binary
 neg-same q a five-elements other = absurd (other refl)
 neg-same q a eight-elements other = refl
 
-pub eight-else : (q : ℕ) → Good q → (q ≡ 5 → ⊥) → q ≡ 8
+eight-else : (q : ℕ) → Good q → (q ≡ 5 → ⊥) → q ≡ 8
 eight-else q five-elements other = absurd (other refl)
 eight-else q eight-elements other = refl
 
+-- Every symbol is a byte.
 pub good-small : (q : ℕ) → Good q → q ≤ 256
 good-small q five-elements = lit≤ tt
 good-small q eight-elements = lit≤ tt
@@ -75,13 +77,17 @@ module _ (q a b : ℕ) (good : Good q) (ha : a < q) (hb : b < q) where
   pub product-fits : q ≡ 5 → a * b < 256
   product-fits e = let x : a ≤ 4 = omega arith in let y : b ≤ 4 = omega arith in omega (arith, mul-le-mul x y)
 
-  pub product-place : (q ≡ 5 → ⊥) → a * 8 + b < 64
-  product-place other = omega (arith, eight-else q good other)
+  -- Row and place lie in the table.
+  pub product-row : (q ≡ 5 → ⊥) → a < 8
+  product-row other = omega (arith, eight-else q good other)
 
-  pub product-listed : (tables : List ℕ) → Lent tables → (q ≡ 5 → ⊥) → Is q (getD tables (a * 8 + b) 0) (opsOf q .mul a b)
+  pub product-column : (q ≡ 5 → ⊥) → b < 8
+  product-column other = omega (arith, eight-else q good other)
+
+  pub product-listed : (tables : List (List ℕ)) → Lent tables → (q ≡ 5 → ⊥) → Is q (getD (getD tables a []) b 0) (opsOf q .mul a b)
   product-listed tables lent other =
       let e : q ≡ 8 = eight-else q good other in
-      is-product (getD tables (a * 8 + b) 0)
+      is-product (getD (getD tables a []) b 0)
       (lent .product a b (omega arith) (omega arith) ∙ ap (λ (k : ℕ). opsOf k .mul a b) (sym e))
 
 module _ (q a : ℕ) (good : Good q) (ha : a < q) where
@@ -106,5 +112,5 @@ module _ (q a : ℕ) (good : Good q) (ha : a < q) where
   is-inverse r e = symbol q r (opsOf q .inv a) e (lawsOf q good .inv-below a ha)
 
 -- The table's rule over all pairs, by one computed test.
-pub lent-by-test : (tables : List ℕ) → T (all 8 (λ a. all 8 (λ b. eqb (getD tables (a * 8 + b) 0) (opsOf 8 .mul a b)))) → Lent tables
-lent-by-test tables t = record { product = same-pairs 8 (λ a b. getD tables (a * 8 + b) 0) (opsOf 8 .mul) t }
+pub lent-by-test : (tables : List (List ℕ)) → T (all 8 (λ a. all 8 (λ b. eqb (getD (getD tables a []) b 0) (opsOf 8 .mul a b)))) → Lent tables
+lent-by-test tables t = record { product = same-pairs 8 (λ a b. getD (getD tables a []) b 0) (opsOf 8 .mul) t }

@@ -1,9 +1,8 @@
 -- What one call of the recursion for a polynomial's value returns (01, "The transmission").
 -- Holds: `rest-shorter`, `value-of-none`, `value-of-more`.
-use mathlib.Core.Path.{_≡_, refl, sym, ap, _∙_, subst}
+use mathlib.Core.Path.{_≡_, refl, ap, _∙_}
 use mathlib.Core.List.{List, [], _∷_}
-use Prim.Native.Nat.{ℕ, zero, suc, _-_, _<_}
-use native.Mathlib.Nat.{not-suc-le-zero}
+use Prim.Native.Nat.{ℕ, suc, _-_, _<_}
 use native.Mathlib.Omega.{arith}
 use lib.ListN.{length, getD, take, drop, length-take, length-drop}
 use borrow.Rule.Slice.PartAt.{part-to-end}
@@ -27,9 +26,9 @@ module _ (q x : ℕ) where
   unfolding value
   value-of-more [] r v some e i = absurd (some refl)
   value-of-more (c ∷ l) r v some e i =
-      record
-        { same =
+      record {
+        same =
             i .same
-            ∙ ap (λ (k : ℕ). opsOf q .add c (opsOf q .mul x k)) (e ∙ ap (λ (k : List ℕ). value (opsOf q) k x) (part-to-end (c ∷ l) 1))
-        ; below = i .below
-        }
+            ∙ ap (λ (k : ℕ). opsOf q .add c (opsOf q .mul x k)) (e ∙ ap (λ (k : List ℕ). value (opsOf q) k x) (part-to-end (c ∷ l) 1));
+        below = i .below;
+      }

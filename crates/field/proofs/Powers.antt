@@ -1,18 +1,18 @@
 -- A field from the powers of one element α. Given are an addition of the numbers below q, the map "times α" that is additive, the list of the
 -- powers α^0 .. α^(n-1) and the list of the exponents of the nonzero numbers. The product of two nonzero numbers is the power at the sum of
 -- their exponents; it is associative and commutative because exponents add, and distributes because "times α" does, as often as it is applied.
--- Holds: the hypotheses `Addition`, `Doubling`, `Listed` (by computed tests: `listed`) and `Generated`, which joins them; `byPowers`, the
--- operations; `field-by-powers`, their laws; `field-with`, the same for operations whose product agrees; `order-with`, the order of α.
-use mathlib.Core.Path.{_≡_, refl, sym, ap, ap₂, _∙_, subst, subst₂}
+-- Holds: the hypotheses `Addition`, `Doubling` and `Listed` (by computed tests: `listed-by-tests`), joined in `Generated`; `productOf`, the
+-- product by exponents, and its laws; `field-with` and `order-with`: operations whose product agrees with it are a field, α has order n.
+use mathlib.Core.Path.{_≡_, refl, sym, ap, ap₂, _∙_, subst}
 use mathlib.Core.Bool.{Bool, true, false}
 use mathlib.Core.List.{List}
-use Prim.Native.Nat.{ℕ, zero, suc, _+_, _-_, _%_, _<_, _≤_}
-use native.Mathlib.Nat.{suc-mod, mod-lt, mod-eq-of-lt, mod-self, zero-mod, mod-add-mod, add-mod, add-comm, zero-add, suc-add, not-suc-le-zero}
+use Prim.Native.Nat.{ℕ, zero, suc, _+_, _-_, _%_, _<_}
+use native.Mathlib.Nat.{suc-mod, mod-lt, mod-eq-of-lt, mod-self, zero-mod, mod-add-mod, add-mod, add-comm, zero-add, suc-add}
 use native.Mathlib.Omega.{arith}
-use lib.Dec.{T, eqb, eqb→eq, ltb, ltb→lt, lit<}
+use lib.Dec.{T, eqb, eqb→eq, ltb, ltb→lt}
 use lib.ListN.{getD}
-use borrow.Author.Tests.{eqb-true, eqb-false, eq-eqb, ne-eqb}
-use Rattle.algebra.specs.Ops.{Ops, pick}
+use borrow.Author.Tests.{eqb-true, eqb-false, ne-eqb}
+use Rattle.algebra.specs.Ops.{pick}
 use Rattle.algebra.specs.Sum.{power}
 use Rattle.algebra.proofs.Below.{FieldBelow}
 use Rattle.algebra.proofs.Tests.{all, all-at, same, within}
@@ -61,19 +61,20 @@ pub listed-by-tests : (q n : ℕ) (double : ℕ → ℕ) (powers exponents : Lis
     → T (all q (λ a. eqb (pick (eqb a 0) 0 (at powers (at exponents a))) a))
     → Listed q n double powers exponents
 listed-by-tests q n double powers exponents t₁ t₂ t₃ t₄ t₅ t₆ t₇ t₈ =
-    record
-      { several = ltb→lt 1 n t₁
-      ; first = eqb→eq (at powers 0) 1 t₂
-      ; next = same n (λ i. double (at powers i)) (λ i. at powers (suc i % n)) t₃
-      ; power-nonzero = λ i h. ltb→lt 0 (at powers i) (all-at n (λ i. ltb 0 (at powers i)) t₄ i h)
-      ; power-below = within n q (at powers) t₅
-      ; exponent-of-power = same n (λ i. at exponents (at powers i)) (λ i. i) t₆
-      ; exponent-below = within q n (at exponents) t₇
-      ; power-of-exponent =
+    record {
+      several = ltb→lt 1 n t₁;
+      first = eqb→eq (at powers 0) 1 t₂;
+      next = same n (λ i. double (at powers i)) (λ i. at powers (suc i % n)) t₃;
+      power-nonzero = λ i h. ltb→lt 0 (at powers i) (all-at n (λ i. ltb 0 (at powers i)) t₄ i h);
+      power-below = within n q (at powers) t₅;
+      exponent-of-power = same n (λ i. at exponents (at powers i)) (λ i. i) t₆;
+      exponent-below = within q n (at exponents) t₇;
+      power-of-exponent =
           λ a h z.
-            rw (ne-eqb a 0 z) at (same q (λ a. pick (eqb a 0) 0 (at powers (at exponents a))) (λ a. a) t₈ a h)
-      }
+          rw (ne-eqb a 0 z) at (same q (λ a. pick (eqb a 0) 0 (at powers (at exponents a))) (λ a. a) t₈ a h);
+    }
 
+-- The hypotheses of the construction.
 pub record Generated (q n : ℕ) (add : ℕ → ℕ → ℕ) (neg double : ℕ → ℕ) (powers exponents : List ℕ) : Type 0 where
   pub addition : Addition q add neg
   pub doubling : Doubling q add double
@@ -101,10 +102,16 @@ module _ {q n : ℕ} {add : ℕ → ℕ → ℕ} {neg double : ℕ → ℕ} {pow
   pub one-below : 1 < q
   one-below = subst (λ (a : ℕ). a < q) first (power-below 0 (omega (arith, several)))
 
+  zero-below : 0 < q
+  zero-below = omega (arith, one-below)
+
   doublings-below : (i a : ℕ) → a < q → doublings double i a < q
   unfolding doublings
   doublings-below zero a h = h
   doublings-below (suc i) a h = double-below (doublings double i a) (doublings-below i a h)
+
+  alpha-below : (i : ℕ) → doublings double i 1 < q
+  alpha-below i = doublings-below i 1 one-below
 
   doublings-zero : (i : ℕ) → doublings double i 0 ≡ 0
   unfolding doublings
@@ -180,7 +187,7 @@ module _ {q n : ℕ} {add : ℕ → ℕ → ℕ} {neg double : ℕ → ℕ} {pow
   product-below a b ha hb = by a (element a ha)
     where
       by : (a : ℕ) → Element double a → product a b < q
-      by a nought = rw (product-nought b) (omega (arith, one-below))
+      by a nought = rw (product-nought b) zero-below
       by a (power-of-alpha i) = rw (product-power i b hb) (doublings-below i b hb)
 
   product-zero : (a : ℕ) → a < q → product a 0 ≡ 0
@@ -188,31 +195,30 @@ module _ {q n : ℕ} {add : ℕ → ℕ → ℕ} {neg double : ℕ → ℕ} {pow
     where
       by : (a : ℕ) → Element double a → product a 0 ≡ 0
       by a nought = product-nought 0
-      by a (power-of-alpha i) = product-power i 0 (omega (arith, one-below)) ∙ doublings-zero i
+      by a (power-of-alpha i) = product-power i 0 zero-below ∙ doublings-zero i
 
   pub product-comm : (a b : ℕ) → a < q → b < q → product a b ≡ product b a
   product-comm a b ha hb = by a b (element a ha) (element b hb)
     where
       by : (a b : ℕ) → Element double a → Element double b → product a b ≡ product b a
       by a b nought nought = refl
-      by a b nought (power-of-alpha j) = product-nought (doublings double j 1) ∙ sym (product-power j 0 (omega (arith, one-below)) ∙ doublings-zero j)
-      by a b (power-of-alpha i) nought = product-power i 0 (omega (arith, one-below)) ∙ doublings-zero i ∙ sym (product-nought (doublings double i 1))
+      by a b nought (power-of-alpha j) = product-nought (doublings double j 1) ∙ sym (product-zero (doublings double j 1) (alpha-below j))
+      by a b (power-of-alpha i) nought = product-zero (doublings double i 1) (alpha-below i) ∙ sym (product-nought (doublings double i 1))
       by a b (power-of-alpha i) (power-of-alpha j) =
-          product-power i (doublings double j 1) (doublings-below j 1 one-below)
+          product-power i (doublings double j 1) (alpha-below j)
           ∙ sym (doublings-sum i j 1) ∙ ap (λ (k : ℕ). doublings double k 1) (add-comm i j) ∙ doublings-sum j i 1
-          ∙ sym (product-power j (doublings double i 1) (doublings-below i 1 one-below))
+          ∙ sym (product-power j (doublings double i 1) (alpha-below i))
 
   product-assoc : (a b c : ℕ) → a < q → b < q → c < q → product (product a b) c ≡ product a (product b c)
   product-assoc a b c ha hb hc = by a b (element a ha) (element b hb)
     where
       by : (a b : ℕ) → Element double a → Element double b → product (product a b) c ≡ product a (product b c)
       by a b nought _ = rw (product-nought b, product-nought c, product-nought (product b c))
-      by a b (power-of-alpha i) nought =
-        rw (product-power i 0 (omega (arith, one-below)), doublings-zero i, product-nought c, product-power i 0 (omega (arith, one-below)), doublings-zero i)
+      by a b (power-of-alpha i) nought = rw (product-zero (doublings double i 1) (alpha-below i), product-nought c, product-zero (doublings double i 1) (alpha-below i))
       by a b (power-of-alpha i) (power-of-alpha j) =
-        ap (λ (x : ℕ). product x c) (product-power i (doublings double j 1) (doublings-below j 1 one-below) ∙ sym (doublings-sum i j 1))
-        ∙ product-power (i + j) c hc ∙ doublings-sum i j c
-        ∙ sym (ap (product (doublings double i 1)) (product-power j c hc) ∙ product-power i (doublings double j c) (doublings-below j c hc))
+          ap (λ (x : ℕ). product x c) (product-power i (doublings double j 1) (alpha-below j) ∙ sym (doublings-sum i j 1))
+          ∙ product-power (i + j) c hc ∙ doublings-sum i j c
+          ∙ sym (ap (product (doublings double i 1)) (product-power j c hc) ∙ product-power i (doublings double j c) (doublings-below j c hc))
 
   pub product-one : (a : ℕ) → a < q → product a 1 ≡ a
   unfolding doublings
@@ -221,8 +227,6 @@ module _ {q n : ℕ} {add : ℕ → ℕ → ℕ} {neg double : ℕ → ℕ} {pow
   pub product-distributes : (a b c : ℕ) → a < q → b < q → c < q → product a (add b c) ≡ add (product a b) (product a c)
   product-distributes a b c ha hb hc = by a (element a ha)
     where
-      zero-below : 0 < q
-      zero-below = omega (arith, one-below)
       by : (a : ℕ) → Element double a → product a (add b c) ≡ add (product a b) (product a c)
       by a nought =
           product-nought (add b c) ∙ sym (plus-zero 0 zero-below) ∙ sym (ap₂ add (product-nought b) (product-nought c))
@@ -243,12 +247,13 @@ module _ {q n : ℕ} {add : ℕ → ℕ → ℕ} {neg double : ℕ → ℕ} {pow
       by a (power-of-alpha i) z =
           let j : ℕ = n - i % n in
           let less : i % n < n = mod-lt i positive in
-          let whole : i % n + j ≡ n = omega arith in
-          ( doublings double j 1
-          , doublings-below j 1 one-below
-          , product-power i (doublings double j 1) (doublings-below j 1 one-below)
-            ∙ sym (doublings-sum i j 1) ∙ doublings-one (i + j)
-            ∙ ap (at powers) (sym (mod-add-mod i n j) ∙ ap (λ (k : ℕ). k % n) whole ∙ mod-self n) ∙ first)
+          let whole : i % n + j ≡ n = omega arith in (
+            doublings double j 1,
+            alpha-below j,
+            product-power i (doublings double j 1) (alpha-below j)
+                ∙ sym (doublings-sum i j 1) ∙ doublings-one (i + j)
+                ∙ ap (at powers) (sym (mod-add-mod i n j) ∙ ap (λ (k : ℕ). k % n) whole ∙ mod-self n) ∙ first,
+          )
 
   -- Operations with this addition whose product agrees with that by exponents are a field, and α has order n in it.
   module _ (mul : ℕ → ℕ → ℕ) (agrees : (a b : ℕ) → a < q → b < q → mul a b ≡ product a b) where
@@ -262,48 +267,48 @@ module _ {q n : ℕ} {add : ℕ → ℕ → ℕ} {neg double : ℕ → ℕ} {pow
 
     pub field-with : FieldBelow q (numbers q add neg mul)
     field-with =
-        record
-          { zero-is = refl
-          ; one-is = refl
-          ; test-is = λ a. refl
-          ; one-below = one-below
-          ; add-below = add-below
-          ; neg-below = neg-below
-          ; mul-below = mul-below
-          ; inv-below = λ a h. inverse-below mul q a (omega (arith, one-below))
-          ; plus-assoc = plus-assoc
-          ; plus-comm = plus-comm
-          ; plus-zero = plus-zero
-          ; plus-neg = plus-neg
-          ; times-assoc =
+        record {
+          zero-is = refl;
+          one-is = refl;
+          test-is = λ a. refl;
+          one-below = one-below;
+          add-below = add-below;
+          neg-below = neg-below;
+          mul-below = mul-below;
+          inv-below = λ a h. inverse-below mul q a zero-below;
+          plus-assoc = plus-assoc;
+          plus-comm = plus-comm;
+          plus-zero = plus-zero;
+          plus-neg = plus-neg;
+          times-assoc =
               λ a b c ha hb hc.
-                ap (λ (x : ℕ). mul x c) (agrees a b ha hb) ∙ agrees (product a b) c (product-below a b ha hb) hc
-                ∙ product-assoc a b c ha hb hc
-                ∙ sym (ap (mul a) (agrees b c hb hc) ∙ agrees a (product b c) ha (product-below b c hb hc))
-          ; times-comm = λ a b ha hb. agrees a b ha hb ∙ product-comm a b ha hb ∙ sym (agrees b a hb ha)
-          ; times-one = λ a ha. agrees a 1 ha one-below ∙ product-one a ha
-          ; distributes =
+              ap (λ (x : ℕ). mul x c) (agrees a b ha hb) ∙ agrees (product a b) c (product-below a b ha hb) hc
+              ∙ product-assoc a b c ha hb hc
+              ∙ sym (ap (mul a) (agrees b c hb hc) ∙ agrees a (product b c) ha (product-below b c hb hc));
+          times-comm = λ a b ha hb. agrees a b ha hb ∙ product-comm a b ha hb ∙ sym (agrees b a hb ha);
+          times-one = λ a ha. agrees a 1 ha one-below ∙ product-one a ha;
+          distributes =
               λ a b c ha hb hc.
-                agrees a (add b c) ha (add-below b c hb hc) ∙ product-distributes a b c ha hb hc
-                ∙ sym (ap₂ add (agrees a b ha hb) (agrees a c ha hc))
-          ; inverse = mul-inverse
-          }
+              agrees a (add b c) ha (add-below b c hb hc) ∙ product-distributes a b c ha hb hc
+              ∙ sym (ap₂ add (agrees a b ha hb) (agrees a c ha hc));
+          inverse = mul-inverse;
+        }
 
     power-is : (i : ℕ) → power (numbers q add neg mul) (double 1) i ≡ doublings double i 1
     unfolding power doublings
     power-is zero = refl
     power-is (suc i) =
         ap (mul (double 1)) (power-is i)
-        ∙ agrees (double 1) (doublings double i 1) (double-below 1 one-below) (doublings-below i 1 one-below)
-        ∙ product-power 1 (doublings double i 1) (doublings-below i 1 one-below)
+        ∙ agrees (double 1) (doublings double i 1) (double-below 1 one-below) (alpha-below i)
+        ∙ product-power 1 (doublings double i 1) (alpha-below i)
 
     pub order-with : OrderBelow q (numbers q add neg mul) n (double 1)
     order-with =
-        record
-          { power-below = λ i. subst (λ (x : ℕ). x < q) (sym (power-is i)) (doublings-below i 1 one-below)
-          ; distinct =
+        record {
+          power-below = λ i. subst (λ (x : ℕ). x < q) (sym (power-is i)) (alpha-below i);
+          distinct =
               λ i j hi hj e.
-                sym (mod-eq-of-lt hi) ∙ sym (exponent-of i) ∙ ap (at exponents) (sym (power-is i) ∙ e ∙ power-is j)
-                ∙ exponent-of j ∙ mod-eq-of-lt hj
-          ; full = power-is n ∙ doublings-one n ∙ ap (at powers) (mod-self n) ∙ first
-          }
+              sym (mod-eq-of-lt hi) ∙ sym (exponent-of i) ∙ ap (at exponents) (sym (power-is i) ∙ e ∙ power-is j)
+              ∙ exponent-of j ∙ mod-eq-of-lt hj;
+          full = power-is n ∙ doublings-one n ∙ ap (at powers) (mod-self n) ∙ first;
+        }

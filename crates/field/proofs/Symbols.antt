@@ -52,6 +52,7 @@ module _ (q : ℕ) where
         where
           total : i < length l + length r
           total = subst (λ (n : ℕ). i < n) (length-append l r) h
+
           decide : (b : Bool) → ltb i (length l) ≡ b → getD (l ++ r) i 0 < q
           decide true e = let left : i < length l = ltb-true i (length l) e in below-of (List·getD-append l r 0 i left) (s .below i left)
           decide false e =
@@ -78,6 +79,7 @@ module _ (q : ℕ) where
         where
           within : i < length l
           within = subst (λ (n : ℕ). i < n) (length-set l j a) g
+
           decide : (b : Bool) → eqb i j ≡ b → getD (set l j a) i 0 < q
           decide true e =
               let same : i ≡ j = eqb-true i j e in

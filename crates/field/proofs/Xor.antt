@@ -26,8 +26,10 @@ xor-assoc a =
     halves n b c e =
         xor-shr (bitXor n b) c 1 ∙ ap (λ (x : ℕ). bitXor x (c / 2)) (xor-shr n b 1) ∙ e
         ∙ sym (xor-shr n (bitXor b c) 1 ∙ ap (λ (x : ℕ). bitXor (n / 2) x) (xor-shr b c 1))
+
     bit : (n : ℕ) → n % 2 < 2
     bit n = mod-lt n (lit< tt)
+
     lowest : (n b c : ℕ) → bitXor (bitXor n b) c % 2 ≡ bitXor n (bitXor b c) % 2
     lowest n b c =
         xor-mod (bitXor n b) c 1 ∙ ap (λ (x : ℕ). bitXor x (c % 2)) (xor-mod n b 1) ∙ bits-assoc (n % 2) (b % 2) (c % 2) (bit n) (bit b) (bit c)

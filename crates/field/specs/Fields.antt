@@ -1,7 +1,7 @@
 -- The two fields of 01 ("Two fields and three settings") and the field with q elements, q chosen at run time.
 -- Holds: `five`, `eight`, `alpha`, `Good` (the q in use), `opsOf` (the field with q elements); 01's list of the powers of α, computed.
 use mathlib.Core.Path.{_≡_, refl}
-use mathlib.Core.List.{List, [], _∷_, map}
+use mathlib.Core.List.{[], _∷_, map}
 use Prim.Native.Nat.{ℕ}
 use lib.Dec.{eqb}
 use Rattle.algebra.specs.Ops.{Ops, pick}
@@ -14,9 +14,12 @@ use Rattle.field.specs.Binary.{timesAlpha, timesBits, binary}
 unfoldable pub five : Ops ℕ
 five = modular 5
 
--- Eight elements: three bits a symbol, α³ = α + 1. The polynomial α³ + α + 1 has the bits 1011.
+-- Eight elements: three bits a symbol, α³ = α + 1. The polynomial that α makes zero, α³ + α + 1, has the bits 1011.
+abbrev pub eightPolynomial : ℕ
+eightPolynomial = 11
+
 unfoldable pub eight : Ops ℕ
-eight = binary 3 11
+eight = binary 3 eightPolynomial
 
 -- α as a number is the same in every field.
 abbrev pub alpha : ℕ
@@ -27,13 +30,17 @@ pub data Good : ℕ → Type 0 where
   five-elements : Good 5
   eight-elements : Good 8
 
--- The field with q elements.
+-- A part of the field with q elements.
 abbrev pub fieldPart {ℓ} : {A : Type ℓ} → ℕ → (Ops ℕ → A) → A
-fieldPart q part = pick (eqb q 5) (part five) (part eight)
+fieldPart q part =
+    pick (eqb q 5) (part five)
+    (part eight)
 
+-- The field with q elements. Its zero, one and zero test are the same for every q.
 unfoldable pub opsOf : ℕ → Ops ℕ
 opsOf q = numbers q (fieldPart q (λ o. o .add)) (fieldPart q (λ o. o .neg)) (fieldPart q (λ o. o .mul))
 
+-- The powers of α from α^0 on.
 pub powers-of-five : map (power five alpha) (0 ∷ 1 ∷ 2 ∷ 3 ∷ []) ≡ 1 ∷ 2 ∷ 4 ∷ 3 ∷ []
 unfolding power five modular
 powers-of-five = refl

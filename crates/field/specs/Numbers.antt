@@ -12,12 +12,12 @@ inverseBelow product (suc n) a = pick (eqb (product a n) 1) n (inverseBelow prod
 -- Zero is 0 and one is 1; the inverse is looked for among the numbers below q.
 abbrev pub numbers : ℕ → (ℕ → ℕ → ℕ) → (ℕ → ℕ) → (ℕ → ℕ → ℕ) → Ops ℕ
 numbers q sum negative product =
-    record
-      { zero = 0
-      ; one = 1
-      ; add = sum
-      ; neg = negative
-      ; mul = product
-      ; inv = inverseBelow product q
-      ; isZero = λ a. eqb a 0
-      }
+    record {
+      zero = 0;
+      one = 1;
+      add = sum;
+      neg = negative;
+      mul = product;
+      inv = inverseBelow product q;
+      isZero = λ a. eqb a 0;
+    }

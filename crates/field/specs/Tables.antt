@@ -2,11 +2,11 @@
 -- of sixty-four entries"). Callers only pass it on: what it says of the table concerns this crate alone.
 -- Holds: `Lent`.
 use mathlib.Core.Path.{_≡_}
-use mathlib.Core.List.{List}
-use Prim.Native.Nat.{ℕ, _+_, _*_, _<_}
+use mathlib.Core.List.{List, []}
+use Prim.Native.Nat.{ℕ, _<_}
 use lib.ListN.{getD}
 use Rattle.field.specs.Fields.{opsOf}
 
--- The table holds the product of a and b at 8 a + b.
-pub record Lent (tables : List ℕ) : Type 0 where
-  pub product : (a b : ℕ) → a < 8 → b < 8 → getD tables (a * 8 + b) 0 ≡ opsOf 8 .mul a b
+-- The table holds the product of a and b in row a at place b.
+pub record Lent (tables : List (List ℕ)) : Type 0 where
+  pub product : (a b : ℕ) → a < 8 → b < 8 → getD (getD tables a []) b 0 ≡ opsOf 8 .mul a b

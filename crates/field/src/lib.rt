@@ -8,18 +8,18 @@ ghost use Rattle.field.specs.Fields.{Good, opsOf};
 ghost use Rattle.field.specs.Symbols.{Symbols, Is};
 ghost use Rattle.field.specs.Tables.{Lent};
 
-pub type Tables = [u8; 64];
+// The products of the eight-element field: a × b in row a, place b.
+pub type Tables = [[u8; 8]; 8];
 
-// "The products of the eight-element field stand as a table of sixty-four entries": a × b at 8 a + b.
 const PRODUCTS: Tables = [
-    0, 0, 0, 0, 0, 0, 0, 0,
-    0, 1, 2, 3, 4, 5, 6, 7,
-    0, 2, 4, 6, 3, 1, 7, 5,
-    0, 3, 6, 5, 7, 4, 1, 2,
-    0, 4, 3, 7, 6, 2, 5, 1,
-    0, 5, 1, 4, 2, 7, 3, 6,
-    0, 6, 7, 1, 5, 3, 2, 4,
-    0, 7, 5, 2, 1, 6, 4, 3,
+    [0, 0, 0, 0, 0, 0, 0, 0],
+    [0, 1, 2, 3, 4, 5, 6, 7],
+    [0, 2, 4, 6, 3, 1, 7, 5],
+    [0, 3, 6, 5, 7, 4, 1, 2],
+    [0, 4, 3, 7, 6, 2, 5, 1],
+    [0, 5, 1, 4, 2, 7, 3, 6],
+    [0, 6, 7, 1, 5, 3, 2, 4],
+    [0, 7, 5, 2, 1, 6, 4, 3],
 ];
 
 pub fn tables() -> Tables
@@ -68,7 +68,7 @@ pub fn multiply(q: usize, tables: &Tables, a: u8, b: u8) -> u8
     if q == 5 {
         return a * b % 5;
     }
-    tables[(a as usize) * 8 + (b as usize)]
+    tables[a as usize][b as usize]
 }
 
 // 1 / a, and 0 for a = 0: the number whose product with a is 1, looked for from q - 1 down.

@@ -1,10 +1,12 @@
+-- `field::value` meets its contract, by recursion over the coefficients. The measure is their number.
 use Prim.Native.Nat.{ℕ, _<_}
 use native.Mathlib.Omega.{arith}
 use lib.ListN.{length}
-use Rattle.field.proofs.Symbols.{symbols-part}
-use Rattle.field.proofs.Polynomials.{rest-shorter, value-of-none, value-of-more}
+use borrow.Author.Needs.{needs}
 use borrow.Fn.Kinds.{In}
 use borrow.Fn.PlainCycle.{Measures, is, falls, and}
+use Rattle.field.proofs.Symbols.{symbols-part}
+use Rattle.field.proofs.Polynomials.{rest-shorter, value-of-none, value-of-more}
 use Rattle.field.proofs.value.Reads as value
 use Rattle.field.proofs.value.Kinds as value-kinds
 use Rattle.field.proofs.+value.Lts-value as value-lts
@@ -15,103 +17,54 @@ use Rattle.field.proofs.+value.Tie.{close}
 abbrev μ-value : Measures 2 value-kinds.ps ℕ
 μ-value κs a = length (a .1 .1 .0 .now)
 
+-- What `value` is given at the measure t, and what a call of it asks below t.
 abbrev value-at : ℕ → In 2 value-kinds.ps
 value-at t = and 2 value-kinds.ps (is 2 value-kinds.ps μ-value t) value.Pre
 
 abbrev value-below : ℕ → In 2 value-kinds.ps
 value-below t = and 2 value-kinds.ps (falls 2 value-kinds.ps _<_ μ-value t) value.Pre
 
--- src/lib.rt:106:9
-value-returns : (t : ℕ) → value-lts.Need-returns (
-  value-below t,
-  value.Post,
-  add-product-reads.Asked,
-  add-product-reads.Learnt,
-) (value-at t) value.Post
-value-returns t c = value-of-none _ _ _ (c .before .before .pre .1 .0) (c .if1 .taken)
+abbrev calls : ℕ → value-lts.Claims
+calls t = (value-below t, value.Post, add-product-reads.Asked, add-product-reads.Learnt)
 
--- src/lib.rt:108:17
-value-shared-slice-read-first : (t : ℕ) → value-lts.Need-shared-slice-read-first (
-  value-below t,
-  value.Post,
-  add-product-reads.Asked,
-  add-product-reads.Learnt,
-) (value-at t) value.Post
-value-shared-slice-read-first t c = omega arith
+module _ (t : ℕ) where
+  returns : value-lts.Need-returns (calls t) (value-at t) value.Post
+  returns c = value-of-none _ _ _ (c .before .before .pre .1 .0) (c .if1 .taken)
 
--- src/lib.rt:109:33
-value-sub-value : (t : ℕ) → value-lts.Need-sub-value (
-  value-below t,
-  value.Post,
-  add-product-reads.Asked,
-  add-product-reads.Learnt,
-) (value-at t) value.Post
-value-sub-value t c = omega arith
+  shared-slice-read-first : value-lts.Need-shared-slice-read-first (calls t) (value-at t) value.Post
+  shared-slice-read-first c = omega arith
 
--- src/lib.rt:109:33
-value-part-value-start : (t : ℕ) → value-lts.Need-part-value-start (
-  value-below t,
-  value.Post,
-  add-product-reads.Asked,
-  add-product-reads.Learnt,
-) (value-at t) value.Post
-value-part-value-start t c = omega arith
+  sub-value : value-lts.Need-sub-value (calls t) (value-at t) value.Post
+  sub-value c = omega arith
 
--- src/lib.rt:109:33
-value-part-value-end : (t : ℕ) → value-lts.Need-part-value-end (
-  value-below t,
-  value.Post,
-  add-product-reads.Asked,
-  add-product-reads.Learnt,
-) (value-at t) value.Post
-value-part-value-end t c = omega arith
+  part-value-start : value-lts.Need-part-value-start (calls t) (value-at t) value.Post
+  part-value-start c = omega arith
 
--- src/lib.rt:109:9
-value-value-requires : (t : ℕ) → value-lts.Need-value-requires (
-  value-below t,
-  value.Post,
-  add-product-reads.Asked,
-  add-product-reads.Learnt,
-) (value-at t) value.Post
-value-value-requires t c κs =
-    let p = c .before .before .before .before .pre in
-    let l = c .before .before .before .before .args .c .now in
-    (rest-shorter l t (p .0) (c .before .before .if1 .left), (p .1 .0, p .1 .1, symbols-part _ 1 (length l) l (p .1 .2), p .1 .3))
+  part-value-end : value-lts.Need-part-value-end (calls t) (value-at t) value.Post
+  part-value-end c = omega arith
 
--- src/lib.rt:110:5
-value-add-product-requires : (t : ℕ) → value-lts.Need-add-product-requires (
-  value-below t,
-  value.Post,
-  add-product-reads.Asked,
-  add-product-reads.Learnt,
-) (value-at t) value.Post
-value-add-product-requires t c κs =
-    let p = c .before .before .before .before .before .pre in
-    (p .1 .0, p .1 .1, p .1 .2 .below 0 (omega arith), p .1 .3, c .value .ensures .below)
+  value-requires : value-lts.Need-value-requires (calls t) (value-at t) value.Post
+  value-requires c κs =
+      let p = c .before .before .before .before .pre in
+      let l = c .before .before .before .before .args .c .now in
+      (rest-shorter l t (p .0) (c .before .before .if1 .left), (p .1 .0, p .1 .1, symbols-part _ 1 (length l) l (p .1 .2), p .1 .3))
 
--- src/lib.rt:101:1
-value-returns-2 : (t : ℕ) → value-lts.Need-returns-2 (
-  value-below t,
-  value.Post,
-  add-product-reads.Asked,
-  add-product-reads.Learnt,
-) (value-at t) value.Post
-value-returns-2 t c = value-of-more _ _ _ _ _ (c .before .before .before .before .if1 .left) (c .before .value .ensures .same) (c .add-product .ensures)
+  add-product-requires : value-lts.Need-add-product-requires (calls t) (value-at t) value.Post
+  add-product-requires c κs =
+      let below = c .before .before .before .before .before .pre .1 .2 .below 0 (omega arith) in search needs
+
+  returns-2 : value-lts.Need-returns-2 (calls t) (value-at t) value.Post
+  returns-2 c =
+      value-of-more _ _ _ _ _ (c .before .before .before .before .if1 .left) (c .before .value .ensures .same) (c .add-product .ensures)
 
 pub +value-spec : {M : Type 1} → statement M
-+value-spec = close μ-value λ t. value-lts.spec (
-  value-below t,
-  value.Post,
-  add-product-reads.Asked,
-  add-product-reads.Learnt,
-)
-    (value-at t)
-    value.Post
-    (value-returns t)
-    (value-shared-slice-read-first t)
-    (value-sub-value t)
-    (value-part-value-start t)
-    (value-part-value-end t)
-    (value-value-requires t)
-    (value-add-product-requires t)
-    (value-returns-2 t)
++value-spec =
+    close μ-value λ t. value-lts.spec (calls t) (value-at t) value.Post
+    (returns t)
+    (shared-slice-read-first t)
+    (sub-value t)
+    (part-value-start t)
+    (part-value-end t)
+    (value-requires t)
+    (add-product-requires t)
+    (returns-2 t)

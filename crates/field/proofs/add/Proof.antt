@@ -3,8 +3,6 @@ use borrow.Author.Needs.{needs}
 use Rattle.field.proofs.Operations.{sum-xor, sum-modulo, sum-modulo-less}
 use Rattle.field.proofs.add.Statement.{statement}
 use Rattle.field.proofs.add.Tie as tie
-use Rattle.field.proofs.add.Reads as reads
-use Rattle.field.proofs.add.Lts as lts
 
 returns : tie.Need-returns
 returns c = let p = c .before .pre in sum-xor _ _ _ (p .0) (p .1) (p .2) (c .if1 .taken)

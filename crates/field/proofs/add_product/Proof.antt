@@ -2,10 +2,6 @@
 use borrow.Author.Needs.{needs}
 use Rattle.field.proofs.add_product.Statement.{statement}
 use Rattle.field.proofs.add_product.Tie as tie
-use Rattle.field.proofs.add_product.Reads as reads
-use Rattle.field.proofs.add_product.Lts as lts
-use Rattle.field.proofs.add.Reads as add-reads
-use Rattle.field.proofs.multiply.Reads as multiply-reads
 
 multiply-requires : tie.Need-multiply-requires
 multiply-requires c κs = search needs

@@ -10,9 +10,6 @@ use Rattle.field.proofs.Numbers.{inverse-here, inverse-lower, inverse-n
 use Rattle.field.proofs.Operations.{is-inverse, inverse-start, good-small}
 use Rattle.field.proofs.inverse.Statement.{statement}
 use Rattle.field.proofs.inverse.Tie as tie
-use Rattle.field.proofs.inverse.Reads as reads
-use Rattle.field.proofs.inverse.Lts as lts
-use Rattle.field.proofs.multiply.Reads as multiply-reads
 
 abbrev Inv-loop : tie.InvT-loop
 Inv-loop q tables a b₀ b = (b ≤ q) × (opsOf q .inv a ≡ inverseBelow (opsOf q .mul) b a)

@@ -3,8 +3,6 @@ use borrow.Author.Needs.{needs}
 use Rattle.field.proofs.Operations.{negative-same, negative-of-zero, negative-modulo}
 use Rattle.field.proofs.negate.Statement.{statement}
 use Rattle.field.proofs.negate.Tie as tie
-use Rattle.field.proofs.negate.Reads as reads
-use Rattle.field.proofs.negate.Lts as lts
 
 returns : tie.Need-returns
 returns c = let p = c .before .pre in negative-same _ _ (p .0) (p .1) (c .if1 .taken)

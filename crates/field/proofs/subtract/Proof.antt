@@ -1,14 +1,7 @@
 -- `field::subtract` meets its contract: the sum with the negative.
-use mathlib.Core.Path.{_∙_, ap}
 use borrow.Author.Needs.{needs}
-use Prim.Native.Nat.{ℕ}
-use Rattle.field.specs.Fields.{opsOf}
 use Rattle.field.proofs.subtract.Statement.{statement}
 use Rattle.field.proofs.subtract.Tie as tie
-use Rattle.field.proofs.subtract.Reads as reads
-use Rattle.field.proofs.subtract.Lts as lts
-use Rattle.field.proofs.add.Reads as add-reads
-use Rattle.field.proofs.negate.Reads as negate-reads
 
 negate-requires : tie.Need-negate-requires
 negate-requires c κs = search needs

@@ -5,8 +5,6 @@ use Rattle.field.specs.Fields.{eight, opsOf}
 use Rattle.field.proofs.Operations.{lent-by-test}
 use Rattle.field.proofs.tables.Statement.{statement}
 use Rattle.field.proofs.tables.Tie as tie
-use Rattle.field.proofs.tables.Reads as reads
-use Rattle.field.proofs.tables.Lts as lts
 
 returns : tie.Need-returns
 unfolding all opsOf eight binary timesBits timesAlpha
