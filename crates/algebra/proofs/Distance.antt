@@ -3,7 +3,7 @@
 -- Holds: `powersWhere`, the powers of α at the places of a test; `zero-of-vanishing` (the lemma); its consequences `weight-of-vanishing`,
 -- `coefficients-of-vanishing` and `spectrum-injective`.
 use mathlib.Core.Path.{_≡_, refl, sym, ap, ap₂, subst, _∙_}
-use mathlib.Core.Bool.{Bool, true, false, not}
+use mathlib.Core.Bool.{Bool, true, false, not, _&&_}
 use mathlib.Core.List.{List, [], _∷_}
 use Prim.Native.Nat.{ℕ, zero, suc, _+_, _≤_, _<_}
 use native.Mathlib.Nat.{zero-add as nat-zero-add}
@@ -12,7 +12,7 @@ use native.Mathlib.Decide.{decLt}
 use lib.Dec.{eqb, ltb, T}
 use lib.ListN.{length, getD}
 use borrow.Author.Tests.{eq-eqb, ne-eqb, lt-ltb, le-ltb}
-use Rattle.algebra.specs.Ops.{Ops, sub, pick, both}
+use Rattle.algebra.specs.Ops.{Ops, sub, pick}
 use Rattle.algebra.specs.Sum.{sum, power}
 use Rattle.algebra.specs.Polynomial.{value, valueOf, fromRoots}
 use Rattle.algebra.specs.Weight.{total, countOf, weight}
@@ -80,11 +80,11 @@ module _ {F : Type 0} (K : Field F) (n : ℕ) (α : F) (order : Order (K .ops) n
 
   -- The nonzero places of b other than p.
   elsewhere : (ℕ → F) → ℕ → ℕ → Bool
-  elsewhere b p i = both (not (K .ops .isZero (b i))) (not (eqb i p))
+  elsewhere b p i = not (K .ops .isZero (b i)) && not (eqb i p)
 
-  both-right : (a b : Bool) → both a b ≡ true → b ≡ true
-  both-right true b e = e
-  both-right false b e = absurd (subst (λ (t : Bool). T (not t)) e tt)
+  and-right : (a b : Bool) → (a && b) ≡ true → b ≡ true
+  and-right true b e = e
+  and-right false b e = absurd (subst (λ (t : Bool). T (not t)) e tt)
 
   -- The product of (x - α^i) over the nonzero places other than p.
   locator : (ℕ → F) → ℕ → List F
@@ -98,7 +98,7 @@ module _ {F : Type 0} (K : Field F) (n : ℕ) (α : F) (order : Order (K .ops) n
       at (is-zero z) e = ap (λ (t : F). t ⊗ value (K .ops) (locator b p) (power (K .ops) α i)) z ∙ zero-mul K (value (K .ops) (locator b p) (power (K .ops) α i))
       at (non-zero h) e =
           ap (λ (t : F). b i ⊗ t) (value-at-root K (in-powersWhere (K .ops) α (elsewhere b p) n i l
-            (ap₂ (λ (s t : Bool). both (not s) (not t)) e (ne-eqb i p d))))
+            (ap₂ (λ (s t : Bool). not s && not t) e (ne-eqb i p d))))
           ∙ mul-zero K (b i)
 
   locator-at-place : (b : ℕ → F) (p : ℕ) → p < n → value (K .ops) (locator b p) (power (K .ops) α p) ≡ 𝟘 → ⊥
@@ -110,7 +110,7 @@ module _ {F : Type 0} (K : Field F) (n : ℕ) (α : F) (order : Order (K .ops) n
       other : {a : F} → (i : ℕ) × (i < n) × (elsewhere b p i ≡ true) × (a ≡ power (K .ops) α i) → power (K .ops) α p ≡ a → ⊥
       other w e =
           let same : p ≡ w .0 = order .distinct p (w .0) l (w .1) (e ∙ w .3) in
-          let off : not (eqb (w .0) p) ≡ true = both-right (not (K .ops .isZero (b (w .0)))) (not (eqb (w .0) p)) (w .2) in
+          let off : not (eqb (w .0) p) ≡ true = and-right (not (K .ops .isZero (b (w .0)))) (not (eqb (w .0) p)) (w .2) in
           subst (λ (t : Bool). T (not t)) (eq-eqb (w .0) p (sym same)) (subst T (sym off) tt)
 
   -- The distance lemma at α^0 .. α^(r-1).

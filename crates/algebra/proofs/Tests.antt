@@ -1,5 +1,5 @@
 -- Facts about every number below q by one computed test: the checker runs the test over all of them, a lemma turns it into the fact.
--- Holds: the test `all`; `all-at`, what it says at each number; `same`, `same-pairs`, `same-triples`, equations in one, two and three
+-- Holds: `and-left`, `and-right`; the test `all`; `all-at`, what it says at each number; `same`, `same-pairs`, `same-triples`, equations in one, two and three
 -- variables; `within`, a bound.
 use mathlib.Core.Path.{_≡_, refl, subst, sym}
 use mathlib.Core.Bool.{Bool, true, false, _&&_}
@@ -9,11 +9,11 @@ use native.Mathlib.Omega.{arith}
 use lib.Dec.{T, eqb, eqb→eq, ltb, ltb→lt}
 use borrow.Author.Tests.{eqb-true, eqb-false}
 
-and-left : (a b : Bool) → T (a && b) → T a
+pub and-left : (a b : Bool) → T (a && b) → T a
 and-left true b t = tt
 and-left false b t = t
 
-and-right : (a b : Bool) → T (a && b) → T b
+pub and-right : (a b : Bool) → T (a && b) → T b
 and-right true b t = t
 and-right false b t = absurd t
 

@@ -2,14 +2,14 @@
 -- Holds: `total-ext`, `total-mono`, `total-add`, `total-scale`, `total-split`, `total-blocks`; `countOf-ext`, `countOf-le`, `countOf-mono`,
 -- `countOf-none`, `countOf-without`; `zero-test`, `nonzero-test`, `weight-short`.
 use mathlib.Core.Path.{_≡_, refl, sym, ap, ap₂, subst, _∙_}
-use mathlib.Core.Bool.{Bool, true, false, not}
+use mathlib.Core.Bool.{Bool, true, false, not, _&&_}
 use Prim.Native.Nat.{ℕ, zero, suc, _+_, _*_, _≤_, _<_}
 use native.Mathlib.Nat.{add-zero, add-suc, add-assoc, zero-mul, suc-mul}
 use native.Mathlib.Omega.{arith}
 use native.Mathlib.Decide.{ℕ-discrete, decLt}
 use lib.Dec.{eqb, ltb, T}
 use borrow.Author.Tests.{eq-eqb, ne-eqb}
-use Rattle.algebra.specs.Ops.{Ops, pick, both}
+use Rattle.algebra.specs.Ops.{Ops, pick}
 use Rattle.algebra.specs.Weight.{total, countOf, weight}
 use Rattle.algebra.proofs.Laws.{Field, Tested, is-zero, non-zero}
 
@@ -76,26 +76,26 @@ countOf-none zero f h = refl
 countOf-none (suc n) f h = ap₂ (λ (s : ℕ) (b : Bool). s + pick b 1 0) (countOf-none n f (λ i l. h i (omega arith))) (h n (omega arith))
 
 -- A place where the test holds adds one to the count without that place.
-pub countOf-without : (n p : ℕ) (f : ℕ → Bool) → p < n → f p ≡ true → countOf n f ≡ suc (countOf n (λ i. both (f i) (not (eqb i p))))
+pub countOf-without : (n p : ℕ) (f : ℕ → Bool) → p < n → f p ≡ true → countOf n f ≡ suc (countOf n (λ i. f i && not (eqb i p)))
 unfolding total
 countOf-without zero p f l e = absurd (omega arith)
 countOf-without (suc n) p f l e = at (ℕ-discrete n p) (λ d. countOf-without n p f d e)
   where
-    both-true : (b : Bool) → both b true ≡ b
-    both-true true = refl
-    both-true false = refl
-    both-false : (b : Bool) → both b false ≡ false
-    both-false true = refl
-    both-false false = refl
-    same : (i : ℕ) → (i ≡ p → ⊥) → f i ≡ both (f i) (not (eqb i p))
-    same i d = sym (ap (λ (b : Bool). both (f i) (not b)) (ne-eqb i p d) ∙ both-true (f i))
-    at : Dec (n ≡ p) → (p < n → countOf n f ≡ suc (countOf n (λ i. both (f i) (not (eqb i p)))))
-        → countOf n f + pick (f n) 1 0 ≡ suc (countOf n (λ i. both (f i) (not (eqb i p))) + pick (both (f n) (not (eqb n p))) 1 0)
+    and-true : (b : Bool) → (b && true) ≡ b
+    and-true true = refl
+    and-true false = refl
+    and-false : (b : Bool) → (b && false) ≡ false
+    and-false true = refl
+    and-false false = refl
+    same : (i : ℕ) → (i ≡ p → ⊥) → f i ≡ (f i && not (eqb i p))
+    same i d = sym (ap (λ (b : Bool). f i && not b) (ne-eqb i p d) ∙ and-true (f i))
+    at : Dec (n ≡ p) → (p < n → countOf n f ≡ suc (countOf n (λ i. f i && not (eqb i p))))
+        → countOf n f + pick (f n) 1 0 ≡ suc (countOf n (λ i. f i && not (eqb i p)) + pick (f n && not (eqb n p)) 1 0)
     at (yes s) rest =
         let here : _≡_ {A = ℕ} (pick (f n) 1 0) 1 = ap {B = ℕ} (λ (b : Bool). pick b 1 0) (ap f s ∙ e) in
-        let gone : _≡_ {A = ℕ} (pick (both (f n) (not (eqb n p))) 1 0) 0 =
-            ap {B = ℕ} (λ (b : Bool). pick b 1 0) (ap (λ (b : Bool). both (f n) (not b)) (eq-eqb n p s) ∙ both-false (f n)) in
-        omega (arith, countOf-ext n f (λ i. both (f i) (not (eqb i p))) (λ i h. same i (omega arith)))
+        let gone : _≡_ {A = ℕ} (pick (f n && not (eqb n p)) 1 0) 0 =
+            ap {B = ℕ} (λ (b : Bool). pick b 1 0) (ap (λ (b : Bool). f n && not b) (eq-eqb n p s) ∙ and-false (f n)) in
+        omega (arith, countOf-ext n f (λ i. f i && not (eqb i p)) (λ i h. same i (omega arith)))
     at (no d) rest = omega (arith, rest (omega arith), ap {B = ℕ} (λ (b : Bool). pick b 1 0) (same n d))
 
 module _ {F : Type 0} (K : Field F) where

@@ -1,6 +1,6 @@
 -- The operations of a field, with no laws: what every definition of the product is written over.
 -- At the natural numbers the definitions compute; over an abstract carrier the laws are those of `proofs/Laws.antt`.
--- Holds: `Ops`, its subtraction `sub`, the choice `pick`, the test `both`.
+-- Holds: `Ops`, its subtraction `sub`, the choice `pick`.
 use mathlib.Core.Bool.{Bool, true, false}
 
 pub record Ops (F : Type 0) : Type 0 where
@@ -19,8 +19,3 @@ sub o a b = o .add a (o .neg b)
 abbrev pub pick {ℓ} : {A : Type ℓ} → Bool → A → A → A
 pick true a b = a
 pick false a b = b
-
--- Both tests hold.
-abbrev pub both : Bool → Bool → Bool
-both true b = b
-both false b = false

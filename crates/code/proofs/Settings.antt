@@ -8,7 +8,7 @@ use native.Mathlib.Omega.{arith}
 use native.Mathlib.Nat.{not-suc-le-zero, le-of-suc-le-suc}
 use lib.Dec.{T, leb, leb→le}
 use lib.ListN.{length, getD}
-use Rattle.algebra.specs.Ops.{both}
+use Rattle.algebra.proofs.Tests.{and-left, and-right}
 use Rattle.field.specs.Fields.{Good, five-elements, eight-elements}
 use Rattle.code.specs.declared.Setting.{Setting}
 use Rattle.code.specs.Settings.{setting, settings, isSetting, settingOf}
@@ -30,19 +30,11 @@ each-at none i d h = absurd (not-suc-le-zero h)
 each-at (next p rest) zero d h = p
 each-at (next p rest) (suc i) d h = each-at rest i d (le-of-suc-le-suc h)
 
-both-left : (a b : Bool) → T (both a b) → T a
-both-left true b t = tt
-both-left false b t = t
-
-both-right : (a b : Bool) → T (both a b) → T b
-both-right true b t = t
-both-right false b t = absurd t
-
 -- A setting's number is in the list's range.
 pub setting-range : (s : ℕ) → T (isSetting s) → (1 ≤ s) × (s ≤ length settings)
 setting-range s t =
-    ( leb→le 1 s (both-left (leb 1 s) (leb s (length settings)) t)
-    , leb→le s (length settings) (both-right (leb 1 s) (leb s (length settings)) t)
+    ( leb→le 1 s (and-left (leb 1 s) (leb s (length settings)) t)
+    , leb→le s (length settings) (and-right (leb 1 s) (leb s (length settings)) t)
     )
 
 sound : (q k m : ℕ) → Good q → 1 ≤ k → (m + 1) * k ≤ q - 1 → Sound (setting q k m)

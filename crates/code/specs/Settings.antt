@@ -1,12 +1,11 @@
 -- The three settings (01, "Two fields and three settings"), chosen by number, and the code of each.
 -- Holds: `settings`, `isSetting`, `settingOf`, `codeOf`; 01's table of distances, computed.
 use mathlib.Core.Path.{_≡_, refl}
-use mathlib.Core.Bool.{Bool}
+use mathlib.Core.Bool.{Bool, _&&_}
 use mathlib.Core.List.{List, [], _∷_, _++_, map}
 use Prim.Native.Nat.{ℕ, suc, _+_, _-_}
 use lib.Dec.{leb}
 use lib.ListN.{length, getD}
-use Rattle.algebra.specs.Ops.{both}
 use Rattle.field.specs.Fields.{opsOf, alpha}
 use Rattle.code.specs.declared.Setting.{Setting}
 use Rattle.code.specs.Code.{Code, levelDistance, distancesTo, designDistance, limit}
@@ -22,7 +21,7 @@ settings = setting 5 1 2 ∷ setting 8 2 2 ∷ setting 8 3 1 ∷ []
 
 -- Question 1: is it the number of a setting?
 abbrev pub isSetting : ℕ → Bool
-isSetting s = both (leb 1 s) (leb s (length settings))
+isSetting s = leb 1 s && leb s (length settings)
 
 abbrev pub settingOf : ℕ → Setting
 settingOf s = getD settings (s - 1) (setting 0 0 0)

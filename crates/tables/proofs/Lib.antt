@@ -1,2 +1,3 @@
 -- What is shown of the tables.
 pub mod Filled
+pub mod Matrices
