@@ -36,9 +36,10 @@ pub record FieldBelow (q : ℕ) (o : Ops ℕ) : Type 0 where
   pub distributes : (a b c : ℕ) → a < q → b < q → c < q → o .mul a (o .add b c) ≡ o .add (o .mul a b) (o .mul a c)
   pub inverse : (a : ℕ) → a < q → (a ≡ 0 → ⊥) → o .mul a (o .inv a) ≡ 1
 
--- The number α has order n.
+-- The number α has order n: α^0 .. α^(n-1) are distinct numbers below q, and α^n = 1.
 pub record OrderBelow (q : ℕ) (o : Ops ℕ) (n α : ℕ) : Type 0 where
   pub root-below : α < q
+  pub power-below : (i : ℕ) → power o α i < q
   pub distinct : (i j : ℕ) → i < n → j < n → power o α i ≡ power o α j → i ≡ j
   pub full : power o α n ≡ 1
 

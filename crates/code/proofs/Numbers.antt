@@ -18,7 +18,7 @@ use Rattle.algebra.proofs.Order.{Order}
 use Rattle.algebra.proofs.Weights.{total-ext, total-scale, total-blocks}
 use Rattle.algebra.proofs.Naturality.{Homomorphism}
 use Rattle.algebra.proofs.Below.{Below, number, element, number-element, number-injective, fieldBelow, number-keeps, orderBelow, FieldBelow}
-use Rattle.field.specs.Fields.{Good, five-elements, eight-elements, opsOf, alpha}
+use Rattle.field.specs.Fields.{opsOf, alpha}
 use Rattle.field.specs.Symbols.{Symbols}
 use Rattle.field.proofs.Laws.{lawsOf, orderOf}
 use Rattle.code.specs.declared.Setting.{Setting}
@@ -38,13 +38,6 @@ module _ (p : Setting) (S : Sound p) where
   pub laws : FieldBelow (p .q) (opsOf (p .q))
   laws = lawsOf (p .q) (S .good)
 
-  root-below : alpha < p .q
-  root-below = at (S .good)
-    where
-      at : {q : ℕ} → Good q → 2 < q
-      at five-elements = omega arith
-      at eight-elements = omega arith
-
   pub positive : 0 < p .q
   positive = omega (arith, laws .one-below)
 
@@ -59,8 +52,7 @@ module _ (p : Setting) (S : Sound p) where
   unfolding fieldOf rootOf
   orderAt =
       subst (λ (n : ℕ). Order (fieldOf .ops) n rootOf) (sym (S .block))
-      (orderBelow (p .q) (opsOf (p .q)) laws (p .q - 1) alpha positive
-      (record { root-below = root-below; distinct = orderOf (p .q) (S .good) .distinct; full = orderOf (p .q) (S .good) .full }))
+      (orderBelow (p .q) (opsOf (p .q)) laws (p .q - 1) alpha positive (orderOf (p .q) (S .good)))
 
   abbrev pub overField : Code (Below (p .q))
   overField = codeOver fieldOf rootOf (p .n) (p .k) (p .m)
@@ -73,7 +65,7 @@ module _ (p : Setting) (S : Sound p) where
   unfolding rootOf
   mapped-code =
       ap (λ (a : ℕ). record { ops = opsOf (p .q); α = a; n = p .n; k = p .k; m = p .m })
-      (number-element (p .q) positive alpha root-below)
+      (number-element (p .q) positive alpha (orderOf (p .q) (S .good) .root-below))
 
   -- Numbers as elements.
   pub lifted : (ℕ → ℕ → ℕ) → ℕ → ℕ → Below (p .q)

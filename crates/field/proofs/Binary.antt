@@ -13,10 +13,9 @@ use lib.Bits.{bitXor, xor-lt, xor-comm, xor-zero-r, xor-self, xor-shr, xor-shift
 use lib.Dec.{eqb, ltb, lit<}
 use borrow.Author.Tests.{ltb-true, ltb-false, lt-ltb}
 use Rattle.algebra.specs.Ops.{pick}
-use Rattle.algebra.proofs.Below.{FieldBelow}
+use Rattle.algebra.proofs.Below.{FieldBelow, OrderBelow}
 use Rattle.field.specs.Binary.{timesAlpha, timesBits, binary}
 use Rattle.field.proofs.Xor.{xor-assoc, xor-swap, xor-double}
-use Rattle.field.proofs.Order.{OrderBelow}
 use Rattle.field.proofs.Powers.{Addition, Doubling, Listed, Generated, productOf, field-with, order-with, product-nought, product-one, product-comm, product-distributes-right, product-double, one-below}
 
 pub binary-addition : (w : ℕ) → Addition (2 ^ w) bitXor (λ a. a)

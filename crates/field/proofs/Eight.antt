@@ -3,11 +3,10 @@
 use mathlib.Core.List.{List, [], _∷_}
 use Prim.Native.Nat.{ℕ}
 use lib.Dec.{lit<, lit≤}
-use Rattle.algebra.proofs.Below.{FieldBelow}
+use Rattle.algebra.proofs.Below.{FieldBelow, OrderBelow}
 use Rattle.algebra.proofs.Tests.{all}
 use Rattle.field.specs.Binary.{timesAlpha}
 use Rattle.field.specs.Fields.{eight, eightPolynomial, alpha}
-use Rattle.field.proofs.Order.{OrderBelow}
 use Rattle.field.proofs.Powers.{Listed, listed-by-tests}
 use Rattle.field.proofs.Binary.{binary-field, binary-order}
 

@@ -5,11 +5,10 @@ use mathlib.Core.List.{List, [], _∷_}
 use Prim.Native.Nat.{ℕ, _+_, _-_, _*_, _%_, _<_}
 use native.Mathlib.Nat.{mod-lt}
 use lib.Dec.{lit<}
-use Rattle.algebra.proofs.Below.{FieldBelow}
+use Rattle.algebra.proofs.Below.{FieldBelow, OrderBelow}
 use Rattle.algebra.proofs.Tests.{all, same, same-pairs, same-triples}
 use Rattle.field.specs.Modular.{modular}
 use Rattle.field.specs.Fields.{five, alpha}
-use Rattle.field.proofs.Order.{OrderBelow}
 use Rattle.field.proofs.Powers.{Addition, Doubling, Listed, Generated, listed-by-tests, productOf, field-with, order-with}
 
 abbrev sum : ℕ → ℕ → ℕ

@@ -1,11 +1,10 @@
 -- The laws of the field with q elements and the order of α in it, for every q in use.
 -- Holds: `lawsOf`, `orderOf`.
 use Prim.Native.Nat.{ℕ, _-_}
-use Rattle.algebra.proofs.Below.{FieldBelow}
+use Rattle.algebra.proofs.Below.{FieldBelow, OrderBelow}
 use Rattle.field.specs.Modular.{modular}
 use Rattle.field.specs.Binary.{binary}
 use Rattle.field.specs.Fields.{five, eight, alpha, opsOf, Good, five-elements, eight-elements}
-use Rattle.field.proofs.Order.{OrderBelow}
 use Rattle.field.proofs.Five.{five-field, five-order}
 use Rattle.field.proofs.Eight.{eight-field, eight-order}
 

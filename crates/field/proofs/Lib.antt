@@ -1,7 +1,6 @@
 -- The laws of the fields, and facts about symbols.
 pub mod Xor
 pub mod Numbers
-pub mod Order
 pub mod Powers
 pub mod Binary
 pub mod Five

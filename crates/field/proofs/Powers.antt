@@ -14,11 +14,10 @@ use lib.ListN.{getD}
 use borrow.Author.Tests.{eqb-true, eqb-false, ne-eqb}
 use Rattle.algebra.specs.Ops.{pick}
 use Rattle.algebra.specs.Sum.{power}
-use Rattle.algebra.proofs.Below.{FieldBelow}
+use Rattle.algebra.proofs.Below.{FieldBelow, OrderBelow}
 use Rattle.algebra.proofs.Tests.{all, all-at, same, within}
 use Rattle.field.specs.Numbers.{inverseBelow, numbers}
 use Rattle.field.proofs.Numbers.{inverse-found, inverse-below}
-use Rattle.field.proofs.Order.{OrderBelow}
 
 -- The numbers below q are a commutative group.
 pub record Addition (q : ℕ) (add : ℕ → ℕ → ℕ) (neg : ℕ → ℕ) : Type 0 where
@@ -305,6 +304,7 @@ module _ {q n : ℕ} {add : ℕ → ℕ → ℕ} {neg double : ℕ → ℕ} {pow
     pub order-with : OrderBelow q (numbers q add neg mul) n (double 1)
     order-with =
         record {
+          root-below = double-below 1 one-below;
           power-below = λ i. subst (λ (x : ℕ). x < q) (sym (power-is i)) (alpha-below i);
           distinct =
               λ i j hi hj e.
