@@ -12,7 +12,7 @@ use Rattle.code.specs.Code.{limit}
 use Rattle.code.specs.Windows.{transmission, windowDistance, Message, Fits}
 use Rattle.code.proofs.Lists.{equal-part, part-equal}
 use Rattle.code.proofs.Messages.{block-determined, messages-agree, alike-window}
-use Rattle.code.proofs.Settings.{Sound}
+use Rattle.code.specs.Settings.{Sound}
 
 module _ (p : Setting) (S : Sound p) (T : ℕ) where
   -- "Let j be any information block. No reception differs in at most t symbols, over the window starting at block j, from each of the transmissions of

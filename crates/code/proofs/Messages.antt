@@ -18,7 +18,7 @@ use Rattle.code.specs.Transmission.{view, sentSymbol}
 use Rattle.code.specs.Windows.{transmission, windowLength, windowDistance, Message}
 use Rattle.code.proofs.Certainty.{costTo, block-certain, agree-through}
 use Rattle.code.proofs.Lists.{equal-part}
-use Rattle.code.proofs.Settings.{Sound}
+use Rattle.code.specs.Settings.{Sound}
 use Rattle.code.proofs.Numbers.{fieldOf, rootOf, orderAt, overField, lifted, lifted-same, number-lifted, message-below, byteCost, bytes-apart, window-cost}
 
 -- A sum of distances is not zero.

@@ -32,7 +32,7 @@ use Rattle.code.proofs.Blocks.{codeOver}
 use Rattle.code.proofs.Certainty.{costTo}
 use Rattle.code.proofs.Naturality.{mapped, rowSymbol-natural, sentSymbol-natural, combination-natural}
 use Rattle.code.proofs.Lists.{view-tabulate, symbol-below}
-use Rattle.code.proofs.Settings.{Sound}
+use Rattle.code.specs.Settings.{Sound}
 
 module _ (p : Setting) (S : Sound p) where
   pub laws : FieldBelow (p .q) (opsOf (p .q))

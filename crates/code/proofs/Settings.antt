@@ -1,5 +1,5 @@
--- What a setting satisfies, in one record, shown for each setting of the list; everything else follows from it.
--- Holds: `Sound`, `soundOf`.
+-- What every setting satisfies (`Sound`), shown for each setting of the list.
+-- Holds: `Each`, `each-at`, `setting-range`, `soundOf`.
 use mathlib.Core.Path.{_≡_, refl}
 use mathlib.Core.Bool.{Bool, true, false}
 use mathlib.Core.List.{List, [], _∷_}
@@ -11,14 +11,7 @@ use lib.ListN.{length, getD}
 use Rattle.algebra.proofs.Tests.{and-left, and-right}
 use Rattle.field.specs.Fields.{Good, five-elements, eight-elements}
 use Rattle.code.specs.declared.Setting.{Setting}
-use Rattle.code.specs.Settings.{setting, settings, isSetting, settingOf}
-
--- The field is one of ours, a block has one symbol for each of its nonzero elements, information blocks are not empty, and level m has room.
-pub record Sound (p : Setting) : Type 0 where
-  pub good : Good (p .q)
-  pub block : p .n ≡ p .q - 1
-  pub information : 1 ≤ p .k
-  pub room : (p .m + 1) * p .k ≤ p .n
+use Rattle.code.specs.Settings.{setting, settings, isSetting, settingOf, Sound}
 
 -- The property holds of each setting of a list.
 pub data Each (P : Setting → Type 0) : List Setting → Type 0 where

@@ -18,7 +18,7 @@ use Rattle.code.specs.Generator.{rowSymbol}
 use Rattle.code.specs.Transmission.{tabulate}
 use Rattle.code.specs.Settings.{codeOf}
 use Rattle.code.proofs.Lists.{getD-tabulate, length-tabulate}
-use Rattle.code.proofs.Settings.{Sound}
+use Rattle.code.specs.Settings.{Sound}
 use Rattle.code.proofs.Numbers.{rowSymbol-below, positive}
 use Rattle.tables.specs.Tables.{generatorOf, RowsOf}
 

@@ -1,3 +1,4 @@
 -- What is shown of the tables.
 pub mod Filled
 pub mod Matrices
+pub mod Places

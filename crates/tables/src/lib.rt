@@ -4,6 +4,8 @@ ghost use lib.Dec.{T};
 ghost use Rattle.code.specs.Settings.{isSetting, settingOf};
 ghost use Rattle.tables.specs.Tables.{generatorOf, RowsOf, MatrixOf};
 
+pub mod product;
+
 use code::Setting;
 
 // Question 1: "Is the setting 1, 2 or 3?"

@@ -1,0 +1,93 @@
+-- `tables::product::combination`: the loop makes the sum over j of x_(l-j) × G_j.
+use mathlib.Core.Path.{_≡_, refl, sym, ap, ap₂, _∙_}
+use Prim.Native.Nat.{ℕ, _+_, _-_, _*_, _≤_, _<_}
+use native.Mathlib.Nat.{mul-le-mul-right}
+use native.Mathlib.Omega.{arith}
+use denote.Ref.{now}
+use lib.ListN.{length}
+use Rattle.algebra.specs.Sum.{sum}
+use Rattle.field.specs.Fields.{opsOf}
+use Rattle.field.specs.Symbols.{Is}
+use Rattle.code.specs.Generator.{timesG}
+use Rattle.code.specs.Transmission.{view}
+use Rattle.code.specs.Settings.{codeOf}
+use Rattle.code.proofs.Numbers.{positive}
+use Rattle.tables.proofs.Places.{combination-sum, combination-sum-all, sum-more}
+use Rattle.tables.proofs.product.combination.Statement.{statement}
+use Rattle.tables.proofs.product.combination.Tie as tie
+
+abbrev Inv-loop : tie.InvT-loop
+Inv-loop p products rows information l i q k sum₀ j₀ sum j = (j ≤ l + 1) × Is (p .q) sum (combination-sum p information l i j)
+
+abbrev μ-loop : tie.MeasureT-loop
+μ-loop p products rows information l i q k sum₀ j₀ sum j = l + 1 - j
+
+loop-holds : tie.Need-loop-holds Inv-loop μ-loop
+unfolding sum opsOf
+loop-holds c = (omega arith, record { same = refl; below = positive (c .before .args .p) (c .before .pre .0 .sound) })
+
+-- The l - j + 1 blocks up to the one in turn lie within the information.
+within : (c : tie.In-loop Inv-loop μ-loop)
+    → (c .before .before .before .args .l - c .before .loop .j + 1) * c .before .before .before .args .p .k ≤ length (now (c .before .before .before .args .information))
+within c =
+    let entry = c .before .before .before in
+    let top : entry .args .l - c .before .loop .j + 1 ≤ entry .args .l + 1 = omega arith in
+    omega (arith, mul-le-mul-right (entry .args .p .k) top, entry .pre .2)
+
+mul-times-g : tie.Need-mul-times-g Inv-loop μ-loop
+mul-times-g c = omega (arith, within c)
+
+times-g-requires : tie.Need-times-g-requires Inv-loop μ-loop
+times-g-requires c κs =
+    let entry = c .before .before .before in
+    (entry .pre .0, entry .pre .1, omega (arith, within c), omega (arith, entry .pre .3), entry .pre .4)
+
+add-requires : tie.Need-add-requires Inv-loop μ-loop
+add-requires c κs = (c .before .before .before .before .pre .0 .sound .good, c .before .before .loop .inv .1 .below, c .times-g .ensures .below)
+
+add-j : tie.Need-add-j Inv-loop μ-loop
+add-j c = omega (arith, c .before .before .before .before .before .pre .3, c .before .before .before .before .before .pre .0 .small .memory)
+
+loop-less : tie.Need-loop-less Inv-loop μ-loop
+loop-less c = omega arith
+
+loop-again : tie.Need-loop-again Inv-loop μ-loop
+loop-again c =
+    let entry = c .before .before .before .before .before in
+    ( omega arith
+    , record {
+        same =
+          c .add .ensures .same
+          ∙ (ap₂ (opsOf (entry .args .p .q) .add) (c .before .before .before .loop .inv .1 .same) (c .before .times-g .ensures .same)
+          ∙ sum-more (entry .args .p .q) (λ b. timesG (codeOf (entry .args .p)) (view (entry .args .p .k) (now (entry .args .information)) (entry .args .l - b)) b (entry .args .i))
+            (c .before .before .before .loop .j));
+        below = c .add .ensures .below
+      }
+    )
+
+returns : tie.Need-returns Inv-loop μ-loop
+returns c =
+    let entry = c .before .before .before in
+    let all : c .before .loop .j ≡ entry .args .l + 1 = omega arith in
+    record {
+      same =
+        c .before .loop .inv .1 .same
+        ∙ (ap (combination-sum (entry .args .p) (now (entry .args .information)) (entry .args .l) (entry .args .i)) all
+        ∙ combination-sum-all (entry .args .p) (now (entry .args .information)) (entry .args .l) (entry .args .i));
+      below = c .before .loop .inv .1 .below
+    }
+
+pub combination-spec : {M : Type 1} → statement M
+combination-spec =
+    tie.close
+    (tie.spec
+    Inv-loop
+    μ-loop
+    loop-holds
+    mul-times-g
+    times-g-requires
+    add-requires
+    add-j
+    loop-less
+    loop-again
+    returns)

@@ -1,0 +1,120 @@
+-- `tables::product::times_g`: the loop makes the sum over the rows of G_j.
+use mathlib.Core.Path.{_≡_, refl, sym, ap, _∙_}
+use Prim.Native.Nat.{ℕ, _+_, _-_, _*_, _≤_, _<_}
+use native.Mathlib.Omega.{arith}
+use denote.Ref.{now}
+use lib.ListN.{getD}
+use Rattle.algebra.specs.Sum.{sum}
+use Rattle.field.specs.Fields.{opsOf}
+use Rattle.field.specs.Symbols.{Is}
+use Rattle.code.proofs.Lists.{symbol-below}
+use Rattle.code.proofs.Numbers.{positive}
+use Rattle.tables.proofs.Places.{Place, place-of, product-sum, sum-more, product-sum-all}
+use Rattle.tables.proofs.product.times_g.Statement.{statement}
+use Rattle.tables.proofs.product.times_g.Tie as tie
+
+abbrev Inv-loop : tie.InvT-loop
+Inv-loop products rows information from j i q k n sum₀ r₀ sum r = (r ≤ k) × Is q sum (product-sum q rows information from n k j i r)
+
+abbrev μ-loop : tie.MeasureT-loop
+μ-loop products rows information from j i q k n sum₀ r₀ sum r = k - r
+
+loop-holds : tie.Need-loop-holds Inv-loop μ-loop
+unfolding sum opsOf
+loop-holds c = (omega arith, record { same = refl; below = positive (c .before .args .p) (c .before .pre .0 .sound) })
+
+add-add-product : tie.Need-add-add-product Inv-loop μ-loop
+add-add-product c = omega arith
+
+-- The place of the row's symbol.
+placed : (c : tie.After-shared-slice-known2 Inv-loop μ-loop)
+    → Place (c .before .before .before .before .args .p .n) (c .before .before .before .before .args .p .k) (c .before .before .before .before .args .j) (c .before .before .loop .r) (c .before .before .before .before .args .i)
+placed c =
+    let entry = c .before .before .before .before in
+    place-of (entry .args .p) (entry .pre .0 .small) (entry .args .j) (c .before .before .loop .r) (entry .args .i) (entry .pre .3) (c .before .loop-test .taken) (entry .pre .4)
+
+shared-slice-read-add-product : tie.Need-shared-slice-read-add-product Inv-loop μ-loop
+shared-slice-read-add-product c = omega arith
+
+mul-add-product : tie.Need-mul-add-product Inv-loop μ-loop
+mul-add-product c = omega (arith, placed c .group)
+
+add-add-product-2 : tie.Need-add-add-product-2 Inv-loop μ-loop
+add-add-product-2 c = omega (arith, placed c .row)
+
+mul-add-product-2 : tie.Need-mul-add-product-2 Inv-loop μ-loop
+mul-add-product-2 c = omega (arith, placed c .start)
+
+add-add-product-3 : tie.Need-add-add-product-3 Inv-loop μ-loop
+add-add-product-3 c = omega (arith, placed c .place)
+
+element-copy-out-add-product : tie.Need-element-copy-out-add-product Inv-loop μ-loop
+element-copy-out-add-product c = placed c .place
+
+add-product-requires : tie.Need-add-product-requires Inv-loop μ-loop
+add-product-requires c κs =
+    let entry = c .before .before .before .before .before in
+    let positive-q = positive (entry .args .p) (entry .pre .0 .sound) in
+    ( entry .pre .0 .sound .good
+    , entry .pre .0 .products
+    , c .before .before .before .loop .inv .1 .below
+    , symbol-below (entry .args .p .q) (now (entry .args .information)) (entry .pre .1) positive-q (entry .args .from + c .before .before .before .loop .r)
+    , symbol-below (entry .args .p .q) (now (entry .args .rows)) (entry .pre .0 .rows .symbols) positive-q
+      ((entry .args .j * entry .args .p .k + c .before .before .before .loop .r) * entry .args .p .n + entry .args .i)
+    )
+
+add-r : tie.Need-add-r Inv-loop μ-loop
+add-r c = omega (arith, c .before .before .before .before .before .before .pre .0 .small .information)
+
+loop-less : tie.Need-loop-less Inv-loop μ-loop
+loop-less c = omega arith
+
+loop-again : tie.Need-loop-again Inv-loop μ-loop
+loop-again c =
+    let entry = c .before .before .before .before .before .before in
+    let r = c .before .before .before .before .loop .r in
+    ( omega arith
+    , record {
+        same =
+          c .add-product .ensures .same
+          ∙ (ap (λ (t : ℕ). opsOf (entry .args .p .q) .add t
+              (opsOf (entry .args .p .q) .mul (getD (now (entry .args .information)) (entry .args .from + r) 0)
+                (getD (now (entry .args .rows)) ((entry .args .j * entry .args .p .k + r) * entry .args .p .n + entry .args .i) 0)))
+            (c .before .before .before .before .loop .inv .1 .same)
+          ∙ sum-more (entry .args .p .q) _ r);
+        below = c .add-product .ensures .below
+      }
+    )
+
+returns : tie.Need-returns Inv-loop μ-loop
+returns c =
+    let entry = c .before .before .before in
+    let all : c .before .loop .r ≡ entry .args .p .k = omega arith in
+    record {
+      same =
+        c .before .loop .inv .1 .same
+        ∙ (ap (product-sum (entry .args .p .q) (now (entry .args .rows)) (now (entry .args .information)) (entry .args .from) (entry .args .p .n) (entry .args .p .k) (entry .args .j) (entry .args .i)) all
+        ∙ product-sum-all (entry .args .p) (now (entry .args .rows)) (now (entry .args .information)) (entry .args .from) (entry .args .j) (entry .args .i)
+          (entry .pre .0 .rows) (entry .pre .3) (entry .pre .4));
+      below = c .before .loop .inv .1 .below
+    }
+
+pub times-g-spec : {M : Type 1} → statement M
+times-g-spec =
+    tie.close
+    (tie.spec
+    Inv-loop
+    μ-loop
+    loop-holds
+    add-add-product
+    shared-slice-read-add-product
+    mul-add-product
+    add-add-product-2
+    mul-add-product-2
+    add-add-product-3
+    element-copy-out-add-product
+    add-product-requires
+    add-r
+    loop-less
+    loop-again
+    returns)
