@@ -1,0 +1,5 @@
+//! The order link beside the verified one: plain Rust, an exhaustive search and the C interface.
+
+pub mod calls;
+pub mod oracle;
+pub mod sample;
