@@ -1,5 +1,6 @@
 //! The order link beside the verified one: plain Rust, an exhaustive search and the C interface.
 
+pub mod baseline;
 pub mod calls;
 pub mod oracle;
 pub mod sample;
