@@ -1,0 +1,147 @@
+//! Repair of one block: Reed–Solomon decoding at a level, up to half the level's distance.
+
+use super::code::{Block, Code, MAX_N};
+use super::field::Field;
+
+/// A polynomial of degree below the block length, lowest power first.
+type Polynomial = [u8; MAX_N];
+
+/// The level-l codeword within the repair limit of a block, if there is one.
+pub fn repair(code: &Code, l: usize, block: &[u8]) -> Option<Block> {
+    let mut syndromes = Polynomial::default();
+    let syndromes = &mut syndromes[..code.syndrome_count(l)];
+    for (i, syndrome) in syndromes.iter_mut().enumerate() {
+        *syndrome = code.syndrome(block, i);
+    }
+    if syndromes.iter().all(|&syndrome| syndrome == 0) {
+        return Some(code.block(block));
+    }
+    let (locator, degree) = locator(&code.field, syndromes, code.repair_limit(l))?;
+    correct(code, block, syndromes, &locator[..=degree])
+}
+
+/// The product of 1 − X x over the altered places' X = α^i, and its degree, if within the limit
+/// (Massey's shortest register that makes the syndromes).
+fn locator(field: &Field, syndromes: &[u8], limit: usize) -> Option<(Polynomial, usize)> {
+    let mut locator = Polynomial::default();
+    locator[0] = 1;
+    let mut degree = 0;
+    let mut previous = locator;
+    let mut previous_discrepancy = 1;
+    let mut shift = 1;
+    for r in 0..syndromes.len() {
+        let discrepancy = (0..=degree)
+            .fold(0, |sum, i| field.add(sum, field.multiply(locator[i], syndromes[r - i])));
+        if discrepancy == 0 {
+            shift += 1;
+            continue;
+        }
+        let longer = 2 * degree <= r;
+        if longer && r + 1 - degree > limit {
+            return None;
+        }
+        let before = locator;
+        let factor = field.negate(field.divide(discrepancy, previous_discrepancy));
+        field.add_multiple(&mut locator[shift..], factor, &previous);
+        if longer {
+            degree = r + 1 - degree;
+            previous = before;
+            previous_discrepancy = discrepancy;
+            shift = 0;
+        }
+        shift += 1;
+    }
+    Some((locator, degree))
+}
+
+/// The block with the located symbols corrected, if the locator has all its roots among the places.
+fn correct(code: &Code, block: &[u8], syndromes: &[u8], locator: &[u8]) -> Option<Block> {
+    let field = &code.field;
+    let degree = locator.len() - 1;
+    let evaluator = evaluator(field, syndromes, locator);
+    let mut codeword = code.block(block);
+    let mut found = 0;
+    for (symbol, &place) in codeword.iter_mut().zip(code.places()) {
+        let root = field.divide(1, place);
+        if field.value(locator, root) == 0 {
+            let error = error_value(field, &evaluator[..degree], locator, root);
+            *symbol = field.subtract(*symbol, error);
+            found += 1;
+        }
+    }
+    (found == degree).then_some(codeword)
+}
+
+/// Forney's error value at the place 1/root: −Ω(root) / (root Λ'(root)), with locator Λ, evaluator Ω.
+fn error_value(field: &Field, evaluator: &[u8], locator: &[u8], root: u8) -> u8 {
+    let slope = locator.iter().enumerate().rev().fold(0, |value, (i, &coefficient)| {
+        let term = field.multiply(field.integer(i), coefficient);
+        field.add(term, field.multiply(root, value))
+    });
+    field.negate(field.divide(field.value(evaluator, root), slope))
+}
+
+/// The product of syndromes and locator below the locator's degree.
+fn evaluator(field: &Field, syndromes: &[u8], locator: &[u8]) -> Polynomial {
+    let degree = locator.len() - 1;
+    let mut evaluator = Polynomial::default();
+    for (i, &coefficient) in locator.iter().take(degree).enumerate() {
+        field.add_multiple(&mut evaluator[i..degree], coefficient, syndromes);
+    }
+    evaluator
+}
+
+#[cfg(test)]
+mod tests {
+    use super::*;
+    use crate::sample::Random;
+
+    /// All codewords of level l, as sums of multiples of the rows of G_0 to G_l.
+    fn codewords(code: &Code, l: usize) -> Vec<Block> {
+        let mut codewords = vec![Block::default()];
+        for (j, r) in (0..=l).flat_map(|j| (0..code.k).map(move |r| (j, r))) {
+            let multiples = |codeword: &Block| {
+                let codeword = *codeword;
+                (0..code.field.q() as u8).map(move |factor| {
+                    let mut sum = codeword;
+                    code.field.add_multiple(&mut sum[..code.n], factor, code.row(j, r));
+                    sum
+                })
+            };
+            codewords = codewords.iter().flat_map(multiples).collect();
+        }
+        codewords
+    }
+
+    /// The codewords within the repair limit of a block.
+    fn near(code: &Code, l: usize, codewords: &[Block], block: &Block) -> Vec<Block> {
+        let distance = |a: &Block| a.iter().zip(block).filter(|(a, b)| a != b).count();
+        let is_near = |codeword: &&Block| distance(codeword) <= code.repair_limit(l);
+        codewords.iter().filter(is_near).copied().collect()
+    }
+
+    #[test]
+    fn repair_finds_the_one_codeword_within_the_limit() {
+        let random = &mut Random::new(10);
+        for setting in 1..=3 {
+            let code = Code::of(setting).unwrap();
+            for l in 0..=code.m {
+                let codewords = codewords(code, l);
+                for _ in 0..2_000_000 / codewords.len().max(500) {
+                    let mut block = codewords[random.below(codewords.len())];
+                    for _ in 0..random.below(code.repair_limit(l) + 3) {
+                        let place = random.below(code.n);
+                        block[place] = random.below(code.field.q()) as u8;
+                    }
+                    let repaired = repair(code, l, &block[..code.n]);
+                    let near = near(code, l, &codewords, &block);
+                    assert_eq!(
+                        repaired.as_slice(),
+                        near,
+                        "setting {setting}, level {l}: {block:?}"
+                    );
+                }
+            }
+        }
+    }
+}

@@ -1,0 +1,172 @@
+//! The two fields of document 01: symbols as bytes, products as a table.
+
+/// The largest field size of a setting.
+pub const MAX_Q: usize = 8;
+
+/// A field with q elements, each a byte below q, and its primitive element α.
+pub struct Field {
+    q: usize,
+    /// The least number of ones whose sum is 0: q itself, or 2.
+    characteristic: usize,
+    products: [[u8; MAX_Q]; MAX_Q],
+    inverses: [u8; MAX_Q],
+    /// α^0 to α^(q−2).
+    powers: [u8; MAX_Q],
+    /// The sums of no, one, .. ones.
+    integers: [u8; MAX_Q],
+}
+
+impl Field {
+    /// The numbers modulo the prime q.
+    pub const fn prime(q: usize, alpha: u8) -> Field {
+        let mut products = [[0; MAX_Q]; MAX_Q];
+        let mut a = 0;
+        while a < q {
+            let mut b = 0;
+            while b < q {
+                products[a][b] = (a * b % q) as u8;
+                b += 1;
+            }
+            a += 1;
+        }
+        Field::from_products(q, q, alpha, products)
+    }
+
+    /// The polynomials in α over {0, 1}, bit i for α^i, modulo `modulus`.
+    pub const fn binary(q: usize, modulus: usize) -> Field {
+        let mut products = [[0; MAX_Q]; MAX_Q];
+        let mut a = 0;
+        while a < q {
+            let mut b = 0;
+            while b < q {
+                products[a][b] = binary_product(a, b, q, modulus) as u8;
+                b += 1;
+            }
+            a += 1;
+        }
+        Field::from_products(q, 2, 2, products)
+    }
+
+    const fn from_products(
+        q: usize,
+        characteristic: usize,
+        alpha: u8,
+        products: [[u8; MAX_Q]; MAX_Q],
+    ) -> Field {
+        let mut inverses = [0; MAX_Q];
+        let mut a = 1;
+        while a < q {
+            let mut b = 1;
+            while products[a][b] != 1 {
+                b += 1;
+            }
+            inverses[a] = b as u8;
+            a += 1;
+        }
+        let mut integers = [0; MAX_Q];
+        let mut count = 0;
+        while count < q {
+            integers[count] = (count % characteristic) as u8;
+            count += 1;
+        }
+        let mut powers = [1; MAX_Q];
+        let mut i = 1;
+        while i < q - 1 {
+            powers[i] = products[powers[i - 1] as usize][alpha as usize];
+            i += 1;
+        }
+        Field { q, characteristic, products, inverses, powers, integers }
+    }
+
+    pub const fn q(&self) -> usize {
+        self.q
+    }
+
+    #[inline(always)]
+    pub const fn add(&self, a: u8, b: u8) -> u8 {
+        if self.characteristic == 2 {
+            a ^ b
+        } else {
+            let sum = a + b;
+            if sum >= self.q as u8 {
+                sum - self.q as u8
+            } else {
+                sum
+            }
+        }
+    }
+
+    #[inline(always)]
+    pub const fn negate(&self, a: u8) -> u8 {
+        if self.characteristic == 2 || a == 0 {
+            a
+        } else {
+            self.q as u8 - a
+        }
+    }
+
+    #[inline(always)]
+    pub const fn subtract(&self, a: u8, b: u8) -> u8 {
+        self.add(a, self.negate(b))
+    }
+
+    #[inline(always)]
+    pub const fn multiply(&self, a: u8, b: u8) -> u8 {
+        self.products[a as usize][b as usize]
+    }
+
+    /// a / b for a nonzero b.
+    pub const fn divide(&self, a: u8, b: u8) -> u8 {
+        self.multiply(a, self.inverses[b as usize])
+    }
+
+    /// α^i.
+    pub const fn power(&self, i: usize) -> u8 {
+        self.powers[i % (self.q - 1)]
+    }
+
+    /// 1 + .. + 1, `count` times, for a count below q.
+    pub const fn integer(&self, count: usize) -> u8 {
+        self.integers[count]
+    }
+
+    /// Adds factor × row to `sum`, symbol by symbol.
+    #[inline(always)]
+    pub fn add_multiple(&self, sum: &mut [u8], factor: u8, row: &[u8]) {
+        let products = &self.products[factor as usize];
+        for (total, &symbol) in sum.iter_mut().zip(row) {
+            *total = self.add(*total, products[symbol as usize]);
+        }
+    }
+
+    /// The sum of the products of two rows, symbol by symbol.
+    #[inline(always)]
+    pub fn dot(&self, a: &[u8], b: &[u8]) -> u8 {
+        let products = a.iter().zip(b).map(|(&a, &b)| self.multiply(a, b));
+        products.fold(0, |sum, product| self.add(sum, product))
+    }
+
+    /// The value at `point` of a polynomial written lowest power first.
+    pub fn value(&self, polynomial: &[u8], point: u8) -> u8 {
+        let rest = |value, &coefficient| self.add(coefficient, self.multiply(point, value));
+        polynomial.iter().rev().fold(0, rest)
+    }
+}
+
+/// The product of two polynomials over {0, 1}, kept below q by taking the modulus away.
+const fn binary_product(a: usize, b: usize, q: usize, modulus: usize) -> usize {
+    let mut product = 0;
+    let mut shifted = a;
+    let mut rest = b;
+    while rest > 0 {
+        if rest & 1 == 1 {
+            product ^= shifted;
+        }
+        shifted <<= 1;
+        if shifted >= q {
+            shifted ^= modulus;
+        }
+        rest >>= 1;
+    }
+    product
+}

@@ -1,0 +1,92 @@
+//! Fields, settings and the transmission as document 01 defines them.
+
+/// A row of the table of settings.
+pub struct Setting {
+    pub q: u8,
+    pub n: usize,
+    pub k: usize,
+    pub m: usize,
+    pub t: usize,
+}
+
+const SETTINGS: [Setting; 3] = [
+    Setting { q: 5, n: 4, k: 1, m: 2, t: 4 },
+    Setting { q: 8, n: 7, k: 2, m: 2, t: 5 },
+    Setting { q: 8, n: 7, k: 3, m: 1, t: 3 },
+];
+
+impl Setting {
+    /// The setting with a number, if it is 1, 2 or 3.
+    pub fn of(number: u32) -> Option<&'static Setting> {
+        match number {
+            1..=3 => Some(&SETTINGS[number as usize - 1]),
+            _ => None,
+        }
+    }
+
+    /// a + b: modulo 5, or exclusive or.
+    pub fn add(&self, a: u8, b: u8) -> u8 {
+        if self.q == 5 {
+            (a + b) % 5
+        } else {
+            a ^ b
+        }
+    }
+
+    /// a × b: modulo 5, or as polynomials in α with α³ = α + 1.
+    pub fn multiply(&self, a: u8, b: u8) -> u8 {
+        if self.q == 5 {
+            return a * b % 5;
+        }
+        let mut product = (0..3).filter(|i| b >> i & 1 == 1).fold(0, |sum, i| sum ^ a << i);
+        for power in [4, 3] {
+            if product >> power & 1 == 1 {
+                product ^= 0b1011 << (power - 3);
+            }
+        }
+        product
+    }
+
+    /// α^i, with α = 2 in both fields.
+    fn power(&self, i: usize) -> u8 {
+        (0..i).fold(1, |power, _| self.multiply(power, 2))
+    }
+
+    /// The element that gives 0 when added to a.
+    fn negative(&self, a: u8) -> u8 {
+        (0..self.q).find(|&b| self.add(a, b) == 0).unwrap()
+    }
+
+    /// f, the product of x − α^i for i from 0 to n−k−1, lowest power first.
+    fn f(&self) -> Vec<u8> {
+        (0..self.n - self.k).fold(vec![1], |product, i| {
+            let mut next = vec![0; product.len() + 1];
+            for (power, &coefficient) in product.iter().enumerate() {
+                let constant = self.multiply(coefficient, self.negative(self.power(i)));
+                next[power] = self.add(next[power], constant);
+                next[power + 1] = self.add(next[power + 1], coefficient);
+            }
+            next
+        })
+    }
+
+    /// Row r of G_j: x^r f, the coefficient of x^i multiplied by α^(jki).
+    fn row(&self, j: usize, r: usize) -> Vec<u8> {
+        let mut shifted = vec![0; r];
+        shifted.extend(self.f());
+        shifted.resize(self.n, 0);
+        let twist = |(i, &c): (usize, &u8)| self.multiply(c, self.power(j * self.k * i));
+        shifted.iter().enumerate().map(twist).collect()
+    }
+
+    /// Information block × G_j.
+    pub fn contribution(&self, information: &[u8], j: usize) -> Vec<u8> {
+        let mut block = vec![0; self.n];
+        for (r, &factor) in information.iter().enumerate() {
+            for (sum, symbol) in block.iter_mut().zip(self.row(j, r)) {
+                *sum = self.add(*sum, self.multiply(factor, symbol));
+            }
+        }
+        block
+    }
+}

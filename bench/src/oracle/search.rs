@@ -1,0 +1,125 @@
+//! The messages that fit a reception, found by trying all of them.
+
+use super::definition::Setting;
+use std::sync::OnceLock;
+
+/// What every information block contributes to the sent block j places later, for each j.
+struct Contributions {
+    /// All information blocks, the zero block first.
+    information: Vec<Vec<u8>>,
+    /// By j, then by the information block's place in that list.
+    blocks: Vec<Vec<Vec<u8>>>,
+}
+
+/// A search half way: the information blocks chosen so far, the closing zeros among them.
+struct Search<'a> {
+    setting: &'a Setting,
+    contributions: &'a Contributions,
+    reception: Vec<&'a [u8]>,
+    chosen: Vec<usize>,
+    distances: Vec<usize>,
+    found: Vec<Vec<u8>>,
+}
+
+/// Every message that fits a well-formed reception. Demand 3 says that there is at most one.
+pub fn fitting(number: u32, reception: &[u8]) -> Vec<Vec<u8>> {
+    let setting = Setting::of(number).expect("a setting");
+    let mut search = Search {
+        setting,
+        contributions: contributions(number),
+        reception: reception.chunks(setting.n).collect(),
+        chosen: Vec::new(),
+        distances: Vec::new(),
+        found: Vec::new(),
+    };
+    search.extend();
+    search.found
+}
+
+/// The transmission of a well-formed message.
+pub fn transmission(number: u32, message: &[u8]) -> Vec<u8> {
+    let setting = Setting::of(number).expect("a setting");
+    let contributions = contributions(number);
+    let place = |block| contributions.information.iter().position(|other| other == block).unwrap();
+    let mut chosen: Vec<usize> = Vec::new();
+    let mut transmission = Vec::new();
+    let closing = vec![0; setting.m * setting.k];
+    for block in message.chunks(setting.k).chain(closing.chunks(setting.k)) {
+        let earlier = earlier_part(setting, contributions, &chosen);
+        chosen.push(place(block));
+        let own = &contributions.blocks[0][chosen[chosen.len() - 1]];
+        transmission.extend(earlier.iter().zip(own).map(|(&a, &b)| setting.add(a, b)));
+    }
+    transmission
+}
+
+impl Search<'_> {
+    /// Tries every next information block, as long as the blocks of a window are within t.
+    fn extend(&mut self) {
+        let s = self.chosen.len();
+        if s == self.reception.len() {
+            self.found.push(self.message());
+            return;
+        }
+        let closing = s >= self.reception.len() - self.setting.m;
+        let candidates = if closing { 1 } else { self.contributions.information.len() };
+        let earlier = earlier_part(self.setting, self.contributions, &self.chosen);
+        for candidate in 0..candidates {
+            self.chosen.push(candidate);
+            self.distances.push(self.distance(&earlier, candidate));
+            if self.last_window() <= self.setting.t {
+                self.extend();
+            }
+            self.distances.pop();
+            self.chosen.pop();
+        }
+    }
+
+    /// The differences of the next received block from the one sent with this candidate.
+    fn distance(&self, earlier: &[u8], candidate: usize) -> usize {
+        let received = self.reception[self.distances.len()];
+        let own = &self.contributions.blocks[0][candidate];
+        let sent = earlier.iter().zip(own).map(|(&a, &b)| self.setting.add(a, b));
+        sent.zip(received).filter(|(sent, received)| sent != *received).count()
+    }
+
+    /// The differences over the last m+1 blocks, or over all while there are fewer.
+    fn last_window(&self) -> usize {
+        self.distances.iter().rev().take(self.setting.m + 1).sum()
+    }
+
+    fn message(&self) -> Vec<u8> {
+        let blocks = &self.chosen[..self.chosen.len() - self.setting.m];
+        blocks.iter().flat_map(|&block| self.contributions.information[block].clone()).collect()
+    }
+}
+
+/// What the information blocks chosen so far contribute to the next sent block.
+fn earlier_part(setting: &Setting, contributions: &Contributions, chosen: &[usize]) -> Vec<u8> {
+    let recent = chosen.iter().rev().zip(&contributions.blocks[1..]);
+    recent.fold(vec![0; setting.n], |sum, (&block, contribution)| {
+        sum.iter().zip(&contribution[block]).map(|(&a, &b)| setting.add(a, b)).collect()
+    })
+}
+
+/// The contributions of a setting, made once.
+fn contributions(number: u32) -> &'static Contributions {
+    static TABLES: [OnceLock<Contributions>; 3] = [const { OnceLock::new() }; 3];
+    TABLES[number as usize - 1].get_or_init(|| {
+        let setting = Setting::of(number).expect("a setting");
+        let information = all_blocks(setting.q, setting.k);
+        let contribution = |j| information.iter().map(|u| setting.contribution(u, j)).collect();
+        let blocks = (0..=setting.m).map(contribution).collect();
+        Contributions { information, blocks }
+    })
+}
+
+/// All rows of k symbols, the zero row first.
+fn all_blocks(q: u8, k: usize) -> Vec<Vec<u8>> {
+    (0..k).fold(vec![Vec::new()], |rows, _| {
+        let longer = |row: &Vec<u8>| -> Vec<Vec<u8>> {
+            (0..q).map(|symbol| [row.as_slice(), &[symbol]].concat()).collect()
+        };
+        rows.iter().flat_map(longer).collect()
+    })
+}
