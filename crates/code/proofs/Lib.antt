@@ -3,6 +3,7 @@ pub mod Blocks
 pub mod LevelCode
 pub mod Certainty
 pub mod Windows
+pub mod Turns
 pub mod Naturality
 pub mod Lists
 pub mod Settings
