@@ -8,5 +8,6 @@ pub mod Naturality
 pub mod Lists
 pub mod Settings
 pub mod Numbers
+pub mod Reading
 pub mod Messages
 pub mod Demand3
