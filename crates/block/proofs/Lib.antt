@@ -1,0 +1,2 @@
+-- The mathematics of the block step, over any field.
+pub mod Locator
