@@ -1,7 +1,7 @@
 -- Sequences and the recurrence that the locator makes them follow (Berlekamp and Massey's algorithm).
 -- A series c with c_0 = 1 holds the known part of a spectrum from c_1 on. The locator σ of length L annihilates it as far as it is known:
 -- coefficient j of the product σ × c is zero for L < j ≤ s. The former locator is the one before the length last changed, at place p.
--- Holds: `convolution`, `tail`, `Located`, `Subtracted`.
+-- Holds: `convolution`, `tail`, `Located`, `Subtracted`, `Extended`.
 use mathlib.Core.Path.{_≡_}
 use Prim.Native.Nat.{ℕ, zero, suc, _+_, _-_, _≤_, _<_}
 use Rattle.algebra.specs.Ops.{Ops, sub}
@@ -31,3 +31,9 @@ pub record Subtracted {F : Type 0} (o : Ops F) (factor : F) (shift count : ℕ) 
   pub before : (i : ℕ) → i < shift → σ' i ≡ σ i
   pub inside : (i : ℕ) → i < count → σ' (shift + i) ≡ sub o (σ (shift + i)) (o .mul factor (τ i))
   pub after : (i : ℕ) → count ≤ i → σ' (shift + i) ≡ σ (shift + i)
+
+-- d is c up to place r, and for m places more what the recurrence of the locator gives; `values` holds what c has besides.
+pub record Extended {F : Type 0} (o : Ops F) (L r m : ℕ) (σ c d values : ℕ → F) : Type 0 where
+  pub kept : (j : ℕ) → j ≤ r → d j ≡ c j
+  pub recurs : (u : ℕ) → u < m → d (r + 1 + u) ≡ o .neg (tail o L σ d (r + 1 + u))
+  pub difference : (u : ℕ) → u < m → values u ≡ o .add (c (r + 1 + u)) (tail o L σ d (r + 1 + u))
