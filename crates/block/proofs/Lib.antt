@@ -1,3 +1,6 @@
 -- The mathematics of the block step, over any field.
-pub mod Locator
-pub mod Spectrum
+pub mod LocatorStep
+pub mod ErrorSpectrum
+pub mod Accumulated
+pub mod Multiples
+pub mod LocatorBelow

@@ -1,2 +1,4 @@
--- The block step's promise, and the relations that its functions promise of one another.
+-- The block step's promise, and what its functions promise of one another.
+pub mod Area
 pub mod Locator
+pub mod Progress

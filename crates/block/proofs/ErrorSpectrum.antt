@@ -20,7 +20,7 @@ use Rattle.algebra.proofs.Polynomials.{valueOf-scale, valueOf-twist, valueOf-of
 use Rattle.algebra.proofs.Weights.{countOf-mono, zero-test}
 use Rattle.algebra.proofs.Distance.{zero-of-vanishing}
 use Rattle.block.specs.Locator.{convolution, tail, Located, Extended}
-use Rattle.block.proofs.Locator.{convolution-short, convolution-tail}
+use Rattle.block.proofs.LocatorStep.{convolution-short, convolution-tail}
 
 module _ {F : Type 0} (K : Field F) (n : ℕ) (α : F) (order : Order (K .ops) n α) where
   infixl 60 _⊕_

@@ -1,0 +1,43 @@
+-- A loop that adds up: what its sum is before the first term, and after one more.
+-- Holds: `zero-below`, `sum-none`, `sum-more`; `below-set` and `area-set`, an area after a store.
+use mathlib.Core.Path.{_≡_, refl, sym, ap, subst, _∙_}
+use mathlib.Core.List.{List}
+use Prim.Native.Nat.{ℕ, zero, suc, _+_, _<_}
+use native.Mathlib.Numerals.{add-one}
+use native.Mathlib.Omega.{arith}
+use native.Mathlib.Decide.{ℕ-discrete, decLt}
+use lib.ListN.{length, getD, set, length-set}
+use lib.Seq.{getD-set-same, getD-set-other, set-out}
+use lib.Dec.{lit<}
+use Rattle.algebra.specs.Sum.{sum}
+use Rattle.field.specs.Fields.{Good, five-elements, eight-elements, opsOf}
+use Rattle.field.specs.Symbols.{Is}
+use Rattle.block.specs.Area.{Below, Area}
+
+pub zero-below : (q : ℕ) → Good q → 0 < q
+zero-below q five-elements = lit< tt
+zero-below q eight-elements = lit< tt
+
+module _ (q : ℕ) (f : ℕ → ℕ) where
+  pub sum-none : Good q → Is q 0 (sum (opsOf q) 0 f)
+  unfolding sum opsOf
+  sum-none good = record { same = refl; below = zero-below q good }
+
+  pub sum-more : (a s r : ℕ) → Is q s (sum (opsOf q) a f) → Is q r (opsOf q .add s (f a)) → Is q r (sum (opsOf q) (a + 1) f)
+  unfolding sum
+  sum-more a s r h e =
+      record { same = e .same ∙ ap (λ (t : ℕ). opsOf q .add t (f a)) (h .same) ∙ ap (λ (t : ℕ). sum (opsOf q) t f) (sym (add-one a)); below = e .below }
+
+-- The symbols of an area after a store are below q.
+pub below-set : (q : ℕ) (l : List ℕ) (i v : ℕ) → Below q l → v < q → Below q (set l i v)
+below-set q l i v h b j = at (ℕ-discrete j i) (decLt i (length l))
+  where
+    at : Dec (j ≡ i) → Dec (i < length l) → getD (set l i v) j 0 < q
+    at (yes e) (yes s) = subst (λ (t : ℕ). t < q) (sym (ap (λ (t : ℕ). getD (set l i v) t 0) e ∙ getD-set-same l i v 0 s)) b
+    at (yes e) (no d) =
+        let past : length l < suc i = omega arith in
+        subst (λ (t : List ℕ). getD t j 0 < q) (sym (set-out l i v (omega arith))) (h j)
+    at (no d) s = subst (λ (t : ℕ). t < q) (sym (getD-set-other l i j v 0 d)) (h j)
+
+pub area-set : (q : ℕ) (l : List ℕ) (i v : ℕ) → Area q l → v < q → Area q (set l i v)
+area-set q l i v h b = record { size = length-set l i v ∙ h .size; below = below-set q l i v (h .below) b }

@@ -1,0 +1,19 @@
+-- What the functions that make the locator promise, as records over the areas they write.
+-- Holds: `Multiple`, `Placed`.
+use mathlib.Core.List.{List}
+use Prim.Native.Nat.{ℕ, _<_}
+use Rattle.field.specs.Fields.{opsOf}
+use Rattle.block.specs.Area.{Area, at}
+use Rattle.block.specs.Locator.{Subtracted, Located}
+
+-- A multiple of one series, moved up, was subtracted from another.
+pub record Multiple (q factor shift count : ℕ) (source before after : List ℕ) : Type 0 where
+  pub area : Area q after
+  pub subtracted : Subtracted (opsOf q) factor shift count (at source) (at before) (at after)
+
+-- The locator and the former one, in their areas, for the series up to place s.
+pub record Placed (q : ℕ) (series : List ℕ) (s length place scale : ℕ) (locator former : List ℕ) : Type 0 where
+  pub locator-area : Area q locator
+  pub former-area : Area q former
+  pub scale-below : scale < q
+  pub located : Located (opsOf q) (at series) s length place scale (at locator) (at former)

@@ -1,0 +1,64 @@
+// The locator of a series by Berlekamp and Massey's algorithm.
+ghost use Prim.Native.Nat.{_+_, _≤_, _<_};
+ghost use Rattle.field.specs.Fields.{Good, opsOf};
+ghost use Rattle.field.specs.Symbols.{Is};
+ghost use Rattle.field.specs.Tables.{Lent};
+ghost use Rattle.block.specs.Area.{Area, at, capacity};
+ghost use Rattle.block.specs.Locator.{tail as tailOf};
+ghost use Rattle.block.specs.Progress.{Multiple, Placed};
+
+use field::Tables;
+
+// A series of symbols, or a polynomial, lowest power first.
+pub type Series = [u8; 16];
+
+// How far the search for the locator has come: its length, the place where the length last changed, and what undoes the former locator's failure there.
+pub struct Progress {
+    pub length: usize,
+    pub place: usize,
+    pub scale: u8,
+}
+
+// σ_1 c_(j-1) + .. + σ_L c_(j-L) for the locator σ of length L and the series c.
+pub fn tail(
+    q: usize,
+    tables: &Tables,
+    length: usize,
+    locator: &Series,
+    series: &Series,
+    j: usize,
+) -> u8
+    requires { ⌜ Good q × Lent (now tables) × Area q (now locator) × Area q (now series) × (length ≤ j) × (j < capacity) ⌝ }
+    ensures { λ r. ⌜ Is q r (tailOf (opsOf q) length (at (now (locator .entry))) (at (now (series .entry))) j) ⌝ }
+{
+    let mut sum: u8 = 0;
+    let mut a: usize = 0;
+    while a < length {
+        let next = a + 1;
+        sum = field::add_product(q, tables, sum, locator[next], series[j - next]);
+        a = next;
+    }
+    sum
+}
+
+// Subtracts from the target factor times the source, moved up by `shift` places.
+fn subtract_multiple(
+    q: usize,
+    tables: &Tables,
+    factor: u8,
+    shift: usize,
+    count: usize,
+    source: &Series,
+    target: &mut Series,
+)
+    requires { ⌜ Good q × Lent (now tables) × (factor < q) × Area q (now source) × Area q (now target) × (shift + count ≤ capacity) ⌝ }
+    ensures { λ r. ⌜ Multiple q factor shift count (now (source .entry)) (now (target .entry)) (now (target .exit)) ⌝ }
+{
+    let mut i: usize = 0;
+    while i < count {
+        let place = shift + i;
+        let product = field::multiply(q, tables, factor, source[i]);
+        target[place] = field::subtract(q, target[place], product);
+        i += 1;
+    }
+}
