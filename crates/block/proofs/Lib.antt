@@ -4,3 +4,4 @@ pub mod ErrorSpectrum
 pub mod Accumulated
 pub mod Multiples
 pub mod LocatorBelow
+pub mod Placing

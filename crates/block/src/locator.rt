@@ -62,3 +62,41 @@ fn subtract_multiple(
         i += 1;
     }
 }
+
+// One place more: the locator of the series up to place s becomes that up to place s + 1.
+fn advance(
+    q: usize,
+    tables: &Tables,
+    series: &Series,
+    s: usize,
+    progress: Progress,
+    locator: &mut Series,
+    former: &mut Series,
+) -> Progress
+    requires { ⌜ Good q × Lent (now tables) × Area q (now series) × (s + 1 < capacity) × Placed q (now series) s (progress .length) (progress .place) (progress .scale) (now locator) (now former) ⌝ }
+    ensures { λ r. ⌜ Placed q (now (series .entry)) (s + 1) (r .length) (r .place) (r .scale) (now (locator .exit)) (now (former .exit)) ⌝ }
+{
+    let next = s + 1;
+    let length = progress.length;
+    let place = progress.place;
+    let rest = tail(q, tables, length, locator, series, next);
+    let failure = field::add(q, series[next], rest);
+    if failure == 0 {
+        return progress;
+    }
+    let factor = field::multiply(q, tables, failure, progress.scale);
+    let shift = next - place;
+    let count = place - length + 1;
+    if s < length + length {
+        subtract_multiple(q, tables, factor, shift, count, former, locator);
+        return progress;
+    }
+    let kept = *locator;
+    subtract_multiple(q, tables, factor, shift, count, former, locator);
+    *former = kept;
+    Progress {
+        length: next - length,
+        place: next,
+        scale: field::inverse(q, tables, failure),
+    }
+}

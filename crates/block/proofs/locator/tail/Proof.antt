@@ -1,5 +1,6 @@
-use mathlib.Core.Path.{_≡_, subst}
-use Prim.Native.Nat.{ℕ, _≤_, _-_, _+_}
+-- `block::locator::tail` meets its contract. The loop's invariant: the sum so far is that of a terms.
+use mathlib.Core.Path.{_≡_}
+use Prim.Native.Nat.{_≤_, _-_, _+_}
 use native.Mathlib.Omega.{arith}
 use borrow.Author.Needs.{needs}
 use Rattle.field.specs.Fields.{opsOf}
@@ -19,51 +20,42 @@ Inv-loop q tables length locator series j sum₀ a₀ sum a = (a ≤ length) × 
 abbrev μ-loop : tie.MeasureT-loop
 μ-loop q tables length locator series j sum₀ a₀ sum a = length - a
 
--- src/locator.rt:36:5
 loop-holds : tie.Need-loop-holds Inv-loop μ-loop
 unfolding tail
 loop-holds c = (search needs, sum-none _ _ (c .pre .0))
 
--- src/locator.rt:37:20
 add-next : tie.Need-add-next Inv-loop μ-loop
 add-next c = omega arith
 
--- src/locator.rt:38:50
 element-copy-out-add-product : tie.Need-element-copy-out-add-product Inv-loop μ-loop
 element-copy-out-add-product c = omega arith
 
--- src/locator.rt:38:72
 sub-add-product : tie.Need-sub-add-product Inv-loop μ-loop
 sub-add-product c = omega arith
 
--- src/locator.rt:38:65
 element-copy-out-add-product-2 : tie.Need-element-copy-out-add-product-2 Inv-loop μ-loop
 element-copy-out-add-product-2 c = omega arith
 
--- src/locator.rt:38:9
 add-product-requires : tie.Need-add-product-requires Inv-loop μ-loop
 add-product-requires c κs =
     let p = c .before .before .before .before .pre in
     let l = c .before .before .before .loop in
     (p .0, p .1, l .inv .1 .below, p .2 .below (l .a + 1), p .3 .below (c .before .before .before .before .args .j - (l .a + 1)))
 
--- src/locator.rt:36:5
 loop-less : tie.Need-loop-less Inv-loop μ-loop
 loop-less c = omega arith
 
--- src/locator.rt:36:5
 loop-again : tie.Need-loop-again Inv-loop μ-loop
 unfolding tail
 loop-again c =
     let l = c .before .before .before .before .loop in
     (omega arith, sum-more _ _ (l .a) (l .sum) _ (l .inv .1) (c .add-product .ensures))
 
--- src/locator.rt:23:1
 returns : tie.Need-returns Inv-loop μ-loop
 returns c =
     let l = c .before .loop in
     let done : l .a ≡ c .before .before .args .length = omega arith in
-    subst (λ (t : ℕ). Is (c .before .before .args .q) (l .sum) (tail (opsOf (c .before .before .args .q)) t (at (c .before .before .args .locator .now)) (at (c .before .before .args .series .now)) (c .before .before .args .j))) done (l .inv .1)
+    rw done at (l .inv .1)
 
 pub tail-spec : {M : Type 1} → statement M
 tail-spec =
