@@ -1,12 +1,12 @@
 -- A loop that adds up: what its sum is before the first term, and after one more.
--- Holds: `zero-below`, `sum-none`, `sum-more`; `below-set` and `area-set`, an area after a store.
+-- Holds: `zero-below`, `sum-none`, `sum-more`; `zeros-at`, a cleared area; `below-set` and `area-set`, an area after a store.
 use mathlib.Core.Path.{_≡_, refl, sym, ap, subst, _∙_}
 use mathlib.Core.List.{List}
 use Prim.Native.Nat.{ℕ, zero, suc, _+_, _<_}
 use native.Mathlib.Numerals.{add-one}
 use native.Mathlib.Omega.{arith}
 use native.Mathlib.Decide.{ℕ-discrete, decLt}
-use lib.ListN.{length, getD, set, length-set}
+use lib.ListN.{length, getD, set, replicate, length-set}
 use lib.Seq.{getD-set-same, getD-set-other, set-out}
 use lib.Dec.{lit<}
 use Rattle.algebra.specs.Sum.{sum}
@@ -41,3 +41,8 @@ below-set q l i v h b j = at (ℕ-discrete j i) (decLt i (length l))
 
 pub area-set : (q : ℕ) (l : List ℕ) (i v : ℕ) → Area q l → v < q → Area q (set l i v)
 area-set q l i v h b = record { size = length-set l i v ∙ h .size; below = below-set q l i v (h .below) b }
+
+pub zeros-at : (n i : ℕ) → _≡_ {A = ℕ} (getD (replicate n 0) i 0) 0
+zeros-at zero i = refl
+zeros-at (suc n) zero = refl
+zeros-at (suc n) (suc i) = zeros-at n i

@@ -12,22 +12,27 @@ use Rattle.field.specs.Symbols.{Is}
 use Rattle.field.proofs.Laws.{lawsOf}
 use Rattle.block.specs.Area.{Area, at}
 use Rattle.block.specs.Locator.{tail, Located}
-use Rattle.block.specs.Progress.{Multiple, Placed}
+use Rattle.block.specs.Progress.{Unit, Multiple, Placed}
+use Rattle.block.proofs.Accumulated.{zero-below}
 use Rattle.block.proofs.LocatorBelow.{start-below, kept-below, corrected-below, lengthened-below}
 
 module _ (q : ℕ) (good : Good q) where
   B : FieldBelow q (opsOf q)
   B = lawsOf q good
 
-  pub placed-start : (series locator former : List ℕ) → Area q series → Area q locator → Area q former
-      → at series 0 ≡ 1 → at locator 0 ≡ 1 → at former 0 ≡ 1 → ((a : ℕ) → 0 < a → at locator a ≡ 0) → ((a : ℕ) → 0 < a → at former a ≡ 0)
-      → Placed q series 0 0 0 1 locator former
-  placed-start series locator former hs hl hf first l-first f-first l-short f-short =
+  unit-below : (l : List ℕ) → Unit l → (i : ℕ) → at l i < q
+  unit-below l u zero = subst (λ (t : ℕ). t < q) (sym (u .first)) (B .one-below)
+  unit-below l u (suc i) = subst (λ (t : ℕ). t < q) (sym (u .rest (suc i) (omega arith))) (zero-below q good)
+
+  -- Before the first place both locators are 1.
+  pub placed-start : (series l : List ℕ) → Area q series → at series 0 ≡ 1 → Unit l → Placed q series 0 0 0 1 l l
+  placed-start series l h first u =
+      let a : Area q l = record { size = u .size; below = unit-below l u } in
       record {
-        locator-area = hl;
-        former-area = hf;
+        locator-area = a;
+        former-area = a;
         scale-below = B .one-below;
-        located = start-below q (opsOf q) B (at series) (at locator) (at former) (hs .below) (hl .below) (hf .below) first l-first f-first l-short f-short
+        located = start-below q (opsOf q) B (at series) (at l) (at l) (h .below) (a .below) (a .below) first (u .first) (u .first) (u .rest) (u .rest)
       }
 
   module _ (series locator former : List ℕ) (s L p scale rest failure : ℕ) (hs : Area q series) (h : Placed q series s L p scale locator former)

@@ -1,11 +1,12 @@
 // The locator of a series by Berlekamp and Massey's algorithm.
+ghost use mathlib.Core.Path.{_≡_};
 ghost use Prim.Native.Nat.{_+_, _≤_, _<_};
 ghost use Rattle.field.specs.Fields.{Good, opsOf};
 ghost use Rattle.field.specs.Symbols.{Is};
 ghost use Rattle.field.specs.Tables.{Lent};
 ghost use Rattle.block.specs.Area.{Area, at, capacity};
 ghost use Rattle.block.specs.Locator.{tail as tailOf};
-ghost use Rattle.block.specs.Progress.{Multiple, Placed};
+ghost use Rattle.block.specs.Progress.{Unit, Multiple, Placed, Found};
 
 use field::Tables;
 
@@ -99,4 +100,33 @@ fn advance(
         place: next,
         scale: field::inverse(q, tables, failure),
     }
+}
+
+// 1, 0, 0, ..
+fn unit() -> Series
+    ensures { λ r. ⌜ Unit r ⌝ }
+{
+    let mut series = [0u8; 16];
+    series[0] = 1;
+    series
+}
+
+// The locator of the series up to place r; answers with its length.
+pub fn locate(q: usize, tables: &Tables, series: &Series, r: usize, locator: &mut Series) -> usize
+    requires { ⌜ Good q × Lent (now tables) × Area q (now series) × (at (now series) 0 ≡ 1) × (r < capacity) ⌝ }
+    ensures { λ length. ⌜ Found q (now (series .entry)) r length (now (locator .exit)) ⌝ }
+{
+    let mut former = unit();
+    *locator = former;
+    let mut progress = Progress {
+        length: 0,
+        place: 0,
+        scale: 1,
+    };
+    let mut s: usize = 0;
+    while s < r {
+        progress = advance(q, tables, series, s, progress, locator, &mut former);
+        s += 1;
+    }
+    progress.length
 }
