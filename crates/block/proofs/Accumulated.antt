@@ -1,5 +1,5 @@
 -- A loop that adds up: what its sum is before the first term, and after one more.
--- Holds: `zero-below`, `sum-none`, `sum-more`; `zeros-at`, a cleared area; `below-set` and `area-set`, an area after a store.
+-- Holds: `zero-below`, `alpha-below`, `sum-none`, `sum-more`; `zeros-at`, a cleared area; `below-set` and `area-set`, an area after a store.
 use mathlib.Core.Path.{_≡_, refl, sym, ap, subst, _∙_}
 use mathlib.Core.List.{List}
 use Prim.Native.Nat.{ℕ, zero, suc, _+_, _<_}
@@ -10,13 +10,17 @@ use lib.ListN.{length, getD, set, replicate, length-set}
 use lib.Seq.{getD-set-same, getD-set-other, set-out}
 use lib.Dec.{lit<}
 use Rattle.algebra.specs.Sum.{sum}
-use Rattle.field.specs.Fields.{Good, five-elements, eight-elements, opsOf}
+use Rattle.field.specs.Fields.{Good, five-elements, eight-elements, opsOf, alpha}
 use Rattle.field.specs.Symbols.{Is}
 use Rattle.block.specs.Area.{Below, Area}
 
 pub zero-below : (q : ℕ) → Good q → 0 < q
 zero-below q five-elements = lit< tt
 zero-below q eight-elements = lit< tt
+
+pub alpha-below : (q : ℕ) → Good q → alpha < q
+alpha-below q five-elements = lit< tt
+alpha-below q eight-elements = lit< tt
 
 module _ (q : ℕ) (f : ℕ → ℕ) where
   pub sum-none : Good q → Is q 0 (sum (opsOf q) 0 f)

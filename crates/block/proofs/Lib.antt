@@ -5,3 +5,4 @@ pub mod Accumulated
 pub mod Multiples
 pub mod LocatorBelow
 pub mod Placing
+pub mod Spectra

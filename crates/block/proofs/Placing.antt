@@ -1,5 +1,5 @@
 -- One place more in the search for the locator, as the code has it: areas and the numbers of its progress.
--- Holds: `placed-start`, `placed-kept`, `placed-corrected`, `placed-lengthened`.
+-- Holds: `unit-area`, `placed-start`, `placed-kept`, `placed-corrected`, `placed-lengthened`.
 use mathlib.Core.Path.{_≡_, refl, sym, ap, ap₂, subst, _∙_}
 use mathlib.Core.List.{List}
 use Prim.Native.Nat.{ℕ, zero, suc, _+_, _-_, _≤_, _<_}
@@ -24,10 +24,13 @@ module _ (q : ℕ) (good : Good q) where
   unit-below l u zero = subst (λ (t : ℕ). t < q) (sym (u .first)) (B .one-below)
   unit-below l u (suc i) = subst (λ (t : ℕ). t < q) (sym (u .rest (suc i) (omega arith))) (zero-below q good)
 
+  pub unit-area : (l : List ℕ) → Unit l → Area q l
+  unit-area l u = record { size = u .size; below = unit-below l u }
+
   -- Before the first place both locators are 1.
   pub placed-start : (series l : List ℕ) → Area q series → at series 0 ≡ 1 → Unit l → Placed q series 0 0 0 1 l l
   placed-start series l h first u =
-      let a : Area q l = record { size = u .size; below = unit-below l u } in
+      let a : Area q l = unit-area l u in
       record {
         locator-area = a;
         former-area = a;

@@ -2,3 +2,4 @@
 pub mod Area
 pub mod Locator
 pub mod Progress
+pub mod Spectrum

@@ -103,7 +103,7 @@ fn advance(
 }
 
 // 1, 0, 0, ..
-fn unit() -> Series
+pub fn unit() -> Series
     ensures { λ r. ⌜ Unit r ⌝ }
 {
     let mut series = [0u8; 16];
