@@ -6,3 +6,5 @@ pub mod Multiples
 pub mod LocatorBelow
 pub mod Placing
 pub mod Spectra
+pub mod Candidate
+pub mod CandidateBelow

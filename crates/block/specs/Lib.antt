@@ -3,3 +3,4 @@ pub mod Area
 pub mod Locator
 pub mod Progress
 pub mod Spectrum
+pub mod Step
