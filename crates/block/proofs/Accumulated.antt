@@ -1,15 +1,20 @@
 -- A loop that adds up: what its sum is before the first term, and after one more.
--- Holds: `zero-below`, `alpha-below`, `sum-none`, `sum-more`; `zeros-at`, a cleared area; `below-set` and `area-set`, an area after a store.
+-- Holds: `zero-below`, `alpha-below`, `sum-none`, `sum-more`; `zeros-at`, a cleared area; `below-set` and `area-set`, an area after a store; `distance-none`, `distance-same`, `distance-more`; `square-place`.
 use mathlib.Core.Path.{_≡_, refl, sym, ap, subst, _∙_}
+use mathlib.Core.Bool.{Bool, true, false, not}
 use mathlib.Core.List.{List}
-use Prim.Native.Nat.{ℕ, zero, suc, _+_, _<_}
+use Prim.Native.Nat.{ℕ, zero, suc, _+_, _*_, _≤_, _<_}
+use native.Mathlib.Nat.{mul-le-mul-right}
 use native.Mathlib.Numerals.{add-one}
 use native.Mathlib.Omega.{arith}
 use native.Mathlib.Decide.{ℕ-discrete, decLt}
 use lib.ListN.{length, getD, set, replicate, length-set}
 use lib.Seq.{getD-set-same, getD-set-other, set-out}
-use lib.Dec.{lit<}
+use lib.Dec.{eqb, lit<}
+use borrow.Author.Tests.{eq-eqb, ne-eqb}
+use Rattle.algebra.specs.Ops.{pick}
 use Rattle.algebra.specs.Sum.{sum}
+use Rattle.algebra.specs.Weight.{total, distance}
 use Rattle.field.specs.Fields.{Good, five-elements, eight-elements, opsOf, alpha}
 use Rattle.field.specs.Symbols.{Is}
 use Rattle.block.specs.Area.{Below, Area}
@@ -50,3 +55,23 @@ pub zeros-at : (n i : ℕ) → _≡_ {A = ℕ} (getD (replicate n 0) i 0) 0
 zeros-at zero i = refl
 zeros-at (suc n) zero = refl
 zeros-at (suc n) (suc i) = zeros-at n i
+
+-- A count of differing places: none yet, one more place that agrees, one more that differs.
+module _ (a b : ℕ → ℕ) where
+  pub distance-none : 0 ≡ distance 0 a b
+  unfolding total
+  distance-none = refl
+
+  at-next : (i : ℕ) (t : Bool) → eqb (a i) (b i) ≡ t → distance (i + 1) a b ≡ distance i a b + pick (not t) 1 0
+  unfolding total
+  at-next i t e = ap (λ (j : ℕ). distance j a b) (add-one i) ∙ ap (λ (s : Bool). distance i a b + pick (not s) 1 0) e
+
+  pub distance-same : (i : ℕ) → a i ≡ b i → distance i a b ≡ distance (i + 1) a b
+  distance-same i e = omega (arith, at-next i true (eq-eqb (a i) (b i) e))
+
+  pub distance-more : (i : ℕ) → (a i ≡ b i → ⊥) → distance i a b + 1 ≡ distance (i + 1) a b
+  distance-more i d = omega (arith, at-next i false (ne-eqb (a i) (b i) d))
+
+-- Places of a square of k rows.
+pub square-place : (k a e : ℕ) → a < k → e < k → a * k + e < k * k
+square-place k a e h l = let next : a + 1 ≤ k = omega arith in omega (arith, mul-le-mul-right k next)

@@ -4,7 +4,6 @@ use mathlib.Core.Path.{_≡_, refl, sym, ap, ap₂, subst, fun-ext, _∙_}
 use mathlib.Core.Bool.{Bool, true, false, not}
 use mathlib.Core.List.{List}
 use Prim.Native.Nat.{ℕ, zero, suc, _+_, _-_, _*_, _≤_, _<_}
-use native.Mathlib.Nat.{mul-le-mul-right}
 use native.Mathlib.Numerals.{add-one}
 use native.Mathlib.Omega.{arith}
 use lib.Dec.{T, eqb}
@@ -39,6 +38,7 @@ use Rattle.block.specs.Progress.{Found}
 use Rattle.block.specs.Spectrum.{SpectrumOf, Continued}
 use Rattle.block.specs.Step.{blockCost, Information, Read}
 use Rattle.block.proofs.Accumulated.{alpha-below}
+use Rattle.block.proofs.Levels.{level-fits}
 use Rattle.block.proofs.LocatorBelow.{K, positive, el, up, down, raise, fall, zero-down, one-down, add-down, mul-down, neg-down, sum-down, tail-down, located-up}
 use Rattle.block.proofs.ErrorSpectrum.{spectrum}
 use Rattle.block.proofs.Candidate.{information-of-near}
@@ -114,7 +114,7 @@ module _ (p : Setting) (S : Sound p) where
 
   module _ (l : ℕ) (level : l ≤ p .m) (block : List ℕ) (long : length block ≡ p .n) (symbols : Symbols q block) where
     fits : (l + 1) * p .k ≤ p .n
-    fits = let up-to : l + 1 ≤ p .m + 1 = omega arith in omega (arith, mul-le-mul-right (p .k) up-to, S .room)
+    fits = level-fits p S l level
 
     block-below : (i : ℕ) → at block i < q
     block-below = symbol-below q block symbols (positive q o B)

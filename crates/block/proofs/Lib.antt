@@ -8,3 +8,5 @@ pub mod Placing
 pub mod Spectra
 pub mod Candidate
 pub mod CandidateBelow
+pub mod Levels
+pub mod Reading
