@@ -1,5 +1,5 @@
 -- A loop that adds up: what its sum is before the first term, and after one more.
--- Holds: `zero-below`, `alpha-below`, `sum-none`, `sum-more`; `zeros-at`, a cleared area; `below-set` and `area-set`, an area after a store; `distance-none`, `distance-same`, `distance-more`; `square-place`.
+-- Holds: `zero-below`, `alpha-below`, `sum-none`, `sum-more`; `zeros-at`, a cleared area; `below-set` and `area-set`, an area after a store; `distance-none`, `distance-le`, `distance-same`, `distance-more`; `square-place`.
 use mathlib.Core.Path.{_≡_, refl, sym, ap, subst, _∙_}
 use mathlib.Core.Bool.{Bool, true, false, not}
 use mathlib.Core.List.{List}
@@ -15,6 +15,7 @@ use borrow.Author.Tests.{eq-eqb, ne-eqb}
 use Rattle.algebra.specs.Ops.{pick}
 use Rattle.algebra.specs.Sum.{sum}
 use Rattle.algebra.specs.Weight.{total, distance}
+use Rattle.algebra.proofs.Weights.{countOf-le}
 use Rattle.field.specs.Fields.{Good, five-elements, eight-elements, opsOf, alpha}
 use Rattle.field.specs.Symbols.{Is}
 use Rattle.block.specs.Area.{Below, Area}
@@ -61,6 +62,9 @@ module _ (a b : ℕ → ℕ) where
   pub distance-none : 0 ≡ distance 0 a b
   unfolding total
   distance-none = refl
+
+  pub distance-le : (n : ℕ) → distance n a b ≤ n
+  distance-le n = countOf-le n (λ i. not (eqb (a i) (b i)))
 
   at-next : (i : ℕ) (t : Bool) → eqb (a i) (b i) ≡ t → distance (i + 1) a b ≡ distance i a b + pick (not t) 1 0
   unfolding total

@@ -10,3 +10,4 @@ pub mod Candidate
 pub mod CandidateBelow
 pub mod Levels
 pub mod Reading
+pub mod Answers

@@ -1,3 +1,15 @@
+-- `block::repair` meets its contract: what its parts promise gives the two answers.
+use mathlib.Core.Path.{_≡_}
+use Prim.Native.Nat.{_+_, _*_, _≤_, _<_}
+use native.Mathlib.Omega.{arith}
+use Rattle.code.specs.Transmission.{view}
+use Rattle.code.specs.Level.{combination}
+use Rattle.code.specs.Settings.{codeOf}
+use Rattle.code.proofs.Lists.{symbol-below}
+use Rattle.block.specs.Area.{at}
+use Rattle.block.proofs.Accumulated.{zero-below, distance-le}
+use Rattle.block.proofs.Levels.{level-fits, block-short, matrix-small}
+use Rattle.block.proofs.Answers.{step-near, step-far}
 use borrow.Author.Needs.{needs}
 use Rattle.block.proofs.repair.Statement.{statement}
 use Rattle.block.proofs.repair.Tie as tie
@@ -10,53 +22,71 @@ use Rattle.block.proofs.locator.unit.Reads as unit-reads
 use Rattle.block.proofs.spectrum.extend.Reads as extend-reads
 use Rattle.block.proofs.spectrum.spectrum.Reads as spectrum-reads
 
--- src/lib.rt:35:18
 add-blocks : tie.Need-add-blocks
 add-blocks c = search needs
 
--- src/lib.rt:36:17
 mul-count : tie.Need-mul-count
-mul-count c = ?
+mul-count c = let p = c .before .pre in let a = c .before .args in omega (arith, level-fits (a .p) (p .0 .sound) (a .l) (p .4), block-short (a .p) (p .0 .sound) (p .0 .small))
 
--- src/lib.rt:37:17
 sub-zeros : tie.Need-sub-zeros
-sub-zeros c = ?
+sub-zeros c = let p = c .before .before .pre in let a = c .before .before .args in omega (arith, level-fits (a .p) (p .0 .sound) (a .l) (p .4))
 
--- src/lib.rt:38:22
 spectrum-requires : tie.Need-spectrum-requires
 spectrum-requires c κs = search needs
 
--- src/lib.rt:39:23
 unit-requires : tie.Need-unit-requires
 unit-requires c κs = search needs
 
--- src/lib.rt:40:9
 locate-requires : tie.Need-locate-requires
 locate-requires c κs = search needs
 
--- src/lib.rt:41:18
 extend-requires : tie.Need-extend-requires
-extend-requires c κs = ?
+extend-requires c κs =
+    let p = c .before .before .before .before .before .before .before .before .before .pre in
+    let a = c .before .before .before .before .before .before .before .before .before .args in
+    let placed = c .before .before .locate .ensures .placed in
+    ( p .0 .sound .good
+    , p .0 .products
+    , placed .locator-area
+    , c .before .before .before .before .before .before .spectrum .ensures .area
+    , omega (arith, placed .located .grown, placed .located .placed)
+    , omega (arith, level-fits (a .p) (p .0 .sound) (a .l) (p .4), block-short (a .p) (p .0 .sound) (p .0 .small))
+    )
 
--- src/lib.rt:42:17
 read-requires : tie.Need-read-requires
-read-requires c κs = ?
+read-requires c κs =
+    let p = c .before .before .before .before .before .before .before .before .before .before .before .pre in
+    let a = c .before .before .before .before .before .before .before .before .before .before .before .args in
+    ( p .0 .sound .good
+    , p .0 .products
+    , p .0 .sound .information
+    , matrix-small (a .p) (p .0 .small)
+    , omega (arith, level-fits (a .p) (p .0 .sound) (a .l) (p .4), block-short (a .p) (p .0 .sound) (p .0 .small))
+    , symbol-below (a .p .q) (a .matrix .now) (p .1 .symbols) (zero-below (a .p .q) (p .0 .sound .good))
+    , c .before .extend .ensures .values-area
+    )
 
--- src/lib.rt:44:9
 differing-requires : tie.Need-differing-requires
 differing-requires c κs = search needs
 
--- src/lib.rt:45:8
 mul-if1 : tie.Need-mul-if1
-mul-if1 c = ?
+mul-if1 c =
+    let p = c .before .before .before .before .before .before .before .before .before .before .before .before .before .before .pre in
+    let a = c .before .before .before .before .before .before .before .before .before .before .before .before .before .before .args in
+    let few = distance-le (at (a .block .now)) (combination (codeOf (a .p)) (a .l) (view (a .p .k) (c .before .before .read .result))) (a .p .n) in
+    omega (arith, c .differing .ensures, few, block-short (a .p) (p .0 .sound) (p .0 .small))
 
--- src/lib.rt:46:9
 returns : tie.Need-returns
-returns c = ?
+returns c =
+    let p = c .before .before .before .before .before .before .before .before .before .before .before .before .before .before .before .pre in
+    let a = c .before .before .before .before .before .before .before .before .before .before .before .before .before .before .before .args in
+    step-near (a .p) (p .0 .sound) (a .l) (p .4) _ _ _ _ _ _ _ _ _ (p .2) (p .3) (p .1) (c .before .before .before .before .before .before .before .before .before .before .before .before .spectrum .ensures) (c .before .before .before .before .before .before .before .before .locate .ensures) (c .before .before .before .before .before .extend .ensures) (c .before .before .before .read .ensures) (c .before .differing .ensures) (c .if1 .taken)
 
--- src/lib.rt:21:1
 returns-2 : tie.Need-returns-2
-returns-2 c = ?
+returns-2 c =
+    let p = c .before .before .before .before .before .before .before .before .before .before .before .before .before .before .before .pre in
+    let a = c .before .before .before .before .before .before .before .before .before .before .before .before .before .before .before .args in
+    step-far (a .p) (p .0 .sound) (a .l) (p .4) _ _ _ _ _ _ _ _ _ (p .2) (p .3) (p .1) (c .before .before .before .before .before .before .before .before .before .before .before .before .spectrum .ensures) (c .before .before .before .before .before .before .before .before .locate .ensures) (c .before .before .before .before .before .extend .ensures) (c .before .before .before .read .ensures) (c .before .differing .ensures) (c .if1 .left)
 
 pub repair-spec : {M : Type 1} → statement M
 repair-spec =
