@@ -28,11 +28,11 @@ use Rattle.block.proofs.CandidateBelow.{combination-same, read-of-near}
 module _ (p : Setting) (S : Sound p) (l : ℕ) (level : l ≤ p .m) (block matrix series after values locator found : List ℕ) (L count : ℕ)
     (long : length block ≡ p .n) (symbols : Symbols (p .q) block) (M : MatrixOf p matrix)
     (spectral : SpectrumOf (p .q) block (length block) series)
-    (located : Found (p .q) series (p .n - (l + 1) * p .k) L locator)
+    (located : Found (p .q) series (p .n - (l + 1) * p .k + 1) L locator)
     (continued : Continued (p .q) L (p .n - (l + 1) * p .k) ((l + 1) * p .k) locator series after values)
     (reads : Read (p .q) (p .k) (l + 1) matrix values found)
     (counted : count ≡ distance (p .n) (at block) (combination (codeOf p) l (view (p .k) found))) where
-  pub step-near : 2 * count ≤ p .n - (l + 1) * p .k → Step p l block found true
+  pub step-near : 2 * count < levelDistance (p .n) (p .k) l → Step p l block found true
   step-near h = near (λ b r s t. reads .area .below (b * p .k + r)) (omega (arith, counted))
 
   -- If the information x were near, it would be what was read, and its count the count.
@@ -49,7 +49,7 @@ module _ (p : Setting) (S : Sound p) (l : ℕ) (level : l ≤ p .m) (block matri
             (subst (λ (t : ℕ). SpectrumOf (p .q) block t series) long spectral) located continued
             (symbol-below (p .q) matrix (M .symbols) (positive p S)) (M .inverses) reads
 
-  pub step-far : p .n - (l + 1) * p .k < 2 * count → Step p l block found false
+  pub step-far : levelDistance (p .n) (p .k) l ≤ 2 * count → Step p l block found false
   step-far h = far (λ x information. by-cost x information (decLt (blockCost p l block x) (levelDistance (p .n) (p .k) l)))
     where
       by-cost : (x : ℕ → ℕ → ℕ) → Information p l x → Dec (blockCost p l block x < levelDistance (p .n) (p .k) l) → levelDistance (p .n) (p .k) l ≤ blockCost p l block x

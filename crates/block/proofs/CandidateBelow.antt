@@ -33,7 +33,7 @@ use Rattle.code.proofs.Blocks.{codeOver}
 use Rattle.code.proofs.Naturality.{mapped, combination-natural, evaluation-natural}
 use Rattle.code.proofs.Lists.{symbol-below}
 use Rattle.block.specs.Area.{at}
-use Rattle.block.specs.Locator.{tail, Extended}
+use Rattle.block.specs.Locator.{tail, Located, Extended}
 use Rattle.block.specs.Progress.{Found}
 use Rattle.block.specs.Spectrum.{SpectrumOf, Continued}
 use Rattle.block.specs.Step.{blockCost, Information, Read}
@@ -169,7 +169,7 @@ module _ (p : Setting) (S : Sound p) where
 
       pub read-of-near : (series after values locator matrix found : List ℕ) (L : ℕ)
           → blockCost p l block x < levelDistance (p .n) (p .k) l
-          → SpectrumOf q block (p .n) series → Found q series (p .n - (l + 1) * p .k) L locator
+          → SpectrumOf q block (p .n) series → Found q series (p .n - (l + 1) * p .k + 1) L locator
           → Continued q L (p .n - (l + 1) * p .k) ((l + 1) * p .k) locator series after values
           → ((i : ℕ) → at matrix i < q) → Inverses (codeOf p) (view (p .k) matrix)
           → Read q (p .k) (l + 1) matrix values found
@@ -189,8 +189,11 @@ module _ (p : Setting) (S : Sound p) where
               L (located .place) (el q o B (located .scale)) (up q o B (at locator)) (up q o B (at (located .former)))
               (located-up q o B (at series) (at locator) (at (located .former)) (located .scale)
                 (spectral .area .below) (located .placed .locator-area .below) (located .placed .former-area .below) (located .placed .scale-below)
-                (located .placed .located))
+                (subst (λ (t : ℕ). Located o (at series) t L (located .place) (located .scale) (at locator) (at (located .former))) all-known (located .placed .located)))
               (extended-up L (p .n - (l + 1) * p .k) ((l + 1) * p .k) (at locator) (at series) (at after) (at values)
                 (located .placed .locator-area .below) (spectral .area .below) (continued .area .below) (continued .values-area .below) (continued .extended))
               (λ d e. el q o B (view (p .k) matrix d e)) (inverses-up (view (p .k) matrix) (λ d e. matrix-below (d * p .k + e)) inverses)
               b a below inside)
+        where
+          all-known : p .n - (l + 1) * p .k + 1 - 1 ≡ p .n - (l + 1) * p .k
+          all-known = omega arith

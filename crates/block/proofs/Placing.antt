@@ -3,7 +3,6 @@
 use mathlib.Core.Path.{_≡_, refl, sym, ap, ap₂, subst, _∙_}
 use mathlib.Core.List.{List}
 use Prim.Native.Nat.{ℕ, zero, suc, _+_, _-_, _≤_, _<_}
-use native.Mathlib.Numerals.{add-one}
 use native.Mathlib.Omega.{arith}
 use lib.ListN.{getD}
 use Rattle.algebra.proofs.Below.{FieldBelow}
@@ -38,61 +37,58 @@ module _ (q : ℕ) (good : Good q) where
         located = start-below q (opsOf q) B (at series) (at l) (at l) (h .below) (a .below) (a .below) first (u .first) (u .first) (u .rest) (u .rest)
       }
 
-  module _ (series locator former : List ℕ) (s L p scale rest failure : ℕ) (hs : Area q series) (h : Placed q series s L p scale locator former)
-      (sums : Is q rest (tail (opsOf q) L (at locator) (at series) (s + 1))) (fails : Is q failure (opsOf q .add (at series (s + 1)) rest)) where
-    next : suc s ≡ s + 1
-    next = sym (add-one s)
-
+  module _ (series locator former : List ℕ) (s next L p scale rest failure : ℕ) (step : suc s ≡ next) (hs : Area q series) (h : Placed q series s L p scale locator former)
+      (sums : Is q rest (tail (opsOf q) L (at locator) (at series) next)) (fails : Is q failure (opsOf q .add (at series next) rest)) where
     failure-is : failure ≡ opsOf q .add (at series (suc s)) (tail (opsOf q) L (at locator) (at series) (suc s))
     failure-is =
         fails .same
-        ∙ ap₂ (λ (t u : ℕ). opsOf q .add (at series t) u) (add-one s)
-          (sums .same ∙ ap (tail (opsOf q) L (at locator) (at series)) (add-one s))
+        ∙ ap₂ (λ (t u : ℕ). opsOf q .add (at series t) u) (sym step)
+          (sums .same ∙ ap (tail (opsOf q) L (at locator) (at series)) (sym step))
 
-    pub placed-kept : failure ≡ 0 → Placed q series (s + 1) L p scale locator former
+    pub placed-kept : failure ≡ 0 → Placed q series next L p scale locator former
     placed-kept e =
         record {
           locator-area = h .locator-area;
           former-area = h .former-area;
           scale-below = h .scale-below;
           located =
-            subst (λ (t : ℕ). Located (opsOf q) (at series) t L p scale (at locator) (at former)) next
+            subst (λ (t : ℕ). Located (opsOf q) (at series) t L p scale (at locator) (at former)) step
             (kept-below q (opsOf q) B (at series) (at locator) (at former) scale (hs .below) (h .locator-area .below) (h .former-area .below) (h .scale-below)
               (h .located) (sym failure-is ∙ e ∙ sym (B .zero-is)))
         }
 
     module _ (factor : ℕ) (locator' : List ℕ) (multiplied : Is q factor (opsOf q .mul failure scale))
-        (M : Multiple q factor (s + 1 - p) (p - L + 1) former locator locator') where
-      at-place : s + 1 - p + p ≡ suc s
-      at-place = omega (arith, h .located .placed)
+        (M : Multiple q factor (next - p) (p - L + 1) former locator locator') where
+      at-place : next - p + p ≡ suc s
+      at-place = omega (arith, step, h .located .placed)
 
       enough : p - L + 1 + L ≡ suc p
       enough = omega (arith, h .located .grown)
 
-      pub placed-corrected : s < L + L → Placed q series (s + 1) L p scale locator' former
+      pub placed-corrected : next ≤ L + L → Placed q series next L p scale locator' former
       placed-corrected l =
           record {
             locator-area = M .area;
             former-area = h .former-area;
             scale-below = h .scale-below;
             located =
-              subst (λ (t : ℕ). Located (opsOf q) (at series) t L p scale (at locator') (at former)) next
-              (corrected-below q (opsOf q) B (at series) (at locator) (at former) (at locator') scale failure factor (s + 1 - p) (p - L + 1)
+              subst (λ (t : ℕ). Located (opsOf q) (at series) t L p scale (at locator') (at former)) step
+              (corrected-below q (opsOf q) B (at series) (at locator) (at former) (at locator') scale failure factor (next - p) (p - L + 1)
                 (hs .below) (h .locator-area .below) (h .former-area .below) (M .area .below) (h .scale-below) (fails .below) (multiplied .below)
-                (h .located) failure-is (multiplied .same) at-place enough (M .subtracted) l)
+                (h .located) failure-is (multiplied .same) at-place enough (M .subtracted) (omega (arith, step)))
           }
 
-      pub placed-lengthened : (scale' : ℕ) → L + L ≤ s → (failure ≡ 0 → ⊥) → Is q scale' (opsOf q .inv failure)
-          → Placed q series (s + 1) (s + 1 - L) (s + 1) scale' locator' locator
+      pub placed-lengthened : (scale' : ℕ) → L + L < next → (failure ≡ 0 → ⊥) → Is q scale' (opsOf q .inv failure)
+          → Placed q series next (next - L) next scale' locator' locator
       placed-lengthened scale' l nonzero inverts =
           record {
             locator-area = M .area;
             former-area = h .locator-area;
             scale-below = inverts .below;
             located =
-              subst (λ (t : ℕ). Located (opsOf q) (at series) (s + 1) (s + 1 - L) (s + 1) t (at locator') (at locator)) (sym (inverts .same))
-              (subst (λ (t : ℕ). Located (opsOf q) (at series) t (t - L) t (opsOf q .inv failure) (at locator') (at locator)) next
-              (lengthened-below q (opsOf q) B (at series) (at locator) (at former) (at locator') scale failure factor (s + 1 - p) (p - L + 1)
+              subst (λ (t : ℕ). Located (opsOf q) (at series) next (next - L) next t (at locator') (at locator)) (sym (inverts .same))
+              (subst (λ (t : ℕ). Located (opsOf q) (at series) t (t - L) t (opsOf q .inv failure) (at locator') (at locator)) step
+              (lengthened-below q (opsOf q) B (at series) (at locator) (at former) (at locator') scale failure factor (next - p) (p - L + 1)
                 (hs .below) (h .locator-area .below) (h .former-area .below) (M .area .below) (h .scale-below) (fails .below) (multiplied .below)
-                (h .located) failure-is (multiplied .same) at-place enough (M .subtracted) l nonzero))
+                (h .located) failure-is (multiplied .same) at-place enough (M .subtracted) (omega (arith, step)) nonzero))
           }

@@ -2,7 +2,7 @@
 -- Holds: `Unit`, `Multiple`, `Placed`, `Found`.
 use mathlib.Core.Path.{_≡_}
 use mathlib.Core.List.{List}
-use Prim.Native.Nat.{ℕ, _<_}
+use Prim.Native.Nat.{ℕ, _-_, _<_}
 use lib.ListN.{length}
 use Rattle.field.specs.Fields.{opsOf}
 use Rattle.block.specs.Area.{Area, at, capacity}
@@ -26,9 +26,9 @@ pub record Placed (q : ℕ) (series : List ℕ) (s length place scale : ℕ) (lo
   pub scale-below : scale < q
   pub located : Located (opsOf q) (at series) s length place scale (at locator) (at former)
 
--- A locator of this length for the series up to place r was found, whatever the former one.
-pub record Found (q : ℕ) (series : List ℕ) (r length : ℕ) (locator : List ℕ) : Type 0 where
+-- A locator of this length was found for the first `known` terms of the series, whatever the former one.
+pub record Found (q : ℕ) (series : List ℕ) (known length : ℕ) (locator : List ℕ) : Type 0 where
   pub place : ℕ
   pub scale : ℕ
   pub former : List ℕ
-  pub placed : Placed q series r length place scale locator former
+  pub placed : Placed q series (known - 1) length place scale locator former

@@ -35,14 +35,16 @@ pub fn repair(
     let blocks = l + 1;
     let count = blocks * k;
     let zeros = p.n - count;
+    let known = zeros + 1;
+    let distance = zeros + 1;
     let mut series = spectrum::spectrum(q, products, block);
     let mut locator = locator::unit();
-    let length = locator::locate(q, products, &series, zeros, &mut locator);
+    let length = locator::locate(q, products, &series, known, &mut locator);
     let values = spectrum::extend(q, products, length, &locator, zeros, count, &mut series);
     let found = information::read(q, products, k, blocks, matrix, &values);
     *information = found;
     let differing = information::differing(p, products, rows, &found, l, block);
-    if 2 * differing <= zeros {
+    if 2 * differing < distance {
         return true;
     }
     false

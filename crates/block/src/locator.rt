@@ -1,6 +1,6 @@
 // The locator of a series by Berlekamp and Massey's algorithm.
 ghost use mathlib.Core.Path.{_≡_};
-ghost use Prim.Native.Nat.{_+_, _≤_, _<_};
+ghost use Prim.Native.Nat.{_+_, _-_, _≤_, _<_};
 ghost use Rattle.field.specs.Fields.{Good, opsOf};
 ghost use Rattle.field.specs.Symbols.{Is};
 ghost use Rattle.field.specs.Tables.{Lent};
@@ -64,20 +64,19 @@ fn subtract_multiple(
     }
 }
 
-// One place more: the locator of the series up to place s becomes that up to place s + 1.
+// One place more: the locator of the series before place `next` becomes that up to it.
 fn advance(
     q: usize,
     tables: &Tables,
     series: &Series,
-    s: usize,
+    next: usize,
     progress: Progress,
     locator: &mut Series,
     former: &mut Series,
 ) -> Progress
-    requires { ⌜ Good q × Lent (now tables) × Area q (now series) × (s + 1 < capacity) × Placed q (now series) s (progress .length) (progress .place) (progress .scale) (now locator) (now former) ⌝ }
-    ensures { λ r. ⌜ Placed q (now (series .entry)) (s + 1) (r .length) (r .place) (r .scale) (now (locator .exit)) (now (former .exit)) ⌝ }
+    requires { ⌜ Good q × Lent (now tables) × Area q (now series) × (0 < next) × (next < capacity) × Placed q (now series) (next - 1) (progress .length) (progress .place) (progress .scale) (now locator) (now former) ⌝ }
+    ensures { λ r. ⌜ Placed q (now (series .entry)) next (r .length) (r .place) (r .scale) (now (locator .exit)) (now (former .exit)) ⌝ }
 {
-    let next = s + 1;
     let length = progress.length;
     let place = progress.place;
     let rest = tail(q, tables, length, locator, series, next);
@@ -88,7 +87,7 @@ fn advance(
     let factor = field::multiply(q, tables, failure, progress.scale);
     let shift = next - place;
     let count = place - length + 1;
-    if s < length + length {
+    if next <= length + length {
         subtract_multiple(q, tables, factor, shift, count, former, locator);
         return progress;
     }
@@ -111,10 +110,16 @@ pub fn unit() -> Series
     series
 }
 
-// The locator of the series up to place r; answers with its length.
-pub fn locate(q: usize, tables: &Tables, series: &Series, r: usize, locator: &mut Series) -> usize
-    requires { ⌜ Good q × Lent (now tables) × Area q (now series) × (at (now series) 0 ≡ 1) × (r < capacity) ⌝ }
-    ensures { λ length. ⌜ Found q (now (series .entry)) r length (now (locator .exit)) ⌝ }
+// The locator of the first `known` terms of the series; answers with its length.
+pub fn locate(
+    q: usize,
+    tables: &Tables,
+    series: &Series,
+    known: usize,
+    locator: &mut Series,
+) -> usize
+    requires { ⌜ Good q × Lent (now tables) × Area q (now series) × (at (now series) 0 ≡ 1) × (0 < known) × (known ≤ capacity) ⌝ }
+    ensures { λ length. ⌜ Found q (now (series .entry)) known length (now (locator .exit)) ⌝ }
 {
     let mut former = unit();
     *locator = former;
@@ -123,10 +128,10 @@ pub fn locate(q: usize, tables: &Tables, series: &Series, r: usize, locator: &mu
         place: 0,
         scale: 1,
     };
-    let mut s: usize = 0;
-    while s < r {
-        progress = advance(q, tables, series, s, progress, locator, &mut former);
-        s += 1;
+    let mut next: usize = 1;
+    while next < known {
+        progress = advance(q, tables, series, next, progress, locator, &mut former);
+        next += 1;
     }
     progress.length
 }

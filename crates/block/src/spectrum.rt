@@ -45,8 +45,9 @@ pub fn extend(
     while u < count {
         let place = r + 1 + u;
         let rest = super::locator::tail(q, tables, length, locator, series, place);
+        let continued = field::negate(q, rest);
         values[u] = field::add(q, series[place], rest);
-        series[place] = field::negate(q, rest);
+        series[place] = continued;
         u += 1;
     }
     values

@@ -31,6 +31,12 @@ mul-count c = let p = c .before .pre in let a = c .before .args in omega (arith,
 sub-zeros : tie.Need-sub-zeros
 sub-zeros c = let p = c .before .before .pre in let a = c .before .before .args in omega (arith, level-fits (a .p) (p .0 .sound) (a .l) (p .4))
 
+add-known : tie.Need-add-known
+add-known c = search needs
+
+add-distance : tie.Need-add-distance
+add-distance c = search needs
+
 spectrum-requires : tie.Need-spectrum-requires
 spectrum-requires c κs = search needs
 
@@ -95,6 +101,8 @@ repair-spec =
     add-blocks
     mul-count
     sub-zeros
+    add-known
+    add-distance
     spectrum-requires
     unit-requires
     locate-requires

@@ -2,7 +2,6 @@
 use Prim.Native.Nat.{_≤_, _-_, _+_}
 use mathlib.Core.Path.{_≡_}
 use native.Mathlib.Omega.{arith}
-use borrow.Author.Needs.{needs}
 use Rattle.block.specs.Spectrum.{Continued}
 use Rattle.block.proofs.Spectra.{continued-none, continued-more}
 use Rattle.block.proofs.spectrum.extend.Statement.{statement}
@@ -31,17 +30,17 @@ add-place-2 c = omega arith
 tail-requires : tie.Need-tail-requires Inv-loop μ-loop
 tail-requires c κs = let p = c .before .before .before .pre in (p .0, p .1, p .2, c .before .before .loop .inv .1 .area, omega arith, omega arith)
 
+negate-requires : tie.Need-negate-requires Inv-loop μ-loop
+negate-requires c κs = (c .before .before .before .before .pre .0, c .tail .ensures .below)
+
 element-copy-out-add : tie.Need-element-copy-out-add Inv-loop μ-loop
 element-copy-out-add c = omega arith
 
 add-requires : tie.Need-add-requires Inv-loop μ-loop
-add-requires c κs = let l = c .before .before .before .before .loop in (c .before .before .before .before .before .pre .0, l .inv .1 .area .below (c .before .before .before .before .before .args .r + 1 + l .u), c .before .tail .ensures .below)
+add-requires c κs = let l = c .before .before .before .before .before .loop in (c .before .before .before .before .before .before .pre .0, l .inv .1 .area .below (c .before .before .before .before .before .before .args .r + 1 + l .u), c .before .before .tail .ensures .below)
 
 array-write-values : tie.Need-array-write-values Inv-loop μ-loop
 array-write-values c = omega arith
-
-negate-requires : tie.Need-negate-requires Inv-loop μ-loop
-negate-requires c κs = (c .before .before .before .before .before .before .pre .0, c .before .before .tail .ensures .below)
 
 element-write-series : tie.Need-element-write-series Inv-loop μ-loop
 element-write-series c = omega arith
@@ -55,7 +54,7 @@ loop-less c = omega arith
 loop-again : tie.Need-loop-again Inv-loop μ-loop
 loop-again c =
     let l = c .before .before .before .before .before .before .loop in
-    (omega arith, continued-more _ _ _ _ _ _ _ _ _ _ _ (l .inv .1) (omega arith) (c .before .before .before .tail .ensures) (c .before .add .ensures) (c .negate .ensures))
+    (omega arith, continued-more _ _ _ _ _ _ _ _ _ _ _ (l .inv .1) (omega arith) (c .before .before .before .tail .ensures) (c .add .ensures) (c .before .before .negate .ensures))
 
 returns : tie.Need-returns Inv-loop μ-loop
 returns c =
@@ -73,10 +72,10 @@ extend-spec =
     add-place
     add-place-2
     tail-requires
+    negate-requires
     element-copy-out-add
     add-requires
     array-write-values
-    negate-requires
     element-write-series
     add-u
     loop-less
