@@ -98,7 +98,7 @@ module _ (p : Setting) (S : Sound p) where
       (rowSymbol overField j r i .1)
 
   -- What a received byte costs where an element was sent: 2 if they differ.
-  pub byteCost : ℕ → Below (p .q) → ℕ
+  unfoldable pub byteCost : ℕ → Below (p .q) → ℕ
   byteCost v a = 2 * pick (not (eqb v (number a))) 1 0
 
   pub bytes-apart : (v : ℕ) (a b : Below (p .q)) → (a ≡ b → ⊥) → 2 ≤ byteCost v a + byteCost v b

@@ -1,0 +1,6 @@
+-- What the public calls promise, in 01's order and words.
+pub mod Questions
+pub mod Encoding
+pub mod Display
+pub mod Marks
+pub mod Decoding

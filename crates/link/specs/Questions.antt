@@ -1,0 +1,89 @@
+-- The questions of each call (01, "Questions, asked in this order"): a call's answer is the first "no".
+-- Holds: `Question`, `firstNo`; `blocksOf` (T), `symbolsTo`; the questions of decoding, encoding, display and marks.
+use mathlib.Core.Bool.{Bool, _&&_}
+use mathlib.Core.List.{List, [], _∷_, _++_}
+use Prim.Native.Nat.{ℕ, suc, _+_, _-_, _*_, _/_, _%_}
+use lib.Dec.{eqb, leb, ltb}
+use lib.ListN.{length}
+use Rattle.algebra.specs.Ops.{pick}
+use Rattle.code.specs.declared.Setting.{Setting}
+use Rattle.code.specs.Settings.{isSetting, settingOf}
+use Rattle.code.specs.Windows.{windowLength}
+use Rattle.link.specs.declared.Answer.{Answer}
+
+-- A question: its number, its place if the answer is "no", and whether the answer is "yes".
+pub record Question : Type 0 where
+  pub number : ℕ
+  pub place : ℕ
+  pub holds : Bool
+
+-- "The place is 0 unless named."
+abbrev pub ask : ℕ → Bool → Question
+ask number holds = record { number = number; place = 0; holds = holds }
+
+abbrev pub askAt : ℕ → ℕ → Bool → Question
+askAt number place holds = record { number = number; place = place; holds = holds }
+
+abbrev pub answer : ℕ → ℕ → ℕ → Answer
+answer number place altered = record { number = number; altered = altered; place = place }
+
+-- "A "no" gives the number .. the count is 0. When every answer is yes, number and place are 0."
+abbrev pub firstNo : List Question → Answer
+firstNo [] = answer 0 0 0
+firstNo (x ∷ rest) = pick (x .holds) (firstNo rest) (answer (x .number) (x .place) 0)
+
+-- "T at most 512"
+abbrev pub mostBlocks : ℕ
+mostBlocks = 512
+
+-- T of a reception of this length.
+abbrev pub blocksOf : Setting → ℕ → ℕ
+blocksOf p long = long / p .n - p .m
+
+-- How many symbols stand before the first byte that is not below q.
+unfoldable pub symbolsTo : ℕ → List ℕ → ℕ
+symbolsTo q [] = 0
+symbolsTo q (x ∷ rest) = pick (ltb x q) (suc (symbolsTo q rest)) 0
+
+-- 1: "Is the setting 1, 2 or 3?" 2: "Is the length a multiple of n and at least (m+1) × n?" 3: "Is T at most 512?"
+abbrev pub frameQuestions : ℕ → ℕ → List Question
+frameQuestions number long =
+    ask 1 (isSetting number)
+    ∷ ask 2 (eqb (long % settingOf number .n) 0 && leb (windowLength (settingOf number)) long)
+    ∷ ask 3 (leb (blocksOf (settingOf number) long) mostBlocks)
+    ∷ []
+
+-- 4: "Is every symbol below q? Place: the first that is not, counted from 0."
+abbrev pub symbolQuestion : ℕ → List ℕ → Question
+symbolQuestion q symbols = askAt 4 (symbolsTo q symbols) (eqb (symbolsTo q symbols) (length symbols))
+
+-- 6: "Does the transmission area have (T+m) × n bytes or more?"
+abbrev pub transmissionQuestion : Setting → ℕ → ℕ → Question
+transmissionQuestion p T room = ask 6 (leb ((T + p .m) * p .n) room)
+
+-- Decoding: 1, 2, 3, 4, 5: "Does the message area have T × k bytes or more?", 6. (7 is asked of the reception: see `Decoded`.)
+abbrev pub decodingQuestions : ℕ → List ℕ → ℕ → ℕ → List Question
+decodingQuestions number reception messageRoom transmissionRoom =
+    frameQuestions number (length reception)
+    ++ symbolQuestion (settingOf number .q) reception
+    ∷ ask 5 (leb (blocksOf (settingOf number) (length reception) * settingOf number .k) messageRoom)
+    ∷ transmissionQuestion (settingOf number) (blocksOf (settingOf number) (length reception)) transmissionRoom
+    ∷ []
+
+-- Encoding: 1; 8: "Is the length a multiple of k and at least k?"; 3, 4, 6.
+abbrev pub encodingQuestions : ℕ → List ℕ → ℕ → List Question
+encodingQuestions number message transmissionRoom =
+    ask 1 (isSetting number)
+    ∷ ask 8 (eqb (length message % settingOf number .k) 0 && leb (settingOf number .k) (length message))
+    ∷ ask 3 (leb (length message / settingOf number .k) mostBlocks)
+    ∷ symbolQuestion (settingOf number .q) message
+    ∷ transmissionQuestion (settingOf number) (length message / settingOf number .k) transmissionRoom
+    ∷ []
+
+-- Display: 1, 2, 3; 12: "Is j below T?"
+abbrev pub displayQuestions : ℕ → ℕ → ℕ → List Question
+displayQuestions number long j = frameQuestions number long ++ ask 12 (ltb j (blocksOf (settingOf number) long)) ∷ []
+
+-- Marks: the same, then 13: "Are both lengths equal?" "For marks, 2 and 3 look at the reception."
+abbrev pub marksQuestions : ℕ → ℕ → ℕ → ℕ → List Question
+marksQuestions number receptionLong transmissionLong j = displayQuestions number receptionLong j ++ ask 13 (eqb receptionLong transmissionLong) ∷ []
