@@ -33,7 +33,7 @@ module _ (p : Setting) (S : Sound p) (l : ℕ) (level : l ≤ p .m) (block matri
     (reads : Read (p .q) (p .k) (l + 1) matrix values found)
     (counted : count ≡ distance (p .n) (at block) (combination (codeOf p) l (view (p .k) found))) where
   pub step-near : 2 * count < levelDistance (p .n) (p .k) l → Step p l block found true
-  step-near h = near (λ b r s t. reads .area .below (b * p .k + r)) (omega (arith, counted))
+  step-near h = near (reads .area) (omega (arith, counted))
 
   -- If the information x were near, it would be what was read, and its count the count.
   same-count : (x : ℕ → ℕ → ℕ) → Information p l x → blockCost p l block x < levelDistance (p .n) (p .k) l

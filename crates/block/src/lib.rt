@@ -1,5 +1,5 @@
 // The block step: from a received block the information of the code block within the limit, or that there is none (01, "Reading a reception").
-mod information;
+pub mod information;
 mod locator;
 mod spectrum;
 

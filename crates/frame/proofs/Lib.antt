@@ -1,0 +1,3 @@
+-- What the proofs of reading share.
+pub mod Levels
+pub mod Tried

@@ -1,0 +1,3 @@
+// Reading a frame, given the block step: windows in turn, levels downwards, the last comparison (01, "Reading a reception").
+pub mod area;
+pub mod window;

@@ -1,0 +1,89 @@
+// One turn of reading: the first information block of a window, and the window without its contribution.
+ghost use mathlib.Core.Path.{_≡_};
+ghost use Prim.Native.Nat.{_+_, _*_, _≤_};
+ghost use lib.ListN.{length, getD};
+ghost use Rattle.field.specs.Symbols.{Symbols};
+ghost use Rattle.code.specs.Code.{distancesTo};
+ghost use Rattle.code.specs.Transmission.{view};
+ghost use Rattle.code.specs.Settings.{Sound};
+ghost use Rattle.code.specs.Windows.{windowLength};
+ghost use Rattle.code.specs.Reading.{rebuiltDistance};
+ghost use Rattle.tables.specs.Tables.{Ready, Small, MatrixOf};
+ghost use Rattle.block.specs.Area.{Area};
+ghost use Rattle.frame.specs.Window.{Tried, Lessened, LessenedTo, WindowRead};
+
+use code::Setting;
+use field::Tables;
+use tables::{Matrix, Rows};
+use block::Series;
+
+// d_0 + .. + d_l
+pub fn distances_to(p: Setting, l: usize) -> usize
+    requires { ⌜ Sound p × Small p × ((l + 1) * p .k ≤ p .n) × (l ≤ p .m) ⌝ }
+    ensures { λ r. ⌜ r ≡ distancesTo (p .n) (p .k) l ⌝ }
+{
+    let n = p.n;
+    let k = p.k;
+    let mut zeros = n - k;
+    let mut sum = zeros + 1;
+    let mut i: usize = 0;
+    while i < l {
+        zeros -= k;
+        sum += zeros + 1;
+        i += 1;
+    }
+    sum
+}
+
+// In how many symbols blocks 0 .. l of the window differ from the blocks rebuilt from the information.
+fn rebuilt_distance(
+    p: Setting,
+    products: &Tables,
+    rows: &Rows,
+    information: &Series,
+    l: usize,
+    window: &[u8],
+) -> usize
+    requires { ⌜ Ready p (now products) (now rows) × Area (p .q) (now information) × (l ≤ p .m) × (length (now window) ≡ windowLength p) ⌝ }
+    ensures { λ r. ⌜ r ≡ rebuiltDistance p (now (window .entry)) l (view (p .k) (now (information .entry))) ⌝ }
+{
+    let n = p.n;
+    let mut count: usize = 0;
+    let mut start: usize = 0;
+    let mut s: usize = 0;
+    while s <= l {
+        let end = start + n;
+        count += block::information::differing(p, products, rows, information, s, &window[start..end]);
+        start = end;
+        s += 1;
+    }
+    count
+}
+
+// One level: the code block near block l of the window, if its information rebuilds blocks 0 .. l near enough.
+fn try_level(
+    p: Setting,
+    products: &Tables,
+    rows: &Rows,
+    matrix: &Matrix,
+    window: &[u8],
+    l: usize,
+    information: &mut Series,
+) -> bool
+    requires { ⌜ Ready p (now products) (now rows) × MatrixOf p (now matrix) × (length (now window) ≡ windowLength p) × Symbols (p .q) (now window) × (l ≤ p .m) ⌝ }
+    ensures { λ r. ⌜ Tried p (now (window .entry)) l (now (information .exit)) r ⌝ }
+{
+    let n = p.n;
+    let start = l * n;
+    let end = start + n;
+    let near = block::repair(p, products, rows, matrix, &window[start..end], l, information);
+    if !near {
+        return false;
+    }
+    let differing = rebuilt_distance(p, products, rows, information, l, window);
+    let bound = distances_to(p, l);
+    if 2 * differing < bound {
+        return true;
+    }
+    false
+}
