@@ -1,3 +1,5 @@
 -- What the proofs of reading share.
 pub mod Levels
 pub mod Tried
+pub mod Reached
+pub mod Lessening

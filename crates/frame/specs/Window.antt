@@ -1,5 +1,5 @@
 -- One turn of reading (01, "Reading a reception"), at a window by itself.
--- Holds: `Near`, `Tried` (one level), `Lessened` (an information block's contribution taken out), `WindowRead` (all levels).
+-- Holds: `Near`, `Tried` (one level), `Levels` (all levels), `Lessened` and `LessenedTo` (an information block's contribution taken out), `WindowRead`.
 use mathlib.Core.Path.{_≡_}
 use mathlib.Core.Bool.{Bool, true, false}
 use mathlib.Core.List.{List}
@@ -26,11 +26,12 @@ pub data Tried (p : Setting) (window : List ℕ) (l : ℕ) (information : List �
   fails : ((y : ℕ → ℕ → ℕ) → Below (p .q) y → Near p window l y
       → levelDistance (p .n) (p .k) l ≤ 2 * blockDistance p (view (p .n) window l) l y) → Tried p window l information false
 
--- What information block x contributes to block j of a window, taken out of it.
-pub record Lessened (p : Setting) (x : ℕ → ℕ) (j : ℕ) (before after : List ℕ) : Type 0 where
+-- What information block x contributes to the first `count` symbols of block j of a window, taken out of them.
+pub record Lessened (p : Setting) (x : ℕ → ℕ) (j count : ℕ) (before after : List ℕ) : Type 0 where
   pub long : length after ≡ length before
   pub symbols : Symbols (p .q) after
-  pub symbol : (i : ℕ) → i < p .n → getD after i 0 ≡ sub (opsOf (p .q)) (getD before i 0) (timesG (codeOf p) x j i)
+  pub inside : (i : ℕ) → i < count → getD after i 0 ≡ sub (opsOf (p .q)) (getD before i 0) (timesG (codeOf p) x j i)
+  pub outside : (i : ℕ) → count ≤ i → getD after i 0 ≡ getD before i 0
 
 -- The same of the blocks 0 .. j-1 of a window.
 pub record LessenedTo (p : Setting) (x : ℕ → ℕ) (j : ℕ) (before after : List ℕ) : Type 0 where
@@ -48,3 +49,9 @@ pub data WindowRead (p : Setting) (window block window' block' : List ℕ) : Boo
       → length block' ≡ length block → Symbols (p .q) block' → LessenedTo p (λ r. getD block' r 0) (p .m + 1) window window'
       → WindowRead p window block window' block' true
   none : ((y : ℕ → ℕ → ℕ) → Below (p .q) y → Near p window (p .m) y → ⊥) → WindowRead p window block window' block' false
+
+-- Some level served: every near y begins with the information found; or no level did, and no y is near.
+pub data Levels (p : Setting) (window information : List ℕ) : Bool → Type 0 where
+  served : Area (p .q) information
+      → ((y : ℕ → ℕ → ℕ) → Below (p .q) y → Near p window (p .m) y → (r : ℕ) → r < p .k → y 0 r ≡ getD information r 0) → Levels p window information true
+  none-serves : ((y : ℕ → ℕ → ℕ) → Below (p .q) y → Near p window (p .m) y → ⊥) → Levels p window information false
