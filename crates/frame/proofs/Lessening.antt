@@ -7,7 +7,9 @@ use native.Mathlib.Nat.{zero-add}
 use native.Mathlib.Omega.{arith}
 use native.Mathlib.Decide.{decLt, ℕ-discrete}
 use lib.ListN.{length, getD, take, drop, set, length-set, length-append, length-take, length-drop}
+use lib.Arith.{digits-lt}
 use lib.Seq.{getD-set-same, getD-set-other}
+use borrow.Rule.Slice.PartMut.{putMid}
 use Rattle.algebra.specs.Ops.{sub}
 use Rattle.field.specs.Fields.{opsOf}
 use Rattle.field.specs.Symbols.{Symbols}
@@ -16,6 +18,8 @@ use Rattle.code.specs.Generator.{timesG}
 use Rattle.code.specs.Transmission.{view}
 use Rattle.code.specs.Settings.{codeOf}
 use Rattle.frame.specs.Window.{Lessened, LessenedTo}
+use Rattle.frame.proofs.Levels.{part-length, part-symbol}
+use Rattle.frame.proofs.Parts.{put-length, put-before, put-inside, put-after, put-symbols}
 
 -- The code's places begin at 0.
 pub from-start : (p : Setting) (information : List ℕ) (j i : ℕ)
@@ -50,3 +54,43 @@ module _ (p : Setting) (x : ℕ → ℕ) (j : ℕ) (before : List ℕ) where
           ∙ ap (λ (t : ℕ). sub (opsOf (p .q)) t (timesG (codeOf p) x j i)) (L .outside i least)
           ∙ ap (λ (t : ℕ). sub (opsOf (p .q)) (getD before t 0) (timesG (codeOf p) x j t)) (sym s)
       at-inside a (no d) h = getD-set-other after i a v 0 d ∙ L .inside a (omega arith)
+
+module _ (p : Setting) (x : ℕ → ℕ) (before : List ℕ) where
+  pub lessenedTo-none : Symbols (p .q) before → LessenedTo p x 0 before before
+  lessenedTo-none S = record { long = refl; symbols = S; inside = λ s i l h. absurd (omega arith); outside = λ a l. refl }
+
+  pub lessenedTo-more : (s start : ℕ) (window part : List ℕ) → start ≡ s * p .n → start + p .n ≤ length window → LessenedTo p x s before window
+      → Lessened p x s (p .n) (take (start + p .n - start) (drop start window)) part
+      → LessenedTo p x (s + 1) before (putMid start (start + p .n - start) window part)
+  lessenedTo-more s start window part e room L M =
+      record {
+        long = put-length start size window part fits part-long ∙ L .long;
+        symbols = put-symbols start size window part fits part-long (p .q) (L .symbols) (M .symbols);
+        inside = λ b i l h. at b i l h (ℕ-discrete b s);
+        outside = λ a h. put-after start size window part fits part-long a (omega (arith, same)) ∙ L .outside a (omega arith)
+      }
+    where
+      size : ℕ
+      size = start + p .n - start
+      same : size ≡ p .n
+      same = omega arith
+      fits : start + size ≤ length window
+      fits = omega (arith, same)
+      part-long : length part ≡ size
+      part-long = M .long ∙ (part-length (p .n) start window room ∙ sym same)
+      at : (b i : ℕ) → b < s + 1 → i < p .n → Dec (b ≡ s)
+          → view (p .n) (putMid start size window part) b i ≡ sub (opsOf (p .q)) (view (p .n) before b i) (timesG (codeOf p) x b i)
+      at b i l h (yes d) =
+          let place : b * p .n + i ≡ start + i = ap (λ (t : ℕ). t * p .n + i) d ∙ ap (λ (t : ℕ). t + i) (sym e) in
+          let past : s * p .n ≤ s * p .n + i = omega arith in
+          ap (λ (t : ℕ). getD (putMid start size window part) t 0) place
+          ∙ put-inside start size window part fits part-long i (omega (arith, same))
+          ∙ M .inside i h
+          ∙ ap₂ (λ (t v : ℕ). sub (opsOf (p .q)) t (timesG (codeOf p) x v i))
+            (part-symbol (p .n) start window i h ∙ ap (λ (t : ℕ). getD window (t + i) 0) e ∙ L .outside (s * p .n + i) past
+              ∙ ap (λ (t : ℕ). getD before (t * p .n + i) 0) (sym d))
+            (sym d)
+      at b i l h (no d) =
+          let lower : b < s = omega arith in
+          put-before start size window part fits part-long (b * p .n + i) (subst (λ (t : ℕ). b * p .n + i < t) (sym e) (digits-lt lower h))
+          ∙ L .inside b i lower h

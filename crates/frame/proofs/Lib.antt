@@ -2,4 +2,5 @@
 pub mod Levels
 pub mod Tried
 pub mod Reached
+pub mod Parts
 pub mod Lessening
