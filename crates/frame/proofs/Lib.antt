@@ -4,3 +4,4 @@ pub mod Tried
 pub mod Reached
 pub mod Parts
 pub mod Lessening
+pub mod Turn
