@@ -1,5 +1,5 @@
 -- The residual of a message g in a reception, on bytes: what one window of it says of a message that fits.
--- Holds: `window-view`, `ahead`, `sub-below`, `ahead-below`, `number-sub`, `residual-window`.
+-- Holds: `window-view`, `ahead`, `sub-below`, `sub-zero`, `ahead-below`, `number-sub`, `residual-window`.
 use mathlib.Core.Path.{_≡_, refl, sym, ap, ap₂, subst, _∙_}
 use mathlib.Core.Bool.{Bool, true, false, not}
 use mathlib.Core.List.{List}
@@ -53,6 +53,14 @@ module _ (p : Setting) (S : Sound p) where
 
   pub sub-below : (a b : ℕ) → a < p .q → b < p .q → sub (opsOf (p .q)) a b < p .q
   sub-below a b la lb = laws p S .add-below a (opsOf (p .q) .neg b) la (laws p S .neg-below b lb)
+
+  -- v - 0 = v
+  pub sub-zero : (v : ℕ) → v < p .q → sub (opsOf (p .q)) v 0 ≡ v
+  sub-zero v l =
+      let below : opsOf (p .q) .neg 0 < p .q = laws p S .neg-below 0 (positive p S) in
+      ap (opsOf (p .q) .add v)
+        (sym (laws p S .plus-zero (opsOf (p .q) .neg 0) below) ∙ laws p S .plus-comm (opsOf (p .q) .neg 0) 0 below (positive p S) ∙ laws p S .plus-neg 0 (positive p S))
+      ∙ laws p S .plus-zero v l
 
   pub ahead-below : (x g : List ℕ) (j : ℕ) → ((i : ℕ) → getD x i 0 < p .q) → ((i : ℕ) → getD g i 0 < p .q) → Below (p .q) (ahead p x g j)
   ahead-below x g j X G s r = sub-below _ _ (X ((j + s) * p .k + r)) (G ((j + s) * p .k + r))

@@ -5,3 +5,4 @@ pub mod Reached
 pub mod Parts
 pub mod Lessening
 pub mod Turn
+pub mod Progress
