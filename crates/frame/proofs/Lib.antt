@@ -6,3 +6,4 @@ pub mod Parts
 pub mod Lessening
 pub mod Turn
 pub mod Progress
+pub mod Ends
