@@ -1,1 +1,2 @@
 -- What the proofs of the public calls share.
+pub mod Answers

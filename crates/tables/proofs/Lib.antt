@@ -2,3 +2,4 @@
 pub mod Filled
 pub mod Matrices
 pub mod Places
+pub mod Small
