@@ -1,2 +1,5 @@
 -- What the proofs of the public calls share.
 pub mod Answers
+pub mod Sums
+pub mod Written
+pub mod Encoding

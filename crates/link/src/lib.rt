@@ -1,5 +1,5 @@
 // The public calls of the order link: encoding, decoding, the display and marks.
-
+pub mod encode;
 mod questions;
 
 // The answer of every call: the number and place of the first question answered "no", or 0 and 0, and the number of symbols altered.
