@@ -3,3 +3,5 @@ pub mod Answers
 pub mod Sums
 pub mod Written
 pub mod Encoding
+pub mod Bits
+pub mod Windows
