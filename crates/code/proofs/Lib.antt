@@ -9,3 +9,4 @@ pub mod Settings
 pub mod Numbers
 pub mod Messages
 pub mod Demand3
+pub mod Orders

@@ -3,3 +3,4 @@ pub mod Filled
 pub mod Matrices
 pub mod Places
 pub mod Small
+pub mod Examples
