@@ -1,8 +1,8 @@
 -- What answering a line promises (01, "Lines at the planning desk"). Holds: `refusal` and `success`, the two kinds of output line; `Answers`, which of
--- them a line gets; `Shown`, a text in a lent area; `Answered`.
+-- them a line gets; `Placed` and `Shown`, a text in a lent area; `Answered`.
 use mathlib.Core.Path.{_≡_}
 use mathlib.Core.List.{List, _++_, map}
-use Prim.Native.Nat.{ℕ}
+use Prim.Native.Nat.{ℕ, _≤_}
 use lib.Dec.{leb}
 use lib.ListN.{length, drop}
 use Rattle.algebra.specs.Ops.{pick}
@@ -19,8 +19,11 @@ abbrev pub refusal : Answer → List ℕ
 refusal a = hex 2 (a .number) ++ hex 4 (a .place)
 
 -- "on success `00`, four digits of altered count, the setting digit, three of T, and the message symbols"
+abbrev pub opening : ℕ → ℕ → ℕ → List ℕ
+opening count number T = hex 2 0 ++ hex 4 count ++ hex 1 number ++ hex 3 T
+
 abbrev pub success : ℕ → ℕ → ℕ → List ℕ → List ℕ
-success count number T message = hex 2 0 ++ hex 4 count ++ hex 1 number ++ hex 3 T ++ map characterOf message
+success count number T message = opening count number T ++ map characterOf message
 
 -- A frame of a line: the setting, T and the reception.
 abbrev pub FitsIn : List ℕ → List ℕ → Type 0
@@ -38,6 +41,11 @@ pub data Answers (line text : List ℕ) : Type 0 where
       → text ≡ success (alteredIn line x) (settingIn line) (blocksIn line) x → Answers line text
   -- No message fits.
   none-fits : firstNo (lineQuestions line) .number ≡ 0 → ((x : List ℕ) → FitsIn line x → ⊥) → text ≡ refusal (answer 7 0 0) → Answers line text
+
+-- A text at the front of an area, and then what the area held before.
+pub record Placed (text before after : List ℕ) : Type 0 where
+  pub is : after ≡ text ++ drop (length text) before
+  pub room : length text ≤ length before
 
 -- A text at the front of a lent area, r its length. An area too small for it is left as it was, and r is 0.
 pub record Shown (text before : List ℕ) (r : ℕ) (after : List ℕ) : Type 0 where

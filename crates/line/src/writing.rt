@@ -5,7 +5,7 @@ ghost use Prim.Native.Nat.{_≤_, _<_, _%_};
 ghost use lib.ListN.{length};
 ghost use Rattle.field.specs.Symbols.{Symbols};
 ghost use Rattle.line.specs.Characters.{characterOf, hex};
-ghost use Rattle.line.specs.Answering.{refusal, success, Shown};
+ghost use Rattle.line.specs.Answering.{refusal, opening, success, Placed, Shown};
 
 use super::characters;
 use link::Answer;
@@ -56,8 +56,25 @@ pub fn write_refusal(answer: Answer, output: &mut [u8]) -> usize
     6
 }
 
-// "`00`, four digits of altered count, the setting digit, three of T, and the message symbols"
-pub fn write_success(count: u32, number: u32, blocks: u32, message: &[u8], output: &mut [u8]) -> usize
+// "`00`, four digits of altered count, the setting digit, three of T"
+fn write_opening(count: u32, number: u32, blocks: u32, output: &mut [u8])
+    requires { ⌜ 10 ≤ length (now output) ⌝ }
+    ensures { λ _. ⌜ Placed (opening count number blocks) (now (output .entry)) (now (output .exit)) ⌝ }
+{
+    write_number(0, &mut output[0..2]);
+    write_number(count as u64, &mut output[2..6]);
+    write_number(number as u64, &mut output[6..7]);
+    write_number(blocks as u64, &mut output[7..10]);
+}
+
+// The opening "and the message symbols".
+pub fn write_success(
+    count: u32,
+    number: u32,
+    blocks: u32,
+    message: &[u8],
+    output: &mut [u8],
+) -> usize
     requires { ⌜ Symbols 16 (now message) × (length (now message) ≤ 1536) ⌝ }
     ensures { λ r. ⌜ Shown (success count number blocks (now (message .entry))) (now (output .entry)) r (now (output .exit)) ⌝ }
 {
@@ -65,10 +82,7 @@ pub fn write_success(count: u32, number: u32, blocks: u32, message: &[u8], outpu
     if output.len() < long {
         return 0;
     }
-    write_number(0, &mut output[0..2]);
-    write_number(count as u64, &mut output[2..6]);
-    write_number(number as u64, &mut output[6..7]);
-    write_number(blocks as u64, &mut output[7..10]);
+    write_opening(count, number, blocks, output);
     write_symbols(message, &mut output[10..long]);
     long
 }
