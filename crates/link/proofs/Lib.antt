@@ -5,3 +5,4 @@ pub mod Written
 pub mod Encoding
 pub mod Bits
 pub mod Windows
+pub mod Samples
