@@ -1,8 +1,12 @@
 // Hexadecimal text.
+ghost use Prim.Native.Nat.{_<_};
+
 use libc::STDOUT_FILENO;
 
 // The value of a digit, and 0 for any other byte.
-fn value(digit: u8) -> u8 {
+fn value(digit: u8) -> u8
+    ensures { λ r. ⌜ r < 16 ⌝ }
+{
     if digit < 48 {
         return 0;
     }
