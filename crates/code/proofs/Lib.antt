@@ -3,10 +3,14 @@ pub mod Blocks
 pub mod LevelCode
 pub mod Certainty
 pub mod Windows
+pub mod Turns
 pub mod Naturality
 pub mod Lists
 pub mod Settings
 pub mod Numbers
+pub mod Reading
+pub mod Residuals
+pub mod ResidualSteps
 pub mod Messages
 pub mod Demand3
 pub mod Orders

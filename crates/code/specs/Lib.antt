@@ -5,3 +5,4 @@ pub mod Transmission
 pub mod Level
 pub mod Settings
 pub mod Windows
+pub mod Reading

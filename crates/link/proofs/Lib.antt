@@ -6,3 +6,4 @@ pub mod Encoding
 pub mod Bits
 pub mod Windows
 pub mod Samples
+pub mod Decoding

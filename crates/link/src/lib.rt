@@ -1,4 +1,5 @@
 // The public calls of the order link: encoding, decoding, the display and marks.
+pub mod decode;
 pub mod display;
 pub mod encode;
 pub mod mark;

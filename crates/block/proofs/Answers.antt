@@ -1,0 +1,57 @@
+-- The two answers of the block step, from what its parts promise (the chain: distance lemma, locator, spectrum of the error, information).
+-- Holds: `step-near`, `step-far`.
+use mathlib.Core.Path.{_≡_, refl, sym, ap, subst, _∙_}
+use mathlib.Core.Bool.{Bool, true, false, not}
+use mathlib.Core.List.{List}
+use Prim.Native.Nat.{ℕ, _+_, _-_, _*_, _≤_, _<_}
+use native.Mathlib.Omega.{arith}
+use native.Mathlib.Decide.{decLt}
+use lib.Dec.{eqb}
+use lib.ListN.{length}
+use Rattle.algebra.specs.Weight.{distance}
+use Rattle.algebra.proofs.Weights.{countOf-ext}
+use Rattle.field.specs.Symbols.{Symbols}
+use Rattle.code.specs.declared.Setting.{Setting}
+use Rattle.code.specs.Code.{levelDistance}
+use Rattle.code.specs.Transmission.{view}
+use Rattle.code.specs.Level.{combination}
+use Rattle.code.specs.Settings.{codeOf, Sound}
+use Rattle.code.proofs.Lists.{symbol-below}
+use Rattle.code.proofs.Numbers.{positive}
+use Rattle.tables.specs.Tables.{MatrixOf}
+use Rattle.block.specs.Area.{at}
+use Rattle.block.specs.Progress.{Found}
+use Rattle.block.specs.Spectrum.{SpectrumOf, Continued}
+use Rattle.block.specs.Step.{blockCost, Information, Read, Step, near, far}
+use Rattle.block.proofs.CandidateBelow.{combination-same, read-of-near}
+
+module _ (p : Setting) (S : Sound p) (l : ℕ) (level : l ≤ p .m) (block matrix series after values locator found : List ℕ) (L count : ℕ)
+    (long : length block ≡ p .n) (symbols : Symbols (p .q) block) (M : MatrixOf p matrix)
+    (spectral : SpectrumOf (p .q) block (length block) series)
+    (located : Found (p .q) series (p .n - (l + 1) * p .k + 1) L locator)
+    (continued : Continued (p .q) L (p .n - (l + 1) * p .k) ((l + 1) * p .k) locator series after values)
+    (reads : Read (p .q) (p .k) (l + 1) matrix values found)
+    (counted : count ≡ distance (p .n) (at block) (combination (codeOf p) l (view (p .k) found))) where
+  pub step-near : 2 * count < levelDistance (p .n) (p .k) l → Step p l block found true
+  step-near h = near (reads .area) (omega (arith, counted))
+
+  -- If the information x were near, it would be what was read, and its count the count.
+  same-count : (x : ℕ → ℕ → ℕ) → Information p l x → blockCost p l block x < levelDistance (p .n) (p .k) l
+      → count ≡ distance (p .n) (at block) (combination (codeOf p) l x)
+  same-count x information close =
+      counted
+      ∙ countOf-ext (p .n) (λ i. not (eqb (at block i) (combination (codeOf p) l (view (p .k) found) i))) (λ i. not (eqb (at block i) (combination (codeOf p) l x i)))
+        (λ i h. ap (λ (t : ℕ). not (eqb (at block i) t)) (combination-same (codeOf p) l (view (p .k) found) x i read))
+    where
+      read : (b r : ℕ) → b ≤ l → r < p .k → view (p .k) found b r ≡ x b r
+      read =
+          read-of-near p S l level block long symbols x information series after values locator matrix found L close
+            (subst (λ (t : ℕ). SpectrumOf (p .q) block t series) long spectral) located continued
+            (symbol-below (p .q) matrix (M .symbols) (positive p S)) (M .inverses) reads
+
+  pub step-far : levelDistance (p .n) (p .k) l ≤ 2 * count → Step p l block found false
+  step-far h = far (λ x information. by-cost x information (decLt (blockCost p l block x) (levelDistance (p .n) (p .k) l)))
+    where
+      by-cost : (x : ℕ → ℕ → ℕ) → Information p l x → Dec (blockCost p l block x < levelDistance (p .n) (p .k) l) → levelDistance (p .n) (p .k) l ≤ blockCost p l block x
+      by-cost x information (yes close) = let same = same-count x information close in absurd (omega (arith, same))
+      by-cost x information (no d) = omega arith

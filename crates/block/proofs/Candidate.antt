@@ -1,0 +1,85 @@
+-- If a combination is near the received block, the information read off the continued spectrum is its information. Over any field,
+-- α of order n and (l+1)k ≤ n; r = n - (l+1)k is the number of zeros of the level-l code.
+-- Holds: `values-of-near`, `information-of-near`.
+use mathlib.Core.Path.{_≡_, refl, sym, ap, ap₂, subst, _∙_}
+use Prim.Native.Nat.{ℕ, zero, suc, _+_, _-_, _*_, _≤_, _<_}
+use native.Mathlib.Nat.{mul-le-mul-right}
+use native.Mathlib.Omega.{arith}
+use Rattle.algebra.specs.Ops.{Ops, sub}
+use Rattle.algebra.specs.Sum.{sum, power}
+use Rattle.algebra.specs.Polynomial.{valueOf}
+use Rattle.algebra.specs.Weight.{weight}
+use Rattle.algebra.proofs.Laws.{Field, neg-add, neg-neg, add-neg-cancel, ring}
+use Rattle.algebra.proofs.Order.{Order}
+use Rattle.algebra.proofs.Sums.{sum-ext}
+use Rattle.algebra.proofs.Polynomials.{valueOf-sub}
+use Rattle.code.specs.Code.{Code}
+use Rattle.code.specs.Level.{combination, Inverses}
+use Rattle.code.proofs.Blocks.{codeOver, combination-vanishes}
+use Rattle.code.proofs.LevelCode.{stretch, information-of-spectrum}
+use Rattle.block.specs.Locator.{Located, Extended}
+use Rattle.block.proofs.ErrorSpectrum.{spectrum, difference-is-rest}
+
+module _ {F : Type 0} (K : Field F) (α : F) (n k m : ℕ) (order : Order (K .ops) n α) (l : ℕ) (fits : (l + 1) * k ≤ n) where
+  infixl 60 _⊕_
+  infixl 70 _⊗_
+  infix 80 ⊖_
+  open Ops (K .ops) using (add as _⊕_, mul as _⊗_, neg as ⊖_, zero as 𝟘, one as 𝟙)
+
+  abbrev code : Code F
+  code = codeOver K α n k m
+
+  -- A received block v, and a combination x within half of r of it.
+  module _ (v : ℕ → F) (x : ℕ → ℕ → F) (w : ℕ)
+      (light : weight (K .ops) n (λ i. sub (K .ops) (v i) (combination code l x i)) ≤ w) (small : w + w ≤ n - (l + 1) * k)
+      (c d values : ℕ → F) (known : (s : ℕ) → s < n → c (suc s) ≡ spectrum K n α order v s)
+      (L p : ℕ) (scale : F) (σ τ : ℕ → F) (located : Located (K .ops) c (n - (l + 1) * k) L p scale σ τ)
+      (extended : Extended (K .ops) L (n - (l + 1) * k) ((l + 1) * k) σ c d values) where
+    sent : ℕ → F
+    sent i = combination code l x i
+
+    error : ℕ → F
+    error i = sub (K .ops) (v i) (sent i)
+
+    spectrum-error : (s : ℕ) → spectrum K n α order error s ≡ sub (K .ops) (spectrum K n α order v s) (spectrum K n α order sent s)
+    unfolding error
+    spectrum-error s = valueOf-sub K n v sent (power (K .ops) α s)
+
+    nothing-less : (a : F) → a ⊕ ⊖ 𝟘 ≡ a
+    nothing-less a = simp ring
+
+    known-error : (s : ℕ) → s < n - (l + 1) * k → c (suc s) ≡ spectrum K n α order error s
+    unfolding sent
+    known-error s h =
+        known s (omega arith) ∙ sym (nothing-less (spectrum K n α order v s))
+        ∙ ap (λ (t : F). sub (K .ops) (spectrum K n α order v s) t) (sym (combination-vanishes K α n k m l x s fits h))
+        ∙ sym (spectrum-error s)
+
+    back : (a b : F) → a ⊕ ⊖ (a ⊕ ⊖ b) ≡ b
+    back a b = ap (λ (t : F). a ⊕ t) (neg-add K a (⊖ b) ∙ ap (λ (t : F). ⊖ a ⊕ t) (neg-neg K b)) ∙ add-neg-cancel K a b
+
+    -- What the received block has besides the error is the combination's spectrum.
+    pub values-of-near : (u : ℕ) → u < (l + 1) * k → values u ≡ spectrum K n α order (λ i. combination code l x i) (n - (l + 1) * k + u)
+    unfolding error sent
+    values-of-near u h =
+        let place : n - (l + 1) * k + 1 + u ≡ suc (n - (l + 1) * k + u) = omega arith in
+        difference-is-rest K n α order (n - (l + 1) * k) error c known-error L p scale σ τ located d values ((l + 1) * k) extended w light small u h
+        ∙ ap₂ (sub (K .ops)) (ap c place ∙ known (n - (l + 1) * k + u) (omega arith)) (spectrum-error (n - (l + 1) * k + u))
+        ∙ back (spectrum K n α order v (n - (l + 1) * k + u)) (spectrum K n α order sent (n - (l + 1) * k + u))
+
+    -- The matrix reads the combination's information off them.
+    pub information-of-near : (M : ℕ → ℕ → F) → Inverses code M → (b a : ℕ) → b ≤ l → a < k
+        → sum (K .ops) k (λ e. M a e ⊗ values (b * k + e)) ≡ x b a
+    information-of-near M inverse b a below inside =
+        sum-ext (K .ops) k (λ e. M a e ⊗ values (b * k + e)) (λ e. M a e ⊗ spectrum K n α order (λ i. combination code l x i) (stretch K α n k m order l b e))
+          (λ e h. ap (λ (t : F). M a e ⊗ t) (values-of-near (b * k + e) (within e h) ∙ ap (spectrum K n α order (λ i. combination code l x i)) (place e h)))
+        ∙ information-of-spectrum K α n k m order M inverse l x fits (spectrum K n α order (λ i. combination code l x i)) (λ s h. refl) b a below inside
+      where
+        whole : (l - b + 1 + b) * k ≡ (l + 1) * k
+        whole = let same : l - b + 1 + b ≡ l + 1 = omega arith in ap (λ (t : ℕ). t * k) same
+        next : (b + 1) * k ≤ (l + 1) * k
+        next = let up : b + 1 ≤ l + 1 = omega arith in mul-le-mul-right k up
+        within : (e : ℕ) → e < k → b * k + e < (l + 1) * k
+        within e h = omega (arith, next)
+        place : (e : ℕ) → e < k → n - (l + 1) * k + (b * k + e) ≡ n - (l - b + 1) * k + e
+        place e h = omega (arith, whole, fits)

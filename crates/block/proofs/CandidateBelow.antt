@@ -1,0 +1,199 @@
+-- The same on the numbers below q, as the code has it: if the information x is near, it is the information that was read.
+-- Holds: `combination-same`, `read-of-near`.
+use mathlib.Core.Path.{_≡_, refl, sym, ap, ap₂, subst, fun-ext, _∙_}
+use mathlib.Core.Bool.{Bool, true, false, not}
+use mathlib.Core.List.{List}
+use Prim.Native.Nat.{ℕ, zero, suc, _+_, _-_, _*_, _≤_, _<_}
+use native.Mathlib.Numerals.{add-one}
+use native.Mathlib.Omega.{arith}
+use lib.Dec.{T, eqb}
+use lib.ListN.{length, getD}
+use borrow.Author.Tests.{eqb-true}
+use Rattle.algebra.specs.Ops.{Ops, sub, pick}
+use Rattle.algebra.specs.Sum.{sum, power}
+use Rattle.algebra.specs.Polynomial.{value, valueOf}
+use Rattle.algebra.specs.Weight.{weight, distance}
+use Rattle.algebra.proofs.Laws.{add-neg}
+use Rattle.algebra.proofs.Order.{Order}
+use Rattle.algebra.proofs.Sums.{sum-ext}
+use Rattle.algebra.proofs.Polynomials.{valueOf-ext, value-is-valueOf}
+use Rattle.algebra.proofs.Weights.{countOf-mono, zero-test}
+use Rattle.algebra.proofs.Naturality.{power-natural, valueOf-natural}
+use Rattle.algebra.proofs.Below.{FieldBelow, Below, number, number-keeps, orderBelow}
+use Rattle.field.specs.Fields.{opsOf, alpha}
+use Rattle.field.specs.Symbols.{Symbols}
+use Rattle.field.proofs.Laws.{lawsOf, orderOf}
+use Rattle.code.specs.declared.Setting.{Setting}
+use Rattle.code.specs.Code.{Code, levelDistance}
+use Rattle.code.specs.Generator.{rowSymbol, timesG}
+use Rattle.code.specs.Transmission.{view}
+use Rattle.code.specs.Level.{combination, evaluation, identity, Inverses}
+use Rattle.code.specs.Settings.{codeOf, Sound}
+use Rattle.code.proofs.Blocks.{codeOver}
+use Rattle.code.proofs.Naturality.{mapped, combination-natural, evaluation-natural}
+use Rattle.code.proofs.Lists.{symbol-below}
+use Rattle.block.specs.Area.{at}
+use Rattle.block.specs.Locator.{tail, Located, Extended}
+use Rattle.block.specs.Progress.{Found}
+use Rattle.block.specs.Spectrum.{SpectrumOf, Continued}
+use Rattle.block.specs.Step.{blockCost, Information, Read}
+use Rattle.block.proofs.Accumulated.{alpha-below}
+use Rattle.block.proofs.Levels.{level-fits}
+use Rattle.block.proofs.LocatorBelow.{K, positive, el, up, down, raise, fall, zero-down, one-down, add-down, mul-down, neg-down, sum-down, tail-down, located-up}
+use Rattle.block.proofs.ErrorSpectrum.{spectrum}
+use Rattle.block.proofs.Candidate.{information-of-near}
+
+-- A combination looks only at the symbols of its information blocks, over any operations.
+pub combination-same : {F : Type 0} (c : Code F) (l : ℕ) (x y : ℕ → ℕ → F) (i : ℕ) → ((b r : ℕ) → b ≤ l → r < c .k → x b r ≡ y b r)
+    → combination c l x i ≡ combination c l y i
+unfolding combination timesG
+combination-same c l x y i same =
+    sum-ext (c .ops) (suc l) (λ j. sum (c .ops) (c .k) (λ r. c .ops .mul (x (l - j) r) (rowSymbol c j r i)))
+      (λ j. sum (c .ops) (c .k) (λ r. c .ops .mul (y (l - j) r) (rowSymbol c j r i)))
+      (λ j h. sum-ext (c .ops) (c .k) (λ r. c .ops .mul (x (l - j) r) (rowSymbol c j r i)) (λ r. c .ops .mul (y (l - j) r) (rowSymbol c j r i))
+        (λ r s. ap (λ t. c .ops .mul t (rowSymbol c j r i)) (same (l - j) r (omega arith) s)))
+
+module _ (p : Setting) (S : Sound p) where
+  abbrev q : ℕ
+  q = p .q
+
+  abbrev o : Ops ℕ
+  o = opsOf (p .q)
+
+  B : FieldBelow q o
+  B = lawsOf q (S .good)
+
+  abbrev root : Below q
+  root = el q o B alpha
+
+  abbrev over : Code (Below q)
+  over = codeOver (K q o B) root (p .n) (p .k) (p .m)
+
+  order : Order (K q o B .ops) (p .n) root
+  order = subst (λ (n : ℕ). Order (K q o B .ops) n root) (sym (S .block)) (orderBelow q o B (q - 1) alpha (positive q o B) (orderOf q (S .good)))
+
+  root-down : number root ≡ alpha
+  root-down = down q o B alpha (alpha-below q (S .good))
+
+  mapped-code : mapped over o number ≡ codeOf p
+  mapped-code = ap (λ (a : ℕ). record { ops = o; α = a; n = p .n; k = p .k; m = p .m }) root-down
+
+  power-down : (s : ℕ) → number (power (K q o B .ops) root s) ≡ power o alpha s
+  power-down s = power-natural (K q o B .ops) o number (number-keeps q o B) root s ∙ ap (λ (a : ℕ). power o a s) root-down
+
+  evaluation-down : (e a : ℕ) → number (evaluation over e a) ≡ evaluation (codeOf p) e a
+  evaluation-down e a = evaluation-natural over o number (number-keeps q o B) e a ∙ ap (λ (c : Code ℕ). evaluation c e a) mapped-code
+
+  identity-down : (a b : ℕ) → number (identity (K q o B .ops) a b) ≡ identity o a b
+  identity-down a b = by-test (eqb a b)
+    where
+      by-test : (t : Bool) → number (pick t (K q o B .ops .one) (K q o B .ops .zero)) ≡ pick t (o .one) (o .zero)
+      by-test true = one-down q o B
+      by-test false = zero-down q o B
+
+  inverses-up : (M : ℕ → ℕ → ℕ) → ((a e : ℕ) → M a e < q) → Inverses (codeOf p) M → Inverses over (λ a e. el q o B (M a e))
+  inverses-up M below h =
+      record {
+        left = λ a b s t. raise q o B _ _
+          (sum-down q o B (p .k) _ (λ e. o .mul (M a e) (evaluation (codeOf p) e b)) (λ e u. mul-down q o B _ _ (down q o B (M a e) (below a e)) (evaluation-down e b)))
+          (identity-down a b) (h .left a b s t);
+        right = λ d e s t. raise q o B _ _
+          (sum-down q o B (p .k) _ (λ a. o .mul (evaluation (codeOf p) d a) (M a e)) (λ a u. mul-down q o B _ _ (evaluation-down d a) (down q o B (M a e) (below a e))))
+          (identity-down d e) (h .right d e s t)
+      }
+
+  extended-up : (L r m : ℕ) (σ c d values : ℕ → ℕ) → ((i : ℕ) → σ i < q) → ((i : ℕ) → c i < q) → ((i : ℕ) → d i < q) → ((i : ℕ) → values i < q)
+      → Extended o L r m σ c d values → Extended (K q o B .ops) L r m (up q o B σ) (up q o B c) (up q o B d) (up q o B values)
+  extended-up L r m σ c d values bσ bc bd bv h =
+      record {
+        kept = λ j l. ap (el q o B) (h .kept j l);
+        recurs = λ u l. raise q o B _ _ (down q o B (d (r + 1 + u)) (bd (r + 1 + u))) (neg-down q o B _ (tail-down q o B σ d bσ bd L (r + 1 + u))) (h .recurs u l);
+        difference = λ u l. raise q o B _ _ (down q o B (values u) (bv u))
+          (add-down q o B _ _ (down q o B (c (r + 1 + u)) (bc (r + 1 + u))) (tail-down q o B σ d bσ bd L (r + 1 + u))) (h .difference u l)
+      }
+
+  module _ (l : ℕ) (level : l ≤ p .m) (block : List ℕ) (long : length block ≡ p .n) (symbols : Symbols q block) where
+    fits : (l + 1) * p .k ≤ p .n
+    fits = level-fits p S l level
+
+    block-below : (i : ℕ) → at block i < q
+    block-below = symbol-below q block symbols (positive q o B)
+
+    received : ℕ → Below q
+    received = up q o B (at block)
+
+    received-down : (i : ℕ) → number (received i) ≡ at block i
+    unfolding received
+    received-down i = down q o B (at block i) (block-below i)
+
+    -- A value of the received block's spectrum.
+    spectrum-down : (s : ℕ) → number (spectrum (K q o B) (p .n) root order received s) ≡ value o block (power o alpha s)
+    spectrum-down s =
+        valueOf-natural (K q o B .ops) o number (number-keeps q o B) (p .n) received (power (K q o B .ops) root s)
+        ∙ ap (valueOf o (p .n) (λ i. number (received i))) (power-down s)
+        ∙ valueOf-ext o (p .n) (λ i. number (received i)) (λ i. getD block i (o .zero)) (power o alpha s)
+          (λ i h. received-down i ∙ ap (getD block i) (sym (B .zero-is)))
+        ∙ ap (λ (t : ℕ). valueOf o t (λ i. getD block i (o .zero)) (power o alpha s)) (sym long)
+        ∙ sym (value-is-valueOf o block (power o alpha s))
+
+    module _ (x : ℕ → ℕ → ℕ) (information : Information p l x) where
+      lifted : ℕ → ℕ → Below q
+      lifted b r = el q o B (x b r)
+
+      combination-down : (i : ℕ) → number (combination over l lifted i) ≡ combination (codeOf p) l x i
+      unfolding lifted
+      combination-down i =
+          combination-natural over o number (number-keeps q o B) l lifted i
+          ∙ ap (λ (c : Code ℕ). combination c l (λ b r. number (lifted b r)) i) mapped-code
+          ∙ combination-same (codeOf p) l (λ b r. number (lifted b r)) x i (λ b r h s. down q o B (x b r) (information b r h s))
+
+      -- The error is zero where the received symbol is that of the combination.
+      error-light : weight (K q o B .ops) (p .n) (λ i. sub (K q o B .ops) (received i) (combination over l lifted i))
+          ≤ distance (p .n) (at block) (combination (codeOf p) l x)
+      error-light =
+          countOf-mono (p .n) (λ i. not (K q o B .ops .isZero (sub (K q o B .ops) (received i) (combination over l lifted i))))
+            (λ i. not (eqb (at block i) (combination (codeOf p) l x i)))
+            (λ i h e. by-test i e (eqb (at block i) (combination (codeOf p) l x i)) refl)
+        where
+          never : (t : Bool) → t ≡ true → not t ≡ true → ⊥
+          never true s e = subst (λ (b : Bool). T (not b)) e tt
+          never false s e = subst (λ (b : Bool). T (not b)) s tt
+          by-test : (i : ℕ) → not (K q o B .ops .isZero (sub (K q o B .ops) (received i) (combination over l lifted i))) ≡ true
+              → (t : Bool) → eqb (at block i) (combination (codeOf p) l x i) ≡ t → not t ≡ true
+          by-test i e true s =
+              let same : received i ≡ combination over l lifted i =
+                  raise q o B _ _ (received-down i) (combination-down i) (eqb-true (at block i) (combination (codeOf p) l x i) s) in
+              absurd (never (K q o B .ops .isZero (sub (K q o B .ops) (received i) (combination over l lifted i)))
+                (zero-test (K q o B) _ (ap (λ (t : Below q). sub (K q o B .ops) t (combination over l lifted i)) same ∙ add-neg (K q o B) (combination over l lifted i))) e)
+          by-test i e false s = refl
+
+      pub read-of-near : (series after values locator matrix found : List ℕ) (L : ℕ)
+          → blockCost p l block x < levelDistance (p .n) (p .k) l
+          → SpectrumOf q block (p .n) series → Found q series (p .n - (l + 1) * p .k + 1) L locator
+          → Continued q L (p .n - (l + 1) * p .k) ((l + 1) * p .k) locator series after values
+          → ((i : ℕ) → at matrix i < q) → Inverses (codeOf p) (view (p .k) matrix)
+          → Read q (p .k) (l + 1) matrix values found
+          → (b a : ℕ) → b ≤ l → a < p .k → at found (b * p .k + a) ≡ x b a
+      unfolding lifted
+      read-of-near series after values locator matrix found L close spectral located continued matrix-below inverses reads b a below inside =
+          reads .symbols b a (omega arith) inside
+          ∙ fall q o B
+            (sum-down q o B (p .k) _ (λ e. o .mul (at matrix (a * p .k + e)) (at values (b * p .k + e)))
+              (λ e h. mul-down q o B _ _ (down q o B _ (matrix-below (a * p .k + e))) (down q o B _ (continued .values-area .below (b * p .k + e)))))
+            (down q o B (x b a) (information b a below inside))
+            (information-of-near (K q o B) root (p .n) (p .k) (p .m) order l fits received lifted
+              (distance (p .n) (at block) (combination (codeOf p) l x)) error-light (omega arith)
+              (up q o B (at series)) (up q o B (at after)) (up q o B (at values))
+              (λ s h. raise q o B _ _ (down q o B (at series (suc s)) (spectral .area .below (suc s))) (spectrum-down s)
+                (ap (at series) (sym (add-one s)) ∙ spectral .values s h))
+              L (located .place) (el q o B (located .scale)) (up q o B (at locator)) (up q o B (at (located .former)))
+              (located-up q o B (at series) (at locator) (at (located .former)) (located .scale)
+                (spectral .area .below) (located .placed .locator-area .below) (located .placed .former-area .below) (located .placed .scale-below)
+                (subst (λ (t : ℕ). Located o (at series) t L (located .place) (located .scale) (at locator) (at (located .former))) all-known (located .placed .located)))
+              (extended-up L (p .n - (l + 1) * p .k) ((l + 1) * p .k) (at locator) (at series) (at after) (at values)
+                (located .placed .locator-area .below) (spectral .area .below) (continued .area .below) (continued .values-area .below) (continued .extended))
+              (λ d e. el q o B (view (p .k) matrix d e)) (inverses-up (view (p .k) matrix) (λ d e. matrix-below (d * p .k + e)) inverses)
+              b a below inside)
+        where
+          all-known : p .n - (l + 1) * p .k + 1 - 1 ≡ p .n - (l + 1) * p .k
+          all-known = omega arith

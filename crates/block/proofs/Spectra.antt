@@ -1,0 +1,110 @@
+-- The loops on spectra: their promises before the first turn, and after one more.
+-- Holds: `point-none`, `point-more`, `spectrum-none`, `spectrum-more`; `tail-ext`, `continued-none`, `continued-more`.
+use mathlib.Core.Path.{_≡_, refl, sym, ap, subst, _∙_}
+use mathlib.Core.List.{List}
+use Prim.Native.Nat.{ℕ, zero, suc, _+_, _-_, _≤_, _<_}
+use native.Mathlib.Numerals.{add-one}
+use native.Mathlib.Omega.{arith}
+use native.Mathlib.Decide.{ℕ-discrete}
+use lib.ListN.{length, getD, set, replicate}
+use lib.Seq.{getD-set-same, getD-set-other}
+use Rattle.algebra.specs.Ops.{Ops}
+use Rattle.algebra.specs.Sum.{sum, power}
+use Rattle.algebra.specs.Polynomial.{value}
+use Rattle.algebra.proofs.Sums.{sum-ext}
+use Rattle.algebra.proofs.Below.{FieldBelow}
+use Rattle.field.specs.Fields.{Good, opsOf, alpha}
+use Rattle.field.specs.Symbols.{Is}
+use Rattle.field.proofs.Laws.{lawsOf}
+use Rattle.block.specs.Area.{Area, at, capacity}
+use Rattle.block.specs.Locator.{tail}
+use Rattle.block.specs.Progress.{Unit}
+use Rattle.block.specs.Spectrum.{SpectrumOf, Continued}
+use Rattle.block.proofs.Accumulated.{zero-below, area-set, zeros-at}
+use Rattle.block.proofs.Placing.{unit-area}
+
+module _ (q : ℕ) where
+  pub point-none : Good q → Is q 1 (power (opsOf q) alpha 0)
+  unfolding power opsOf
+  point-none good = record { same = refl; below = lawsOf q good .one-below }
+
+  pub point-more : (s point r : ℕ) → Is q point (power (opsOf q) alpha s) → Is q r (opsOf q .mul 2 point) → Is q r (power (opsOf q) alpha (s + 1))
+  unfolding power
+  point-more s point r h e =
+      record { same = e .same ∙ ap (opsOf q .mul 2) (h .same) ∙ ap (power (opsOf q) alpha) (sym (add-one s)); below = e .below }
+
+  pub spectrum-none : (block l : List ℕ) → Good q → Unit l → SpectrumOf q block 0 l
+  spectrum-none block l good u = record { area = unit-area q good l u; first = u .first; values = λ s h. absurd (omega arith) }
+
+  pub spectrum-more : (block series : List ℕ) (s point v : ℕ) → SpectrumOf q block s series → s + 1 < capacity → Is q point (power (opsOf q) alpha s)
+      → Is q v (value (opsOf q) block point) → SpectrumOf q block (s + 1) (set series (s + 1) v)
+  spectrum-more block series s point v h room at-point is-value =
+      record {
+        area = area-set q series (s + 1) v (h .area) (is-value .below);
+        first = getD-set-other series (s + 1) 0 v 0 (omega arith) ∙ h .first;
+        values = λ t l. at-value t l (ℕ-discrete t s)
+      }
+    where
+      at-value : (t : ℕ) → t < s + 1 → Dec (t ≡ s) → getD (set series (s + 1) v) (t + 1) 0 ≡ value (opsOf q) block (power (opsOf q) alpha t)
+      at-value t l (yes e) =
+          ap (λ (i : ℕ). getD (set series (s + 1) v) (i + 1) 0) e
+          ∙ getD-set-same series (s + 1) v 0 (subst (λ (i : ℕ). s + 1 < i) (sym (h .area .size)) room)
+          ∙ is-value .same ∙ ap (value (opsOf q) block) (at-point .same) ∙ ap (λ (i : ℕ). value (opsOf q) block (power (opsOf q) alpha i)) (sym e)
+      at-value t l (no d) = getD-set-other series (s + 1) (t + 1) v 0 (omega arith) ∙ h .values t (omega arith)
+
+-- A tail at a place looks only at earlier terms.
+pub tail-ext : {F : Type 0} (o : Ops F) (L : ℕ) (σ c d : ℕ → F) (j : ℕ) → 0 < j → ((i : ℕ) → i < j → c i ≡ d i) → tail o L σ c j ≡ tail o L σ d j
+unfolding tail
+tail-ext o L σ c d j h same =
+    sum-ext o L (λ a. o .mul (σ (a + 1)) (c (j - (a + 1)))) (λ a. o .mul (σ (a + 1)) (d (j - (a + 1))))
+      (λ a l. ap (o .mul (σ (a + 1))) (same (j - (a + 1)) (omega arith)))
+
+module _ (q L r : ℕ) (locator before : List ℕ) where
+  pub continued-none : Good q → Area q before → Continued q L r 0 locator before before (replicate capacity 0)
+  continued-none good h =
+      record {
+        area = h;
+        values-area = record { size = refl; below = λ i. subst (λ (t : ℕ). t < q) (sym (zeros-at capacity i)) (zero-below q good) };
+        extended = record { kept = λ j l. refl; recurs = λ u l. absurd (omega arith); difference = λ u l. absurd (omega arith) };
+        beyond = λ j l. refl
+      }
+
+  pub continued-more : (u : ℕ) (after values : List ℕ) (rest v w : ℕ) → Continued q L r u locator before after values → r + 1 + u < capacity
+      → Is q rest (tail (opsOf q) L (at locator) (at after) (r + 1 + u)) → Is q v (opsOf q .add (at after (r + 1 + u)) rest) → Is q w (opsOf q .neg rest)
+      → Continued q L r (u + 1) locator before (set after (r + 1 + u) w) (set values u v)
+  continued-more u after values rest v w h room is-tail is-sum is-negative =
+      record {
+        area = area-set q after (r + 1 + u) w (h .area) (is-negative .below);
+        values-area = area-set q values u v (h .values-area) (is-sum .below);
+        extended =
+          record {
+            kept = λ j l. other j (omega arith) ∙ h .extended .kept j l;
+            recurs = λ t l. at-place t l (ℕ-discrete t u);
+            difference = λ t l. at-value t l (ℕ-discrete t u)
+          };
+        beyond = λ j l. other j (omega arith) ∙ h .beyond j (omega arith)
+      }
+    where
+      other : (j : ℕ) → (j ≡ r + 1 + u → ⊥) → getD (set after (r + 1 + u) w) j 0 ≡ getD after j 0
+      other j d = getD-set-other after (r + 1 + u) j w 0 d
+      tails : (t : ℕ) → t < u + 1 → tail (opsOf q) L (at locator) (at after) (r + 1 + t) ≡ tail (opsOf q) L (at locator) (at (set after (r + 1 + u) w)) (r + 1 + t)
+      tails t l = tail-ext (opsOf q) L (at locator) (at after) (at (set after (r + 1 + u) w)) (r + 1 + t) (omega arith) (λ i s. sym (other i (omega arith)))
+      at-place : (t : ℕ) → t < u + 1 → Dec (t ≡ u)
+          → getD (set after (r + 1 + u) w) (r + 1 + t) 0 ≡ opsOf q .neg (tail (opsOf q) L (at locator) (at (set after (r + 1 + u) w)) (r + 1 + t))
+      at-place t l (yes e) =
+          ap (λ (i : ℕ). getD (set after (r + 1 + u) w) (r + 1 + i) 0) e
+          ∙ getD-set-same after (r + 1 + u) w 0 (subst (λ (i : ℕ). r + 1 + u < i) (sym (h .area .size)) room)
+          ∙ is-negative .same ∙ ap (opsOf q .neg) (is-tail .same ∙ ap (λ (i : ℕ). tail (opsOf q) L (at locator) (at after) (r + 1 + i)) (sym e) ∙ tails t l)
+      at-place t l (no d) = other (r + 1 + t) (omega arith) ∙ h .extended .recurs t (omega arith) ∙ ap (opsOf q .neg) (tails t l)
+      at-value : (t : ℕ) → t < u + 1 → Dec (t ≡ u)
+          → getD (set values u v) t 0 ≡ opsOf q .add (getD before (r + 1 + t) 0) (tail (opsOf q) L (at locator) (at (set after (r + 1 + u) w)) (r + 1 + t))
+      at-value t l (yes e) =
+          ap (λ (i : ℕ). getD (set values u v) i 0) e
+          ∙ getD-set-same values u v 0 (subst (λ (i : ℕ). u < i) (sym (h .values-area .size)) (omega arith))
+          ∙ is-sum .same
+          ∙ ap (λ (i : ℕ). opsOf q .add i rest) (h .beyond (r + 1 + u) (omega arith))
+          ∙ ap (opsOf q .add (getD before (r + 1 + u) 0)) (is-tail .same)
+          ∙ ap (λ (i : ℕ). opsOf q .add (getD before (r + 1 + i) 0) (tail (opsOf q) L (at locator) (at after) (r + 1 + i))) (sym e)
+          ∙ ap (opsOf q .add (getD before (r + 1 + t) 0)) (tails t l)
+      at-value t l (no d) =
+          getD-set-other values u t v 0 d ∙ h .extended .difference t (omega arith) ∙ ap (opsOf q .add (getD before (r + 1 + t) 0)) (tails t l)

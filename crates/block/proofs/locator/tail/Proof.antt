@@ -1,0 +1,74 @@
+-- `block::locator::tail` meets its contract. The loop's invariant: the sum so far is that of a terms.
+use mathlib.Core.Path.{_≡_}
+use Prim.Native.Nat.{_≤_, _-_, _+_}
+use native.Mathlib.Omega.{arith}
+use borrow.Author.Needs.{needs}
+use Rattle.field.specs.Fields.{opsOf}
+use Rattle.field.specs.Symbols.{Is}
+use Rattle.block.specs.Area.{at}
+use Rattle.block.specs.Locator.{tail}
+use Rattle.block.proofs.Accumulated.{sum-none, sum-more}
+use Rattle.block.proofs.locator.tail.Statement.{statement}
+use Rattle.block.proofs.locator.tail.Tie as tie
+use Rattle.block.proofs.locator.tail.Reads as reads
+use Rattle.block.proofs.locator.tail.Lts as lts
+use Rattle.field.proofs.add_product.Reads as add-product-reads
+
+abbrev Inv-loop : tie.InvT-loop
+Inv-loop q tables length locator series j sum₀ a₀ sum a = (a ≤ length) × Is q sum (tail (opsOf q) a (at locator) (at series) j)
+
+abbrev μ-loop : tie.MeasureT-loop
+μ-loop q tables length locator series j sum₀ a₀ sum a = length - a
+
+loop-holds : tie.Need-loop-holds Inv-loop μ-loop
+unfolding tail
+loop-holds c = (search needs, sum-none _ _ (c .pre .0))
+
+add-next : tie.Need-add-next Inv-loop μ-loop
+add-next c = omega arith
+
+element-copy-out-add-product : tie.Need-element-copy-out-add-product Inv-loop μ-loop
+element-copy-out-add-product c = omega arith
+
+sub-add-product : tie.Need-sub-add-product Inv-loop μ-loop
+sub-add-product c = omega arith
+
+element-copy-out-add-product-2 : tie.Need-element-copy-out-add-product-2 Inv-loop μ-loop
+element-copy-out-add-product-2 c = omega arith
+
+add-product-requires : tie.Need-add-product-requires Inv-loop μ-loop
+add-product-requires c κs =
+    let p = c .before .before .before .before .pre in
+    let l = c .before .before .before .loop in
+    (p .0, p .1, l .inv .1 .below, p .2 .below (l .a + 1), p .3 .below (c .before .before .before .before .args .j - (l .a + 1)))
+
+loop-less : tie.Need-loop-less Inv-loop μ-loop
+loop-less c = omega arith
+
+loop-again : tie.Need-loop-again Inv-loop μ-loop
+unfolding tail
+loop-again c =
+    let l = c .before .before .before .before .loop in
+    (omega arith, sum-more _ _ (l .a) (l .sum) _ (l .inv .1) (c .add-product .ensures))
+
+returns : tie.Need-returns Inv-loop μ-loop
+returns c =
+    let l = c .before .loop in
+    let done : l .a ≡ c .before .before .args .length = omega arith in
+    rw done at (l .inv .1)
+
+pub tail-spec : {M : Type 1} → statement M
+tail-spec =
+    tie.close
+    (tie.spec
+    Inv-loop
+    μ-loop
+    loop-holds
+    add-next
+    element-copy-out-add-product
+    sub-add-product
+    element-copy-out-add-product-2
+    add-product-requires
+    loop-less
+    loop-again
+    returns)

@@ -1,0 +1,73 @@
+-- `block::spectrum::spectrum` meets its contract. The loop's invariant: s values stand in the series, and the point is α^s.
+use Prim.Native.Nat.{_≤_, _-_, _+_}
+use mathlib.Core.Path.{_≡_}
+use native.Mathlib.Omega.{arith}
+use borrow.Author.Needs.{needs}
+use lib.ListN.{length}
+use Rattle.algebra.specs.Sum.{power}
+use Rattle.field.specs.Fields.{opsOf, alpha}
+use Rattle.field.specs.Symbols.{Is}
+use Rattle.block.specs.Spectrum.{SpectrumOf}
+use Rattle.block.proofs.Accumulated.{alpha-below}
+use Rattle.block.proofs.Spectra.{point-none, point-more, spectrum-none, spectrum-more}
+use Rattle.block.proofs.spectrum.spectrum.Statement.{statement}
+use Rattle.block.proofs.spectrum.spectrum.Tie as tie
+use Rattle.block.proofs.spectrum.spectrum.Reads as reads
+use Rattle.block.proofs.spectrum.spectrum.Lts as lts
+use Rattle.block.proofs.locator.unit.Reads as unit-reads
+use Rattle.field.proofs.multiply.Reads as multiply-reads
+use Rattle.field.proofs.value.Reads as value-reads
+
+abbrev Inv-loop : tie.InvT-loop
+Inv-loop q tables block series₀ point₀ s₀ series point s = (s ≤ length block) × Is q point (power (opsOf q) alpha s) × SpectrumOf q block s series
+
+abbrev μ-loop : tie.MeasureT-loop
+μ-loop q tables block series₀ point₀ s₀ series point s = length block - s
+
+unit-requires : tie.Need-unit-requires Inv-loop μ-loop
+unit-requires c κs = search needs
+
+loop-holds : tie.Need-loop-holds Inv-loop μ-loop
+loop-holds c = (omega arith, point-none _ (c .before .before .pre .0), spectrum-none _ _ _ (c .before .before .pre .0) (c .unit .ensures))
+
+value-requires : tie.Need-value-requires Inv-loop μ-loop
+value-requires c κs = let p = c .before .before .before .before .pre in (p .0, p .1, p .2, c .before .loop .inv .1 .below)
+
+multiply-requires : tie.Need-multiply-requires Inv-loop μ-loop
+multiply-requires c κs = let p = c .before .before .before .before .before .pre in (p .0, p .1, alpha-below _ (p .0), c .before .before .loop .inv .1 .below)
+
+add-s : tie.Need-add-s Inv-loop μ-loop
+add-s c = omega arith
+
+array-write-series : tie.Need-array-write-series Inv-loop μ-loop
+array-write-series c = omega arith
+
+loop-less : tie.Need-loop-less Inv-loop μ-loop
+loop-less c = omega arith
+
+loop-again : tie.Need-loop-again Inv-loop μ-loop
+loop-again c =
+    let l = c .before .before .before .loop in
+    (omega arith, point-more _ _ _ _ (l .inv .1) (c .multiply .ensures), spectrum-more _ _ _ _ _ _ (l .inv .2) (omega arith) (l .inv .1) (c .before .value .ensures))
+
+returns : tie.Need-returns Inv-loop μ-loop
+returns c =
+    let l = c .before .loop in
+    let done : l .s ≡ length (c .before .before .before .before .args .block .now) = omega arith in
+    rw done at (l .inv .2)
+
+pub spectrum-spec : {M : Type 1} → statement M
+spectrum-spec =
+    tie.close
+    (tie.spec
+    Inv-loop
+    μ-loop
+    unit-requires
+    loop-holds
+    value-requires
+    multiply-requires
+    add-s
+    array-write-series
+    loop-less
+    loop-again
+    returns)

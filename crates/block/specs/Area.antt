@@ -1,0 +1,21 @@
+-- The arrays of the block step: symbols of the field, in a fixed number of places. A larger setting only raises the number.
+-- Holds: `at`, a list as a sequence; `Below`, every symbol below q; `capacity` and `Area`.
+use mathlib.Core.Path.{_≡_}
+use mathlib.Core.List.{List}
+use Prim.Native.Nat.{ℕ, _<_}
+use lib.ListN.{length, getD}
+
+-- A list as a sequence, 0 past its end.
+abbrev pub at : List ℕ → ℕ → ℕ
+at l i = getD l i 0
+
+-- Every symbol is below q; so is 0, past the end.
+abbrev pub Below : ℕ → List ℕ → Type 0
+Below q l = (i : ℕ) → getD l i 0 < q
+
+abbrev pub capacity : ℕ
+capacity = 16
+
+pub record Area (q : ℕ) (l : List ℕ) : Type 0 where
+  pub size : length l ≡ capacity
+  pub below : Below q l

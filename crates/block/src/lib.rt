@@ -1,0 +1,51 @@
+// The block step: from a received block the information of the code block within the limit, or that there is none (01, "Reading a reception").
+pub mod information;
+mod locator;
+mod spectrum;
+
+ghost use mathlib.Core.Path.{_≡_};
+ghost use Prim.Native.Nat.{_≤_};
+ghost use lib.ListN.{length};
+ghost use Rattle.field.specs.Symbols.{Symbols};
+ghost use Rattle.tables.specs.Tables.{Ready, MatrixOf};
+ghost use Rattle.block.specs.Step.{Step};
+
+use code::Setting;
+use field::Tables;
+use tables::{Matrix, Rows};
+
+// Room for one block's information or spectrum.
+pub type Series = locator::Series;
+
+// The level-l combination within half of d_l - 1 symbols of the received block: true, and its l + 1 information blocks; or false, if there is none.
+pub fn repair(
+    p: Setting,
+    products: &Tables,
+    rows: &Rows,
+    matrix: &Matrix,
+    block: &[u8],
+    l: usize,
+    information: &mut Series,
+) -> bool
+    requires { ⌜ Ready p (now products) (now rows) × MatrixOf p (now matrix) × (length (now block) ≡ p .n) × Symbols (p .q) (now block) × (l ≤ p .m) ⌝ }
+    ensures { λ r. ⌜ Step p l (now (block .entry)) (now (information .exit)) r ⌝ }
+{
+    let q = p.q;
+    let k = p.k;
+    let blocks = l + 1;
+    let count = blocks * k;
+    let zeros = p.n - count;
+    let known = zeros + 1;
+    let distance = zeros + 1;
+    let mut series = spectrum::spectrum(q, products, block);
+    let mut locator = locator::unit();
+    let length = locator::locate(q, products, &series, known, &mut locator);
+    let values = spectrum::extend(q, products, length, &locator, zeros, count, &mut series);
+    let found = information::read(q, products, k, blocks, matrix, &values);
+    *information = found;
+    let differing = information::differing(p, products, rows, &found, l, block);
+    if 2 * differing < distance {
+        return true;
+    }
+    false
+}

@@ -1,0 +1,113 @@
+// A frame: the windows in turn, then the last comparison.
+ghost use mathlib.Core.Path.{_≡_};
+ghost use Prim.Native.Nat.{_+_, _*_, _≤_, _<_};
+ghost use lib.ListN.{length};
+ghost use Rattle.field.specs.Symbols.{Symbols};
+ghost use Rattle.code.specs.Code as distances;
+ghost use Rattle.code.specs.Settings.{Sound};
+ghost use Rattle.tables.specs.Tables.{Ready, Small, MatrixOf};
+ghost use Rattle.frame.specs.Frame.{Progress, Advanced, Compared, FrameRead};
+
+use code::Setting;
+use field::Tables;
+use tables::{Matrix, Rows};
+
+// One turn: window j of what is left is read, and message block j found.
+fn turn(
+    p: Setting,
+    products: &Tables,
+    rows: &Rows,
+    matrix: &Matrix,
+    blocks: usize,
+    reception: &[u8],
+    j: usize,
+    message: &mut [u8],
+    left: &mut [u8],
+) -> bool
+    requires { ⌜ Ready p (now products) (now rows) × MatrixOf p (now matrix) × (length (now reception) ≡ (blocks + p .m) * p .n) × Symbols (p .q) (now reception) × (j < blocks) × Progress p blocks (now reception) j (now message) (now left) ⌝ }
+    ensures { λ r. ⌜ Advanced p blocks (now (reception .entry)) (j + 1) (now (message .exit)) (now (left .exit)) r ⌝ }
+{
+    let n = p.n;
+    let k = p.k;
+    let size = (p.m + 1) * n;
+    let start = j * n;
+    let end = start + size;
+    let from = j * k;
+    let to = from + k;
+    super::window::read_window(
+        p,
+        products,
+        rows,
+        matrix,
+        &mut left[start..end],
+        &mut message[from..to],
+    )
+}
+
+// The windows in turn.
+fn read_windows(
+    p: Setting,
+    products: &Tables,
+    rows: &Rows,
+    matrix: &Matrix,
+    blocks: usize,
+    reception: &[u8],
+    message: &mut [u8],
+    left: &mut [u8],
+) -> bool
+    requires { ⌜ Ready p (now products) (now rows) × MatrixOf p (now matrix) × (length (now reception) ≡ (blocks + p .m) * p .n) × Symbols (p .q) (now reception) × Progress p blocks (now reception) 0 (now message) (now left) ⌝ }
+    ensures { λ r. ⌜ Advanced p blocks (now (reception .entry)) blocks (now (message .exit)) (now (left .exit)) r ⌝ }
+{
+    let mut j: usize = 0;
+    while j < blocks {
+        if !turn(p, products, rows, matrix, blocks, reception, j, message, left) {
+            return false;
+        }
+        j += 1;
+    }
+    true
+}
+
+// The last comparison: at most t nonzero symbols in every window of what is left.
+fn compare_windows(p: Setting, blocks: usize, left: &[u8], limit: usize) -> bool
+    requires { ⌜ Sound p × Small p × (limit ≡ distances.limit (p .n) (p .k) (p .m)) × (length (now left) ≡ (blocks + p .m) * p .n) ⌝ }
+    ensures { λ r. ⌜ Compared p blocks (now (left .entry)) r ⌝ }
+{
+    let n = p.n;
+    let size = (p.m + 1) * n;
+    let mut start: usize = 0;
+    let mut j: usize = 0;
+    while j < blocks {
+        let end = start + size;
+        if limit < super::area::weight(&left[start..end]) {
+            return false;
+        }
+        start += n;
+        j += 1;
+    }
+    true
+}
+
+// The message that fits the reception and what is left of the reception without its transmission; or false, if no message fits.
+pub fn read(
+    p: Setting,
+    products: &Tables,
+    rows: &Rows,
+    matrix: &Matrix,
+    blocks: usize,
+    reception: &[u8],
+    message: &mut [u8],
+    left: &mut [u8],
+) -> bool
+    requires { ⌜ Ready p (now products) (now rows) × MatrixOf p (now matrix) × (1 ≤ blocks) × (length (now reception) ≡ (blocks + p .m) * p .n) × Symbols (p .q) (now reception) × (length (now message) ≡ blocks * p .k) × (length (now left) ≡ length (now reception)) ⌝ }
+    ensures { λ r. ⌜ FrameRead p blocks (now (reception .entry)) (now (message .exit)) (now (left .exit)) r ⌝ }
+{
+    super::area::clear(message);
+    bytes::copy(reception, left);
+    if !read_windows(p, products, rows, matrix, blocks, reception, message, left) {
+        return false;
+    }
+    let m = p.m;
+    let limit = (super::window::distances_to(p, m) - 1) / 2;
+    compare_windows(p, blocks, left, limit)
+}
