@@ -1,10 +1,8 @@
 -- Samples of the first "no", computed: which question comes first where several would be answered "no".
 -- Holds: `encoding-samples`, `decoding-samples`, `marks-samples`.
 use mathlib.Core.Path.{_≡_, refl}
-use mathlib.Core.List.{List, [], _∷_, _++_}
-use Prim.Native.Nat.{ℕ}
+use mathlib.Core.List.{[], _∷_, _++_}
 use lib.ListN.{replicate}
-use Rattle.link.specs.declared.Answer.{Answer}
 use Rattle.link.specs.Questions.{answer, firstNo, symbolsTo, encodingQuestions, decodingQuestions, marksQuestions}
 
 -- No setting 257, though its last byte is 1; 8 before 3; 3 before 4; 4 with its place before 6; 6; yes.

@@ -1,6 +1,6 @@
 // The library's calls, and what each returns as text.
-use link::Answer;
 use super::text;
+use link::Answer;
 
 fn show_answer(answer: Answer) {
     text::show_number(answer.number as u64);

@@ -54,7 +54,13 @@ fn handed(head: Head, digits: &mut [u8], first: &mut [u8], second: &mut [u8], th
 }
 
 // The areas of a line, read and handed to its call; false where the input ends.
-fn run(head: Head, digits: &mut [u8], first: &mut [u8], second: &mut [u8], third: &mut [u8]) -> bool {
+fn run(
+    head: Head,
+    digits: &mut [u8],
+    first: &mut [u8],
+    second: &mut [u8],
+    third: &mut [u8],
+) -> bool {
     let a = head.first;
     let b = head.second;
     let c = head.third;
@@ -83,12 +89,24 @@ fn run(head: Head, digits: &mut [u8], first: &mut [u8], second: &mut [u8], third
     if io::read_full(STDIN_FILENO, &mut digits[..size]) != size {
         return false;
     }
-    handed(head, digits, &mut first[..a], &mut second[..b], &mut third[..c]);
+    handed(
+        head,
+        digits,
+        &mut first[..a],
+        &mut second[..b],
+        &mut third[..c],
+    );
     true
 }
 
 // One line; false where the input ends.
-fn line(start: &mut [u8], digits: &mut [u8], first: &mut [u8], second: &mut [u8], third: &mut [u8]) -> bool {
+fn line(
+    start: &mut [u8],
+    digits: &mut [u8],
+    first: &mut [u8],
+    second: &mut [u8],
+    third: &mut [u8],
+) -> bool {
     if start.len() != 43 {
         return false;
     }

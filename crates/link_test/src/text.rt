@@ -1,6 +1,5 @@
 // Hexadecimal text.
 ghost use Prim.Native.Nat.{_<_};
-
 use libc::STDOUT_FILENO;
 
 // The value of a digit, and 0 for any other byte.

@@ -47,7 +47,7 @@ slice-aggregate-read-full : tie.Need-slice-aggregate-read-full
 slice-aggregate-read-full c = sym (length-take-le _ _ (c .before .if7 .left))
 
 read-full-requires : tie.Need-read-full-requires
-read-full-requires c κs = search needs
+read-full-requires c κs = tt
 
 same-length : tie.Need-same-length
 same-length c = search needs

@@ -1,9 +1,8 @@
 -- `link_test::text::bytes`: both places stay within their slices.
-use mathlib.Core.Path.{_≡_, sym, _∙_}
-use Prim.Native.Nat.{ℕ, _+_, _-_, _*_, _≤_, _<_}
+use mathlib.Core.Path.{_≡_}
+use Prim.Native.Nat.{_-_, _≤_}
 use native.Mathlib.Omega.{arith}
 use lib.ListN.{length, length-set}
-use lib.Seq.{length-take-le}
 use borrow.Author.Needs.{needs}
 use Rattle.link_test.proofs.text.bytes.Statement.{statement}
 use Rattle.link_test.proofs.text.bytes.Tie as tie

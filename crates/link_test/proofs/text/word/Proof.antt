@@ -1,10 +1,7 @@
 -- `link_test::text::word`: the index stays within the digits.
-use mathlib.Core.Path.{_≡_, sym, _∙_}
-use Prim.Native.Nat.{ℕ, _+_, _-_, _*_, _≤_, _<_}
+use Prim.Native.Nat.{_-_, _≤_}
 use native.Mathlib.Omega.{arith}
-use lib.ListN.{length, length-set}
-use lib.Seq.{length-take-le}
-use borrow.Author.Needs.{needs}
+use lib.ListN.{length}
 use Rattle.link_test.proofs.text.word.Statement.{statement}
 use Rattle.link_test.proofs.text.word.Tie as tie
 
