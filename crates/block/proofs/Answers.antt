@@ -25,10 +25,10 @@ use Rattle.block.specs.Spectrum.{SpectrumOf, Continued}
 use Rattle.block.specs.Step.{blockCost, Information, Read, Step, near, far}
 use Rattle.block.proofs.CandidateBelow.{combination-same, read-of-near}
 
-module _ (p : Setting) (S : Sound p) (l : ℕ) (level : l ≤ p .m) (block matrix series after values locator found : List ℕ) (L count : ℕ)
+module _ (p : Setting) (S : Sound p) (l : ℕ) (level : l ≤ p .m) (block matrix series after values locator found : List ℕ) (known L count : ℕ)
     (long : length block ≡ p .n) (symbols : Symbols (p .q) block) (M : MatrixOf p matrix)
     (spectral : SpectrumOf (p .q) block (length block) series)
-    (located : Found (p .q) series (p .n - (l + 1) * p .k + 1) L locator)
+    (all-known : known ≡ p .n - (l + 1) * p .k + 1) (located : Found (p .q) series known L locator)
     (continued : Continued (p .q) L (p .n - (l + 1) * p .k) ((l + 1) * p .k) locator series after values)
     (reads : Read (p .q) (p .k) (l + 1) matrix values found)
     (counted : count ≡ distance (p .n) (at block) (combination (codeOf p) l (view (p .k) found))) where
@@ -46,7 +46,7 @@ module _ (p : Setting) (S : Sound p) (l : ℕ) (level : l ≤ p .m) (block matri
       read : (b r : ℕ) → b ≤ l → r < p .k → view (p .k) found b r ≡ x b r
       read =
           read-of-near p S l level block long symbols x information series after values locator matrix found L close
-            (subst (λ (t : ℕ). SpectrumOf (p .q) block t series) long spectral) located continued
+            (subst (λ (t : ℕ). SpectrumOf (p .q) block t series) long spectral) (subst (λ (t : ℕ). Found (p .q) series t L locator) all-known located) continued
             (symbol-below (p .q) matrix (M .symbols) (positive p S)) (M .inverses) reads
 
   pub step-far : levelDistance (p .n) (p .k) l ≤ 2 * count → Step p l block found false

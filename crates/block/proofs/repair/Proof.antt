@@ -86,13 +86,13 @@ returns : tie.Need-returns
 returns c =
     let p = c .before .before .before .before .before .before .before .before .before .before .before .before .before .before .before .pre in
     let a = c .before .before .before .before .before .before .before .before .before .before .before .before .before .before .before .args in
-    step-near (a .p) (p .0 .sound) (a .l) (p .4) _ _ _ _ _ _ _ _ _ (p .2) (p .3) (p .1) (c .before .before .before .before .before .before .before .before .before .before .before .before .spectrum .ensures) (c .before .before .before .before .before .before .before .before .locate .ensures) (c .before .before .before .before .before .extend .ensures) (c .before .before .before .read .ensures) (c .before .differing .ensures) (c .if1 .taken)
+    step-near (a .p) (p .0 .sound) (a .l) (p .4) _ _ _ _ _ _ _ _ _ _ (p .2) (p .3) (p .1) (c .before .before .before .before .before .before .before .before .before .before .before .before .spectrum .ensures) (omega arith) (c .before .before .before .before .before .before .before .before .locate .ensures) (c .before .before .before .before .before .extend .ensures) (c .before .before .before .read .ensures) (c .before .differing .ensures) (omega arith)
 
 returns-2 : tie.Need-returns-2
 returns-2 c =
     let p = c .before .before .before .before .before .before .before .before .before .before .before .before .before .before .before .pre in
     let a = c .before .before .before .before .before .before .before .before .before .before .before .before .before .before .before .args in
-    step-far (a .p) (p .0 .sound) (a .l) (p .4) _ _ _ _ _ _ _ _ _ (p .2) (p .3) (p .1) (c .before .before .before .before .before .before .before .before .before .before .before .before .spectrum .ensures) (c .before .before .before .before .before .before .before .before .locate .ensures) (c .before .before .before .before .before .extend .ensures) (c .before .before .before .read .ensures) (c .before .differing .ensures) (c .if1 .left)
+    step-far (a .p) (p .0 .sound) (a .l) (p .4) _ _ _ _ _ _ _ _ _ _ (p .2) (p .3) (p .1) (c .before .before .before .before .before .before .before .before .before .before .before .before .spectrum .ensures) (omega arith) (c .before .before .before .before .before .before .before .before .locate .ensures) (c .before .before .before .before .before .extend .ensures) (c .before .before .before .read .ensures) (c .before .differing .ensures) (omega arith)
 
 pub repair-spec : {M : Type 1} → statement M
 repair-spec =
