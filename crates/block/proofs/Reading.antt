@@ -14,7 +14,7 @@ use Rattle.field.specs.Fields.{Good, opsOf}
 use Rattle.field.specs.Symbols.{Is}
 use Rattle.block.specs.Area.{Area, at, capacity}
 use Rattle.block.specs.Step.{Read}
-use Rattle.block.proofs.Accumulated.{zero-below, zeros-at, area-set}
+use Rattle.block.proofs.Accumulated.{area-zeros, area-set}
 
 -- What is to stand at place t.
 unfoldable pub symbolAt : ℕ → ℕ → List ℕ → List ℕ → ℕ → ℕ
@@ -28,7 +28,7 @@ module _ (q k : ℕ) (matrix values : List ℕ) where
   pub read-none : Good q → ReadTo q k 0 matrix values (replicate capacity 0)
   read-none good =
       record {
-        area = record { size = refl; below = λ i. subst (λ (t : ℕ). t < q) (sym (zeros-at capacity i)) (zero-below q good) };
+        area = area-zeros q good;
         symbols = λ t l. absurd (omega arith)
       }
 

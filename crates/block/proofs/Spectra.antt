@@ -20,7 +20,7 @@ use Rattle.block.specs.Area.{Area, at, capacity}
 use Rattle.block.specs.Locator.{tail}
 use Rattle.block.specs.Progress.{Unit}
 use Rattle.block.specs.Spectrum.{SpectrumOf, Continued}
-use Rattle.block.proofs.Accumulated.{zero-below, area-set, zeros-at}
+use Rattle.block.proofs.Accumulated.{area-set, area-zeros}
 use Rattle.block.proofs.Placing.{unit-area}
 
 module _ (q : ℕ) where
@@ -64,7 +64,7 @@ module _ (q L r : ℕ) (locator before : List ℕ) where
   continued-none good h =
       record {
         area = h;
-        values-area = record { size = refl; below = λ i. subst (λ (t : ℕ). t < q) (sym (zeros-at capacity i)) (zero-below q good) };
+        values-area = area-zeros q good;
         extended = record { kept = λ j l. refl; recurs = λ u l. absurd (omega arith); difference = λ u l. absurd (omega arith) };
         beyond = λ j l. refl
       }
