@@ -1,7 +1,7 @@
 -- The two answers of the block step, from what its parts promise (the chain: distance lemma, locator, spectrum of the error, information).
 -- Holds: `step-near`, `step-far`.
-use mathlib.Core.Path.{_≡_, refl, sym, ap, subst, _∙_}
-use mathlib.Core.Bool.{Bool, true, false, not}
+use mathlib.Core.Path.{_≡_, ap, subst, _∙_}
+use mathlib.Core.Bool.{true, false, not}
 use mathlib.Core.List.{List}
 use Prim.Native.Nat.{ℕ, _+_, _-_, _*_, _≤_, _<_}
 use native.Mathlib.Omega.{arith}
@@ -41,13 +41,13 @@ module _ (p : Setting) (S : Sound p) (l : ℕ) (level : l ≤ p .m) (block matri
   same-count x information close =
       counted
       ∙ countOf-ext (p .n) (λ i. not (eqb (at block i) (combination (codeOf p) l (view (p .k) found) i))) (λ i. not (eqb (at block i) (combination (codeOf p) l x i)))
-        (λ i h. ap (λ (t : ℕ). not (eqb (at block i) t)) (combination-same (codeOf p) l (view (p .k) found) x i read))
+      (λ i h. ap (λ (t : ℕ). not (eqb (at block i) t)) (combination-same (codeOf p) l (view (p .k) found) x i read))
     where
       read : (b r : ℕ) → b ≤ l → r < p .k → view (p .k) found b r ≡ x b r
       read =
           read-of-near p S l level block long symbols x information series after values locator matrix found L close
-            (subst (λ (t : ℕ). SpectrumOf (p .q) block t series) long spectral) (subst (λ (t : ℕ). Found (p .q) series t L locator) all-known located) continued
-            (symbol-below (p .q) matrix (M .symbols) (positive p S)) (M .inverses) reads
+          (subst (λ (t : ℕ). SpectrumOf (p .q) block t series) long spectral) (subst (λ (t : ℕ). Found (p .q) series t L locator) all-known located) continued
+          (symbol-below (p .q) matrix (M .symbols) (positive p S)) (M .inverses) reads
 
   pub step-far : levelDistance (p .n) (p .k) l ≤ 2 * count → Step p l block found false
   step-far h = far (λ x information. by-cost x information (decLt (blockCost p l block x) (levelDistance (p .n) (p .k) l)))

@@ -1,6 +1,5 @@
 -- What a setting's bounds give: a level's information fits a block, a block fits an area, the matrix its array.
 -- Holds: `level-fits`, `block-short`, `matrix-small`, `area-symbols`.
-use mathlib.Core.Path.{_≡_}
 use mathlib.Core.List.{List}
 use Prim.Native.Nat.{ℕ, _+_, _-_, _*_, _≤_, _<_}
 use native.Mathlib.Nat.{mul-le-mul-right, mul-le-mul}

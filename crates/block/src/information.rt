@@ -13,11 +13,11 @@ ghost use Rattle.code.specs.Settings.{codeOf};
 ghost use Rattle.tables.specs.Tables.{Ready};
 ghost use Rattle.block.specs.Area.{Area, Below, at, capacity};
 ghost use Rattle.block.specs.Step.{Read};
-
+use super::locator::Series;
 use code::Setting;
 use field::Tables;
-use tables::{Matrix, Rows};
-use super::locator::Series;
+use tables::Matrix;
+use tables::Rows;
 
 // Row a of the matrix times the k values from a place on.
 fn times_row(

@@ -9,10 +9,10 @@ ghost use lib.ListN.{length};
 ghost use Rattle.field.specs.Symbols.{Symbols};
 ghost use Rattle.tables.specs.Tables.{Ready, MatrixOf};
 ghost use Rattle.block.specs.Step.{Step};
-
 use code::Setting;
 use field::Tables;
-use tables::{Matrix, Rows};
+use tables::Matrix;
+use tables::Rows;
 
 // Room for one block's information or spectrum.
 pub type Series = locator::Series;

@@ -7,7 +7,6 @@ ghost use Rattle.field.specs.Tables.{Lent};
 ghost use Rattle.block.specs.Area.{Area, at, capacity};
 ghost use Rattle.block.specs.Locator.{tail as tailOf};
 ghost use Rattle.block.specs.Progress.{Unit, Multiple, Placed, Found};
-
 use field::Tables;
 
 // A series of symbols, or a polynomial, lowest power first.

@@ -6,9 +6,8 @@ ghost use Rattle.field.specs.Symbols.{Symbols};
 ghost use Rattle.field.specs.Tables.{Lent};
 ghost use Rattle.block.specs.Area.{Area, capacity};
 ghost use Rattle.block.specs.Spectrum.{SpectrumOf, Continued};
-
-use field::Tables;
 use super::locator::Series;
+use field::Tables;
 
 // 1, then the values of the block's polynomial at α^0, α^1, .., one for each symbol.
 pub fn spectrum(q: usize, tables: &Tables, block: &[u8]) -> Series

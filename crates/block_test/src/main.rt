@@ -7,12 +7,12 @@ ghost use Rattle.field.specs.Fields.{Good};
 ghost use Rattle.code.specs.Settings.{isSetting, settingOf};
 ghost use Rattle.tables.specs.Tables.{Ready, MatrixOf};
 ghost use Rattle.block.specs.Area.{Area};
-
 use block::Series;
 use code::Setting;
 use field::Tables;
 use libc::STDOUT_FILENO;
-use tables::{Matrix, Rows};
+use tables::Matrix;
+use tables::Rows;
 
 // A number's digits to the base q: its i-th block, or its i-th information.
 fn digits(q: usize, number: usize) -> Series
@@ -106,7 +106,15 @@ fn one(
     let received = digits(p.q, number);
     let expected = some_near(p, products, rows, l, &received, distance, count);
     let mut information = [0u8; 16];
-    let found = block::repair(p, products, rows, matrix, &received[0..n], l, &mut information);
+    let found = block::repair(
+        p,
+        products,
+        rows,
+        matrix,
+        &received[0..n],
+        l,
+        &mut information,
+    );
     if found {
         if expected {
             return Tally { near: 1, agree: 1 };
@@ -166,7 +174,17 @@ fn level(number: u32, l: usize, distance: usize, count: usize, stride: usize, en
     let matrix = tables::matrix(number);
     print(number as usize, b' ');
     print(l, b' ');
-    compare(p, &products, &rows, &matrix, l, distance, count, stride, end);
+    compare(
+        p,
+        &products,
+        &rows,
+        &matrix,
+        l,
+        distance,
+        count,
+        stride,
+        end,
+    );
 }
 
 fn main() {

@@ -1,6 +1,4 @@
 -- `block::repair` meets its contract: what its parts promise gives the two answers.
-use mathlib.Core.Path.{_≡_}
-use Prim.Native.Nat.{_+_, _*_, _≤_, _<_}
 use native.Mathlib.Omega.{arith}
 use Rattle.code.specs.Transmission.{view}
 use Rattle.code.specs.Level.{combination}
@@ -13,14 +11,6 @@ use Rattle.block.proofs.Answers.{step-near, step-far}
 use borrow.Author.Needs.{needs}
 use Rattle.block.proofs.repair.Statement.{statement}
 use Rattle.block.proofs.repair.Tie as tie
-use Rattle.block.proofs.repair.Reads as reads
-use Rattle.block.proofs.repair.Lts as lts
-use Rattle.block.proofs.information.differing.Reads as differing-reads
-use Rattle.block.proofs.information.read.Reads as read-reads
-use Rattle.block.proofs.locator.locate.Reads as locate-reads
-use Rattle.block.proofs.locator.unit.Reads as unit-reads
-use Rattle.block.proofs.spectrum.extend.Reads as extend-reads
-use Rattle.block.proofs.spectrum.spectrum.Reads as spectrum-reads
 
 add-blocks : tie.Need-add-blocks
 add-blocks c = search needs
@@ -50,26 +40,26 @@ extend-requires : tie.Need-extend-requires
 extend-requires c κs =
     let p = c .before .before .before .before .before .before .before .before .before .pre in
     let a = c .before .before .before .before .before .before .before .before .before .args in
-    let placed = c .before .before .locate .ensures .placed in
-    ( p .0 .sound .good
-    , p .0 .products
-    , placed .locator-area
-    , c .before .before .before .before .before .before .spectrum .ensures .area
-    , omega (arith, placed .located .grown, placed .located .placed)
-    , omega (arith, level-fits (a .p) (p .0 .sound) (a .l) (p .4), block-short (a .p) (p .0 .sound) (p .0 .small))
+    let placed = c .before .before .locate .ensures .placed in (
+      p .0 .sound .good,
+      p .0 .products,
+      placed .locator-area,
+      c .before .before .before .before .before .before .spectrum .ensures .area,
+      omega (arith, placed .located .grown, placed .located .placed),
+      omega (arith, level-fits (a .p) (p .0 .sound) (a .l) (p .4), block-short (a .p) (p .0 .sound) (p .0 .small)),
     )
 
 read-requires : tie.Need-read-requires
 read-requires c κs =
     let p = c .before .before .before .before .before .before .before .before .before .before .before .pre in
-    let a = c .before .before .before .before .before .before .before .before .before .before .before .args in
-    ( p .0 .sound .good
-    , p .0 .products
-    , p .0 .sound .information
-    , matrix-small (a .p) (p .0 .small)
-    , omega (arith, level-fits (a .p) (p .0 .sound) (a .l) (p .4), block-short (a .p) (p .0 .sound) (p .0 .small))
-    , symbol-below (a .p .q) (a .matrix .now) (p .1 .symbols) (zero-below (a .p .q) (p .0 .sound .good))
-    , c .before .extend .ensures .values-area
+    let a = c .before .before .before .before .before .before .before .before .before .before .before .args in (
+      p .0 .sound .good,
+      p .0 .products,
+      p .0 .sound .information,
+      matrix-small (a .p) (p .0 .small),
+      omega (arith, level-fits (a .p) (p .0 .sound) (a .l) (p .4), block-short (a .p) (p .0 .sound) (p .0 .small)),
+      symbol-below (a .p .q) (a .matrix .now) (p .1 .symbols) (zero-below (a .p .q) (p .0 .sound .good)),
+      c .before .extend .ensures .values-area,
     )
 
 differing-requires : tie.Need-differing-requires

@@ -4,10 +4,6 @@ use native.Mathlib.Omega.{arith}
 use borrow.Author.Needs.{needs}
 use Rattle.block_test.proofs.compare.Statement.{statement}
 use Rattle.block_test.proofs.compare.Tie as tie
-use Rattle.block_test.proofs.compare.Reads as reads
-use Rattle.block_test.proofs.compare.Lts as lts
-use Rattle.block_test.proofs.one.Reads as one-reads
-use Rattle.block_test.proofs.print.Reads as print-reads
 
 abbrev Inv-loop : tie.InvT-loop
 Inv-loop p products rows matrix l distance count stride end blocks₀ near₀ agree₀ number₀ blocks near agree number = (number ≤ end + stride) × (blocks ≤ number) × (near ≤ blocks) × (agree ≤ blocks)

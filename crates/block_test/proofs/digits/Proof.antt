@@ -1,15 +1,12 @@
 -- `block_test::digits` meets its contract. The loop's invariant: the area holds symbols.
-use Prim.Native.Nat.{_≤_, _-_, _+_, _%_}
+use Prim.Native.Nat.{_≤_, _-_}
 use native.Mathlib.Nat.{mod-lt}
 use native.Mathlib.Omega.{arith}
-use mathlib.Core.Path.{refl}
 use Rattle.field.proofs.Operations.{good-small}
 use Rattle.block.specs.Area.{Area}
 use Rattle.block.proofs.Accumulated.{zero-below, area-set, area-zeros}
 use Rattle.block_test.proofs.digits.Statement.{statement}
 use Rattle.block_test.proofs.digits.Tie as tie
-use Rattle.block_test.proofs.digits.Reads as reads
-use Rattle.block_test.proofs.digits.Lts as lts
 
 abbrev Inv-loop : tie.InvT-loop
 Inv-loop q number series₀ rest₀ i₀ series rest i = (i ≤ 16) × Area q series

@@ -1,5 +1,5 @@
 -- `block_test::level` is safe and ends: the tables are those of the setting.
-use mathlib.Core.Path.{_≡_, sym, subst}
+use mathlib.Core.Path.{sym, subst}
 use Prim.Native.Nat.{_≤_}
 use Rattle.code.specs.declared.Setting.{Setting}
 use Rattle.tables.specs.Tables.{MatrixOf}
@@ -7,14 +7,6 @@ use Rattle.block_test.proofs.Lent.{ready}
 use borrow.Author.Needs.{needs}
 use Rattle.block_test.proofs.level.Statement.{statement}
 use Rattle.block_test.proofs.level.Tie as tie
-use Rattle.block_test.proofs.level.Reads as reads
-use Rattle.block_test.proofs.level.Lts as lts
-use Rattle.block_test.proofs.compare.Reads as compare-reads
-use Rattle.block_test.proofs.print.Reads as print-reads
-use Rattle.field.proofs.tables.Reads as tables-reads
-use Rattle.tables.proofs.matrix.Reads as matrix-reads
-use Rattle.tables.proofs.rows.Reads as rows-reads
-use Rattle.tables.proofs.setting.Reads as setting-reads
 
 setting-requires : tie.Need-setting-requires
 setting-requires c κs = search needs
@@ -37,13 +29,13 @@ print-requires-2 c κs = search needs
 compare-requires : tie.Need-compare-requires
 compare-requires c κs =
     let p = c .before .before .before .before .before .before .before .before .before .pre in
-    let e = c .before .before .before .before .before .before .before .before .setting .ensures in
-    ( ready (c .before .before .before .before .before .before .before .before .before .args .number) _ _ _ (p .0) e (c .before .before .before .before .before .before .before .tables .ensures) (c .before .before .before .before .before .before .rows .ensures)
-    , subst (λ (x : Setting). MatrixOf x (c .before .before .before .before .before .matrix .result)) (sym e) (c .before .before .before .before .before .matrix .ensures)
-    , subst (λ (x : Setting). c .before .before .before .before .before .before .before .before .before .args .l ≤ x .m) (sym e) (p .1)
-    , p .2
-    , p .3
-    , p .4
+    let e = c .before .before .before .before .before .before .before .before .setting .ensures in (
+      ready (c .before .before .before .before .before .before .before .before .before .args .number) _ _ _ (p .0) e (c .before .before .before .before .before .before .before .tables .ensures) (c .before .before .before .before .before .before .rows .ensures),
+      subst (λ (x : Setting). MatrixOf x (c .before .before .before .before .before .matrix .result)) (sym e) (c .before .before .before .before .before .matrix .ensures),
+      subst (λ (x : Setting). c .before .before .before .before .before .before .before .before .before .args .l ≤ x .m) (sym e) (p .1),
+      p .2,
+      p .3,
+      p .4,
     )
 
 returns : tie.Need-returns

@@ -5,9 +5,6 @@ use borrow.Author.Needs.{needs}
 use Rattle.block.proofs.Levels.{level-fits, block-short, area-symbols}
 use Rattle.block_test.proofs.near.Statement.{statement}
 use Rattle.block_test.proofs.near.Tie as tie
-use Rattle.block_test.proofs.near.Reads as reads
-use Rattle.block_test.proofs.near.Lts as lts
-use Rattle.tables.proofs.product.combination.Reads as combination-reads
 
 abbrev Inv-loop : tie.InvT-loop
 Inv-loop p products rows information l received distance n cost₀ i₀ cost i = (i ≤ n) × (cost ≤ 2 * i)

@@ -1,6 +1,5 @@
 -- `block_test::one` meets its contract.
 use Prim.Native.Nat.{_-_}
-use mathlib.Core.Path.{_≡_, _∙_}
 use native.Mathlib.Omega.{arith}
 use lib.ListN.{length-take}
 use Rattle.field.proofs.Symbols.{symbols-take}
@@ -8,11 +7,6 @@ use Rattle.block.proofs.Levels.{block-short, area-symbols}
 use borrow.Author.Needs.{needs}
 use Rattle.block_test.proofs.one.Statement.{statement}
 use Rattle.block_test.proofs.one.Tie as tie
-use Rattle.block_test.proofs.one.Reads as reads
-use Rattle.block_test.proofs.one.Lts as lts
-use Rattle.block.proofs.repair.Reads as repair-reads
-use Rattle.block_test.proofs.digits.Reads as digits-reads
-use Rattle.block_test.proofs.some_near.Reads as some-near-reads
 
 digits-requires : tie.Need-digits-requires
 digits-requires c κs = search needs
@@ -34,12 +28,12 @@ repair-requires c κs =
     let p = c .before .before .before .before .before .before .pre in
     let s = c .before .before .before .before .before .before .args .p in
     let l = c .before .before .before .before .before .digits .result in
-    let a = c .before .before .before .before .before .digits .ensures in
-    ( p .0
-    , p .1
-    , omega (arith, length-take (s .n - 0) l, a .size, block-short s (p .0 .sound) (p .0 .small))
-    , symbols-take (s .q) (s .n - 0) l (area-symbols a)
-    , p .2
+    let a = c .before .before .before .before .before .digits .ensures in (
+      p .0,
+      p .1,
+      omega (arith, length-take (s .n - 0) l, a .size, block-short s (p .0 .sound) (p .0 .small)),
+      symbols-take (s .q) (s .n - 0) l (area-symbols a),
+      p .2,
     )
 
 returns : tie.Need-returns

@@ -4,10 +4,6 @@ use native.Mathlib.Omega.{arith}
 use borrow.Author.Needs.{needs}
 use Rattle.block_test.proofs.some_near.Statement.{statement}
 use Rattle.block_test.proofs.some_near.Tie as tie
-use Rattle.block_test.proofs.some_near.Reads as reads
-use Rattle.block_test.proofs.some_near.Lts as lts
-use Rattle.block_test.proofs.digits.Reads as digits-reads
-use Rattle.block_test.proofs.near.Reads as near-reads
 
 abbrev Inv-loop : tie.InvT-loop
 Inv-loop p products rows l received distance count x₀ x = x ≤ count

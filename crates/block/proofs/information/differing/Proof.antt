@@ -2,7 +2,6 @@
 use Prim.Native.Nat.{ℕ, _≤_, _-_, _+_, _*_}
 use mathlib.Core.Path.{_≡_, sym, ap, _∙_}
 use native.Mathlib.Omega.{arith}
-use borrow.Author.Needs.{needs}
 use Rattle.algebra.specs.Weight.{distance}
 use Rattle.code.specs.Transmission.{view}
 use Rattle.code.specs.Level.{combination}
@@ -12,9 +11,6 @@ use Rattle.block.proofs.Accumulated.{distance-none, distance-same, dist
 use Rattle.block.proofs.Levels.{level-fits, block-short, area-symbols}
 use Rattle.block.proofs.information.differing.Statement.{statement}
 use Rattle.block.proofs.information.differing.Tie as tie
-use Rattle.block.proofs.information.differing.Reads as reads
-use Rattle.block.proofs.information.differing.Lts as lts
-use Rattle.tables.proofs.product.combination.Reads as combination-reads
 
 abbrev Inv-loop : tie.InvT-loop
 Inv-loop p products rows information l block n count₀ i₀ count i = (i ≤ n) × (count ≤ i) × (count ≡ distance i (at block) (combination (codeOf p) l (view (p .k) information)))

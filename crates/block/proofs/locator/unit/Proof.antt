@@ -7,8 +7,6 @@ use Rattle.block.proofs.Accumulated.{zeros-at}
 use borrow.Author.Needs.{needs}
 use Rattle.block.proofs.locator.unit.Statement.{statement}
 use Rattle.block.proofs.locator.unit.Tie as tie
-use Rattle.block.proofs.locator.unit.Reads as reads
-use Rattle.block.proofs.locator.unit.Lts as lts
 
 array-write-series : tie.Need-array-write-series
 array-write-series c = search needs
