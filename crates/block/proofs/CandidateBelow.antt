@@ -36,7 +36,8 @@ use Rattle.block.specs.Area.{at}
 use Rattle.block.specs.Locator.{Located, Extended}
 use Rattle.block.specs.Progress.{Found}
 use Rattle.block.specs.Spectrum.{SpectrumOf, Continued}
-use Rattle.block.specs.Step.{blockCost, Information, Read}
+use Rattle.block.specs.Information.{Read}
+use Rattle.block.specs.Step.{blockCost, Information}
 use Rattle.block.proofs.Accumulated.{alpha-below}
 use Rattle.block.proofs.Levels.{level-fits}
 use Rattle.block.proofs.LocatorBelow.{K, positive, el, up, down, raise, fall, zero-down, one-down, add-down, mul-down, neg-down, sum-down, tail-down, located-up}

@@ -13,7 +13,7 @@ use Rattle.algebra.specs.Sum.{sum}
 use Rattle.field.specs.Fields.{Good, opsOf}
 use Rattle.field.specs.Symbols.{Is}
 use Rattle.block.specs.Area.{Area, at, capacity}
-use Rattle.block.specs.Step.{Read}
+use Rattle.block.specs.Information.{Read}
 use Rattle.block.proofs.Accumulated.{area-zeros, area-set}
 
 -- What is to stand at place t.

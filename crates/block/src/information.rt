@@ -12,7 +12,8 @@ ghost use Rattle.code.specs.Level.{combination};
 ghost use Rattle.code.specs.Settings.{codeOf};
 ghost use Rattle.tables.specs.Tables.{Ready};
 ghost use Rattle.block.specs.Area.{Area, Below, at, capacity};
-ghost use Rattle.block.specs.Step.{Read};
+ghost use Rattle.block.specs.Information.{Read};
+use super::CAPACITY;
 use super::locator::Series;
 use code::Setting;
 use field::Tables;
@@ -53,7 +54,7 @@ pub fn read(
     requires { ⌜ Good q × Lent (now products) × (0 < k) × (k * k ≤ 9) × (blocks * k ≤ capacity) × Below q (now matrix) × Area q (now values) ⌝ }
     ensures { λ r. ⌜ Read q k blocks (now (matrix .entry)) (now (values .entry)) r ⌝ }
 {
-    let mut information = [0u8; 16];
+    let mut information = [0u8; CAPACITY];
     let count = blocks * k;
     let mut place: usize = 0;
     while place < count {

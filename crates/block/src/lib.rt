@@ -14,7 +14,10 @@ use field::Tables;
 use tables::Matrix;
 use tables::Rows;
 
-// Room for one block's information or spectrum.
+// Room for a block's spectrum and a 1 before it. A larger setting raises it, here and in specs/Area.antt.
+pub const CAPACITY: usize = 16;
+
+// Symbols in so many places.
 pub type Series = locator::Series;
 
 // The level-l combination within half of d_l - 1 symbols of the received block: true, and its l + 1 information blocks; or false, if there is none.

@@ -7,6 +7,7 @@ ghost use Rattle.field.specs.Fields.{Good};
 ghost use Rattle.code.specs.Settings.{isSetting, settingOf};
 ghost use Rattle.tables.specs.Tables.{Ready, MatrixOf};
 ghost use Rattle.block.specs.Area.{Area};
+use block::CAPACITY;
 use block::Series;
 use code::Setting;
 use field::Tables;
@@ -19,10 +20,10 @@ fn digits(q: usize, number: usize) -> Series
     requires { ⌜ Good q ⌝ }
     ensures { λ r. ⌜ Area q r ⌝ }
 {
-    let mut series = [0u8; 16];
+    let mut series = [0u8; CAPACITY];
     let mut rest = number;
     let mut i: usize = 0;
-    while i < 16 {
+    while i < CAPACITY {
         series[i] = (rest % q) as u8;
         rest = rest / q;
         i += 1;
@@ -105,7 +106,7 @@ fn one(
     let n = p.n;
     let received = digits(p.q, number);
     let expected = some_near(p, products, rows, l, &received, distance, count);
-    let mut information = [0u8; 16];
+    let mut information = [0u8; CAPACITY];
     let found = block::repair(
         p,
         products,

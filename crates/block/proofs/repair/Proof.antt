@@ -7,7 +7,7 @@ use Rattle.code.proofs.Lists.{symbol-below}
 use Rattle.block.specs.Area.{at}
 use Rattle.block.proofs.Accumulated.{zero-below, distance-le}
 use Rattle.block.proofs.Levels.{level-fits, block-short, matrix-small}
-use Rattle.block.proofs.Answers.{step-near, step-far}
+use Rattle.block.proofs.Answers.{Parts, step-near, step-far}
 use borrow.Author.Needs.{needs}
 use Rattle.block.proofs.repair.Statement.{statement}
 use Rattle.block.proofs.repair.Tie as tie
@@ -72,17 +72,37 @@ mul-if1 c =
     let few = distance-le (at (a .block .now)) (combination (codeOf (a .p)) (a .l) (view (a .p .k) (c .before .before .read .result))) (a .p .n) in
     omega (arith, c .differing .ensures, few, block-short (a .p) (p .0 .sound) (p .0 .small))
 
+-- What the parts have promised where the count is known.
+parts : (c : tie.After-differing)
+    → Parts (c .before .before .before .before .before .before .before .before .before .before .before .before .before .before .args .p) (c .before .before .before .before .before .before .before .before .before .before .before .before .before .before .args .l) (c .before .before .before .before .before .before .before .before .before .before .before .before .before .before .args .block .now) (c .before .before .read .result) (c .differing .result)
+parts c =
+    let p = c .before .before .before .before .before .before .before .before .before .before .before .before .before .before .pre in
+    record {
+      sound = p .0 .sound;
+      level = p .4;
+      long = p .2;
+      symbols = p .3;
+      matrix = _;
+      inverse = p .1;
+      series = _;
+      spectral = c .before .before .before .before .before .before .before .before .before .before .before .spectrum .ensures;
+      known = _;
+      length-found = _;
+      locator = _;
+      located = c .before .before .before .before .before .before .before .locate .ensures;
+      all-known = omega arith;
+      after = _;
+      values = _;
+      continued = c .before .before .before .before .extend .ensures;
+      reads = c .before .before .read .ensures;
+      counted = c .differing .ensures
+    }
+
 returns : tie.Need-returns
-returns c =
-    let p = c .before .before .before .before .before .before .before .before .before .before .before .before .before .before .before .pre in
-    let a = c .before .before .before .before .before .before .before .before .before .before .before .before .before .before .before .args in
-    step-near (a .p) (p .0 .sound) (a .l) (p .4) _ _ _ _ _ _ _ _ _ _ (p .2) (p .3) (p .1) (c .before .before .before .before .before .before .before .before .before .before .before .before .spectrum .ensures) (omega arith) (c .before .before .before .before .before .before .before .before .locate .ensures) (c .before .before .before .before .before .extend .ensures) (c .before .before .before .read .ensures) (c .before .differing .ensures) (omega arith)
+returns c = step-near _ _ _ _ _ (parts (c .before)) (omega arith)
 
 returns-2 : tie.Need-returns-2
-returns-2 c =
-    let p = c .before .before .before .before .before .before .before .before .before .before .before .before .before .before .before .pre in
-    let a = c .before .before .before .before .before .before .before .before .before .before .before .before .before .before .before .args in
-    step-far (a .p) (p .0 .sound) (a .l) (p .4) _ _ _ _ _ _ _ _ _ _ (p .2) (p .3) (p .1) (c .before .before .before .before .before .before .before .before .before .before .before .before .spectrum .ensures) (omega arith) (c .before .before .before .before .before .before .before .before .locate .ensures) (c .before .before .before .before .before .extend .ensures) (c .before .before .before .read .ensures) (c .before .differing .ensures) (omega arith)
+returns-2 c = step-far _ _ _ _ _ (parts (c .before)) (omega arith)
 
 pub repair-spec : {M : Type 1} → statement M
 repair-spec =

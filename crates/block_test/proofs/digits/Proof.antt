@@ -3,16 +3,16 @@ use Prim.Native.Nat.{_≤_, _-_}
 use native.Mathlib.Nat.{mod-lt}
 use native.Mathlib.Omega.{arith}
 use Rattle.field.proofs.Operations.{good-small}
-use Rattle.block.specs.Area.{Area}
+use Rattle.block.specs.Area.{Area, capacity}
 use Rattle.block.proofs.Accumulated.{zero-below, area-set, area-zeros}
 use Rattle.block_test.proofs.digits.Statement.{statement}
 use Rattle.block_test.proofs.digits.Tie as tie
 
 abbrev Inv-loop : tie.InvT-loop
-Inv-loop q number series₀ rest₀ i₀ series rest i = (i ≤ 16) × Area q series
+Inv-loop q number series₀ rest₀ i₀ series rest i = (i ≤ capacity) × Area q series
 
 abbrev μ-loop : tie.MeasureT-loop
-μ-loop q number series₀ rest₀ i₀ series rest i = 16 - i
+μ-loop q number series₀ rest₀ i₀ series rest i = capacity - i
 
 loop-holds : tie.Need-loop-holds Inv-loop μ-loop
 loop-holds c = (omega arith, area-zeros _ (c .pre))

@@ -2,6 +2,7 @@
 use Prim.Native.Nat.{_≤_, _-_, _+_, _*_}
 use native.Mathlib.Omega.{arith}
 use borrow.Author.Needs.{needs}
+use Rattle.block.specs.Area.{capacity}
 use Rattle.block.proofs.Levels.{level-fits, block-short, area-symbols}
 use Rattle.block_test.proofs.near.Statement.{statement}
 use Rattle.block_test.proofs.near.Tie as tie
@@ -19,7 +20,7 @@ combination-requires : tie.Need-combination-requires Inv-loop μ-loop
 combination-requires c κs =
     let p = c .before .before .before .pre in
     let s = c .before .before .before .args .p in
-    let room : (c .before .before .before .args .l + 1) * s .k ≤ 16 = omega (arith, level-fits s (p .0 .sound) (c .before .before .before .args .l) (p .2), block-short s (p .0 .sound) (p .0 .small)) in
+    let room : (c .before .before .before .args .l + 1) * s .k ≤ capacity = omega (arith, level-fits s (p .0 .sound) (c .before .before .before .args .l) (p .2), block-short s (p .0 .sound) (p .0 .small)) in
     (p .0, area-symbols (p .1), rw (p .1 .size) room, p .2, omega arith)
 
 element-copy-out-same : tie.Need-element-copy-out-same Inv-loop μ-loop
