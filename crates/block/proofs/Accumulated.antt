@@ -18,7 +18,7 @@ use Rattle.algebra.specs.Weight.{total, distance}
 use Rattle.algebra.proofs.Weights.{countOf-le}
 use Rattle.field.specs.Fields.{Good, five-elements, eight-elements, opsOf, alpha}
 use Rattle.field.specs.Symbols.{Is}
-use Rattle.block.specs.Area.{Below, Area, capacity}
+use Rattle.block.specs.Area.{AllBelow, Area, capacity}
 
 pub zero-below : (q : ℕ) → Good q → 0 < q
 zero-below q five-elements = lit< tt
@@ -39,7 +39,7 @@ module _ (q : ℕ) (f : ℕ → ℕ) where
       record { same = e .same ∙ ap (λ (t : ℕ). opsOf q .add t (f a)) (h .same) ∙ ap (λ (t : ℕ). sum (opsOf q) t f) (sym (add-one a)); below = e .below }
 
 -- The symbols of an area after a store are below q.
-pub below-set : (q : ℕ) (l : List ℕ) (i v : ℕ) → Below q l → v < q → Below q (set l i v)
+pub below-set : (q : ℕ) (l : List ℕ) (i v : ℕ) → AllBelow q l → v < q → AllBelow q (set l i v)
 below-set q l i v h b j = at (ℕ-discrete j i) (decLt i (length l))
   where
     at : Dec (j ≡ i) → Dec (i < length l) → getD (set l i v) j 0 < q

@@ -1,4 +1,8 @@
 // The block step: from a received block the information of the code block within the limit, or that there is none (01, "Reading a reception").
+// A block's spectrum is its values at α^0, α^1, ... That of a level-l code block is zero at the first n - (l+1)k places, so there the received block shows
+// the spectrum of the error. The locator that annihilates what is known of it continues it by a recurrence, rightly if the error is light; what the
+// received block has besides is the code block's spectrum, and the matrix reads the information off it. The block is rebuilt from the rows and
+// compared, so a good answer rests on nothing else.
 mod information;
 mod locator;
 mod spectrum;

@@ -7,8 +7,8 @@ ghost use Rattle.field.specs.Tables.{Lent};
 ghost use Rattle.block.specs.Area.{Area, at, capacity};
 ghost use Rattle.block.specs.Locator.{tail as tailOf};
 ghost use Rattle.block.specs.Progress.{Unit, Multiple, Placed, Found};
-use field::Tables;
 use super::CAPACITY;
+use field::Tables;
 
 // A series of symbols, or a polynomial, lowest power first.
 pub type Series = [u8; CAPACITY];

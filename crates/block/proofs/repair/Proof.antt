@@ -95,7 +95,7 @@ parts c =
       values = _;
       continued = c .before .before .before .before .extend .ensures;
       reads = c .before .before .read .ensures;
-      counted = c .differing .ensures
+      counted = c .differing .ensures;
     }
 
 returns : tie.Need-returns
