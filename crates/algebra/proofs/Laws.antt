@@ -101,3 +101,11 @@ module _ {F : Type 0} (K : Field F) where
   sub-self = add-neg
   pub eq-of-sub : (a b : F) → sub (K .ops) a b ≡ 𝟘 → a ≡ b
   eq-of-sub a b e = sym (add-zero a) ∙ ap (λ (t : F). a ⊕ t) (sym (add-neg b) ∙ add-comm b (⊖ b)) ∙ sym (add-assoc a (⊖ b) b) ∙ ap (λ (t : F). t ⊕ b) e ∙ zero-add b
+
+  -- From a - b = d to a = b + d; subtracting a sum.
+  pub add-of-sub : (a b d : F) → a ⊕ ⊖ b ≡ d → a ≡ b ⊕ d
+  add-of-sub a b d e = sym (ap (λ (t : F). b ⊕ t) (sym e) ∙ (add-left-comm b a (⊖ b) ∙ ap (λ (t : F). a ⊕ t) (add-neg b) ∙ add-zero a))
+  pub sub-add : (a b d : F) → a ⊕ ⊖ (b ⊕ d) ≡ (a ⊕ ⊖ b) ⊕ ⊖ d
+  sub-add a b d = ap (λ (t : F). a ⊕ t) (neg-add b d) ∙ sym (add-assoc a (⊖ b) (⊖ d))
+  pub sub-sub : (a b : F) → a ⊕ ⊖ (a ⊕ ⊖ b) ≡ b
+  sub-sub a b = sub-add a a (⊖ b) ∙ (ap (λ (t : F). t ⊕ ⊖ (⊖ b)) (add-neg a) ∙ (zero-add (⊖ (⊖ b)) ∙ neg-neg b))

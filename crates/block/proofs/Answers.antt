@@ -49,7 +49,7 @@ pub record Parts (p : Setting) (l : ℕ) (block found : List ℕ) (count : ℕ) 
 
 module _ (p : Setting) (l : ℕ) (block found : List ℕ) (count : ℕ) (P : Parts p l block found count) where
   pub step-near : 2 * count < levelDistance (p .n) (p .k) l → Step p l block found true
-  step-near h = near (λ b r s t. P .reads .area .below (b * p .k + r)) (omega (arith, P .counted))
+  step-near h = near (P .reads .area) (omega (arith, P .counted))
 
   -- If the information x were near, it would be what was read, and its count the count.
   same-count : (x : ℕ → ℕ → ℕ) → Information p l x → blockCost p l block x < levelDistance (p .n) (p .k) l

@@ -11,6 +11,7 @@ use Rattle.code.specs.Code.{levelDistance}
 use Rattle.code.specs.Transmission.{view}
 use Rattle.code.specs.Level.{combination}
 use Rattle.code.specs.Settings.{codeOf}
+use Rattle.block.specs.Area.{Area}
 
 -- What a received block costs against the level-l combination of the information x: twice the number of differing symbols.
 abbrev pub blockCost : Setting → ℕ → List ℕ → (ℕ → ℕ → ℕ) → ℕ
@@ -20,8 +21,9 @@ blockCost p l block x = 2 * distance (p .n) (λ i. getD block i 0) (combination 
 abbrev pub Information : Setting → ℕ → (ℕ → ℕ → ℕ) → Type 0
 Information p l x = (b r : ℕ) → b ≤ l → r < p .k → x b r < p .q
 
--- near: the l+1 information blocks that were found combine to a block that costs less than d_l; far: every information costs d_l or more.
+-- near: the l+1 information blocks that were found, symbols below q in their area, combine to a block that costs less than d_l;
+-- far: every information costs d_l or more.
 pub data Step (p : Setting) (l : ℕ) (block information : List ℕ) : Bool → Type 0 where
-  near : Information p l (view (p .k) information) → blockCost p l block (view (p .k) information) < levelDistance (p .n) (p .k) l
+  near : Area (p .q) information → blockCost p l block (view (p .k) information) < levelDistance (p .n) (p .k) l
       → Step p l block information true
   far : ((x : ℕ → ℕ → ℕ) → Information p l x → levelDistance (p .n) (p .k) l ≤ blockCost p l block x) → Step p l block information false

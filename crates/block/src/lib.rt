@@ -3,7 +3,7 @@
 // the spectrum of the error. The locator that annihilates what is known of it continues it by a recurrence, rightly if the error is light; what the
 // received block has besides is the code block's spectrum, and the matrix reads the information off it. The block is rebuilt from the rows and
 // compared, so a good answer rests on nothing else.
-mod information;
+pub mod information;
 mod locator;
 mod spectrum;
 

@@ -9,5 +9,7 @@ pub mod Lists
 pub mod Settings
 pub mod Numbers
 pub mod Reading
+pub mod Residuals
+pub mod ResidualSteps
 pub mod Messages
 pub mod Demand3

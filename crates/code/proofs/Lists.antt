@@ -1,5 +1,5 @@
 -- Lists as blocks: tabulated lists, symbols of a list, equal parts.
--- Holds: `length-tabulate`, `getD-tabulate`, `tabulate-ext`, `symbol-below`, `view-part`, `equal-part`, `part-equal`.
+-- Holds: `length-tabulate`, `getD-tabulate`, `tabulate-ext`, `view-tabulate`, `symbol-below`, `part-below`, `equal-part`, `part-equal`.
 use mathlib.Core.Path.{_≡_, refl, sym, ap, subst, _∙_}
 use mathlib.Core.List.{List, [], _∷_}
 use Prim.Native.Nat.{ℕ, zero, suc, _+_, _-_, _*_, _/_, _%_, _≤_, _<_}
@@ -43,6 +43,14 @@ symbol-below q l S h i = at (decLt i (length l))
     at : Dec (i < length l) → getD l i 0 < q
     at (yes s) = S .below i s
     at (no d) = subst (λ (t : ℕ). t < q) (sym (List·getD-eq-default l 0 (omega arith))) h
+
+-- So is what stands at any place of a part of it.
+pub part-below : (q : ℕ) (l : List ℕ) → ((i : ℕ) → getD l i 0 < q) → 0 < q → (a b i : ℕ) → getD (take a (drop b l)) i 0 < q
+part-below q l S h a b i = at (decLt i a)
+  where
+    at : Dec (i < a) → getD (take a (drop b l)) i 0 < q
+    at (yes s) = subst (λ (t : ℕ). t < q) (sym (getD-take a (drop b l) i 0 s ∙ getD-drop b l i 0)) (S (b + i))
+    at (no d) = subst (λ (t : ℕ). t < q) (sym (List·getD-eq-default (take a (drop b l)) 0 (omega (arith, length-take a (drop b l))))) h
 
 -- Lists with equal beginnings have equal symbols there..
 pub equal-part : (a b : List ℕ) (n : ℕ) → take n a ≡ take n b → (i : ℕ) → i < n → getD a i 0 ≡ getD b i 0

@@ -1,5 +1,5 @@
 -- The bridge for the code: what a setting's definitions give on numbers below q is what the abstract code gives on elements.
--- Holds: `fieldOf`, `rootOf`, `orderAt`, `overField`, `lifted`; `sent-number`, `combination-number`, `rowSymbol-below`; `byteCost` and its law; `window-cost`.
+-- Holds: `fieldOf`, `rootOf`, `orderAt`, `overField`, `lifted`; `sent-number`, `timesG-number`, `combination-number`, `rowSymbol-below`; `byteCost` and its law; `window-cost`.
 use mathlib.Core.Path.{_≡_, refl, sym, ap, ap₂, subst, fun-ext, _∙_}
 use mathlib.Core.Bool.{Bool, true, false, not}
 use mathlib.Core.List.{List}
@@ -23,14 +23,14 @@ use Rattle.field.specs.Symbols.{Symbols}
 use Rattle.field.proofs.Laws.{lawsOf, orderOf}
 use Rattle.code.specs.declared.Setting.{Setting}
 use Rattle.code.specs.Code.{Code}
-use Rattle.code.specs.Generator.{rowSymbol}
+use Rattle.code.specs.Generator.{rowSymbol, timesG}
 use Rattle.code.specs.Transmission.{view, sentSymbol, tabulate}
 use Rattle.code.specs.Level.{combination}
 use Rattle.code.specs.Settings.{codeOf}
 use Rattle.code.specs.Windows.{transmission, windowLength, windowDistance, Message}
 use Rattle.code.proofs.Blocks.{codeOver}
 use Rattle.code.proofs.Certainty.{costTo}
-use Rattle.code.proofs.Naturality.{mapped, rowSymbol-natural, sentSymbol-natural, combination-natural}
+use Rattle.code.proofs.Naturality.{mapped, rowSymbol-natural, timesG-natural, sentSymbol-natural, combination-natural}
 use Rattle.code.proofs.Lists.{view-tabulate, symbol-below}
 use Rattle.code.specs.Settings.{Sound}
 
@@ -68,7 +68,7 @@ module _ (p : Setting) (S : Sound p) where
       (number-element (p .q) positive alpha (orderOf (p .q) (S .good) .root-below))
 
   -- Numbers as elements.
-  pub lifted : (ℕ → ℕ → ℕ) → ℕ → ℕ → Below (p .q)
+  unfoldable pub lifted : (ℕ → ℕ → ℕ) → ℕ → ℕ → Below (p .q)
   lifted u s r = element (p .q) positive (u s r)
 
   pub number-lifted : (u : ℕ → ℕ → ℕ) (s r : ℕ) → u s r < p .q → number (lifted u s r) ≡ u s r
@@ -83,6 +83,12 @@ module _ (p : Setting) (S : Sound p) where
   sent-number u below s i =
       sentSymbol-natural overField (opsOf (p .q)) number keeps (lifted u) s i
       ∙ ap₂ (λ (c : Code ℕ) (x : ℕ → ℕ → ℕ). sentSymbol c x s i) mapped-code (fun-ext (λ b. fun-ext (λ r. number-lifted u b r (below b r))))
+
+  pub timesG-number : (x : ℕ → ℕ) → ((r : ℕ) → x r < p .q) → (j i : ℕ)
+      → number (timesG overField (λ r. element (p .q) positive (x r)) j i) ≡ timesG (codeOf p) x j i
+  timesG-number x below j i =
+      timesG-natural overField (opsOf (p .q)) number keeps (λ r. element (p .q) positive (x r)) j i
+      ∙ ap₂ (λ (c : Code ℕ) (y : ℕ → ℕ). timesG c y j i) mapped-code (fun-ext (λ r. number-element (p .q) positive (x r) (below r)))
 
   pub combination-number : (u : ℕ → ℕ → ℕ) → ((s r : ℕ) → u s r < p .q) → (l i : ℕ)
       → number (combination overField l (lifted u) i) ≡ combination (codeOf p) l u i

@@ -29,7 +29,7 @@ use Rattle.code.proofs.Numbers.{laws, positive, fieldOf, rootOf, orderA
 
 module _ (p : Setting) (S : Sound p) where
   -- What an element received costs where another was sent.
-  pub elementCost : Element (p .q) → Element (p .q) → ℕ
+  unfoldable pub elementCost : Element (p .q) → Element (p .q) → ℕ
   elementCost v a = byteCost p S (number v) a
 
   pub elements-apart : (v a b : Element (p .q)) → (a ≡ b → ⊥) → 2 ≤ elementCost v a + elementCost v b
@@ -57,22 +57,22 @@ module _ (p : Setting) (S : Sound p) where
           add-cancel (fieldOf p S) (fieldOf p S .ops .neg s) v a
           (add-comm (fieldOf p S) (fieldOf p S .ops .neg s) v ∙ e ∙ add-comm (fieldOf p S) a (fieldOf p S .ops .neg s))
 
-  number-zero : number (fieldOf p S .ops .zero) ≡ 0
+  pub number-zero : number (fieldOf p S .ops .zero) ≡ 0
   number-zero = keeps p S .on-zero ∙ laws p S .zero-is
 
   module _ (window : List ℕ) (below : (i : ℕ) → getD window i 0 < p .q) where
-    w : ℕ → ℕ → Element (p .q)
+    abbrev w : ℕ → ℕ → Element (p .q)
     w = lifted p S (view (p .n) window)
 
     block-cost : (y : ℕ → ℕ → ℕ) → Below (p .q) y → (s l : ℕ)
         → 2 * blockDistance p (view (p .n) window s) l y ≡ blockCost (overField p S) elementCost (w s) l (lifted p S y)
-    unfolding blockCost elementCost byteCost w
+    unfolding blockCost elementCost byteCost
     block-cost y Y s l =
         sym (total-scale (p .n) 2 (λ i. pick (not (eqb (view (p .n) window s i) (combination (codeOf p) l y i))) 1 0))
         ∙ total-ext (p .n) _ _ (λ i h. sym (ap₂ (λ (a b : ℕ). 2 * pick (not (eqb a b)) 1 0)
             (number-lifted p S (view (p .n) window) s i (below (s * p .n + i))) (combination-number p S y Y l i)))
 
-    rebuilt-cost : (y : ℕ → ℕ → ℕ) → Below (p .q) y → (l : ℕ)
+    pub rebuilt-cost : (y : ℕ → ℕ → ℕ) → Below (p .q) y → (l : ℕ)
         → 2 * rebuiltDistance p window l y ≡ rebuiltCost (overField p S) elementCost w 0 (lifted p S y) l
     unfolding rebuiltDistance rebuiltCost
     rebuilt-cost y Y l =
@@ -81,7 +81,7 @@ module _ (p : Setting) (S : Sound p) where
             block-cost y Y s s ∙ ap (λ (a : ℕ). blockCost (overField p S) elementCost (w a) s (lifted p S y)) same)
 
     zero-cost : 2 * windowWeight p window ≡ costTo (p .n) elementCost w (λ s i. fieldOf p S .ops .zero) 0 (p .m)
-    unfolding costTo elementCost byteCost w
+    unfolding costTo elementCost byteCost
     zero-cost =
         sym (total-scale (windowLength p) 2 (λ i. pick (not (eqb (getD window i 0) 0)) 1 0))
         ∙ total-blocks (p .m + 1) (p .n) (λ i. 2 * pick (not (eqb (getD window i 0) 0)) 1 0)

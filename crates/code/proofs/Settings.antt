@@ -1,11 +1,11 @@
 -- What every setting satisfies (`Sound`), shown for each setting of the list.
--- Holds: `Each`, `each-at`, `setting-range`, `soundOf`.
+-- Holds: `Each`, `each-at`, `setting-range`, `soundOf`, `block-positive`.
 use mathlib.Core.Path.{_≡_, refl}
 use mathlib.Core.Bool.{Bool, true, false}
 use mathlib.Core.List.{List, [], _∷_}
 use Prim.Native.Nat.{ℕ, zero, suc, _+_, _-_, _*_, _≤_, _<_}
 use native.Mathlib.Omega.{arith}
-use native.Mathlib.Nat.{not-suc-le-zero, le-of-suc-le-suc}
+use native.Mathlib.Nat.{not-suc-le-zero, le-of-suc-le-suc, mul-le-mul}
 use lib.Dec.{T, leb, leb→le}
 use lib.ListN.{length, getD}
 use Rattle.algebra.proofs.Tests.{and-left, and-right}
@@ -41,3 +41,9 @@ sounds =
 
 pub soundOf : (s : ℕ) → T (isSetting s) → Sound (settingOf s)
 soundOf s t = each-at sounds (s - 1) (setting 0 0 0) (omega (arith, setting-range s t))
+
+-- A block has symbols.
+pub block-positive : (p : Setting) → Sound p → 1 ≤ p .n
+block-positive p S =
+    let least : 1 ≤ p .m + 1 = omega arith in
+    omega (arith, S .room, mul-le-mul least (S .information))

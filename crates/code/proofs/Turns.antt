@@ -30,7 +30,7 @@ module _ {F : Type 0} (K : Field F) (α : F) (n k m : ℕ) where
   c = codeOver K α n k m
 
   -- What one information block x, at block b of a message, contributes to symbol i of block s of the transmission.
-  pub contribution : (ℕ → F) → ℕ → ℕ → ℕ → F
+  unfoldable pub contribution : (ℕ → F) → ℕ → ℕ → ℕ → F
   contribution x b s i = pick (leb b s) (pick (leb (s - b) m) (timesG c x (s - b) i) 𝟘) 𝟘
 
   -- The message with the one information block x at block b.

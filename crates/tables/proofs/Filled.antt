@@ -4,7 +4,7 @@ use mathlib.Core.Path.{_≡_, refl, sym, ap, ap₂, subst, _∙_}
 use mathlib.Core.Bool.{Bool, true, false}
 use mathlib.Core.List.{List, []}
 use Prim.Native.Nat.{ℕ, zero, suc, _+_, _-_, _*_, _/_, _%_, _≤_, _<_}
-use native.Mathlib.Nat.{mul-le-mul, mod-lt, div-lt-iff-lt-mul}
+use native.Mathlib.Nat.{mod-lt, div-lt-iff-lt-mul}
 use native.Mathlib.Omega.{arith}
 use native.Mathlib.Decide.{decLt, ℕ-discrete}
 use lib.Arith.{digits-div, digits-mod, digits-lt}
@@ -19,6 +19,7 @@ use Rattle.code.specs.Transmission.{tabulate}
 use Rattle.code.specs.Settings.{codeOf}
 use Rattle.code.proofs.Lists.{getD-tabulate, length-tabulate}
 use Rattle.code.specs.Settings.{Sound}
+use Rattle.code.proofs.Settings.{block-positive}
 use Rattle.code.proofs.Numbers.{rowSymbol-below, positive}
 use Rattle.tables.specs.Tables.{generatorOf, RowsOf}
 
@@ -67,16 +68,11 @@ entry-generator p b lj lr li =
 
 module _ (p : Setting) (S : Sound p) (size : ℕ) (table : List (List (List ℕ))) (rows : List ℕ) (e : table ≡ generatorOf p)
     (f : Filled size (p .n) (p .k) table ((p .m + 1) * p .k * p .n) rows) where
-  symbols-positive : 0 < p .n
-  symbols-positive =
-      let least : 1 ≤ p .m + 1 = omega arith in
-      omega (arith, S .room, S .information, mul-le-mul least (S .information))
-
   row-at : (b : ℕ) → b < (p .m + 1) * p .k * p .n → getD rows b 0 ≡ rowSymbol (codeOf p) (b / p .n / p .k) (b / p .n % p .k) (b % p .n)
   row-at b l =
       f .at b
       ∙ (ap₂ (λ (t : Bool) (g : List (List (List ℕ))). pick t (entry (p .n) (p .k) g b) 0) (lt-ltb b ((p .m + 1) * p .k * p .n) l) e
-      ∙ entry-generator p b (div-lt-iff-lt-mul (S .information) .1 (div-lt-iff-lt-mul symbols-positive .1 l)) (mod-lt (b / p .n) (S .information)) (mod-lt b symbols-positive))
+      ∙ entry-generator p b (div-lt-iff-lt-mul (S .information) .1 (div-lt-iff-lt-mul (block-positive p S) .1 l)) (mod-lt (b / p .n) (S .information)) (mod-lt b (block-positive p S)))
 
   -- The filled rows are the generator's.
   pub rows-of : RowsOf p rows

@@ -1,0 +1,207 @@
+-- The residual of a message g in a reception, on bytes: how it changes when a block of g is found, how it begins, and what is left at the end.
+-- Holds: `lessened`, `residual-step`, `residual-start`, `residual-back`, `residual-test`, `residual-distance`.
+use mathlib.Core.Path.{_≡_, refl, sym, ap, ap₂, subst, _∙_}
+use mathlib.Core.Bool.{Bool, true, false, not}
+use mathlib.Core.List.{List}
+use Prim.Native.Nat.{ℕ, zero, suc, _+_, _-_, _*_, _≤_, _<_}
+use native.Mathlib.Nat.{mul-le-mul-right}
+use native.Mathlib.Omega.{arith}
+use native.Mathlib.Decide.{decLe, ℕ-discrete}
+use lib.Arith.{digits-lt}
+use lib.Dec.{eqb, leb}
+use lib.ListN.{length, getD, take, drop}
+use lib.Seq.{getD-take, getD-drop}
+use borrow.Author.Tests.{le-leb, lt-leb, eq-eqb, ne-eqb, eqb-true, eqb-false}
+use Rattle.algebra.specs.Ops.{Ops, sub, pick}
+use Rattle.algebra.specs.Sum.{sum}
+use Rattle.algebra.specs.Weight.{total, countOf, distance}
+use Rattle.algebra.proofs.Laws.{Field, sub-self, eq-of-sub, add-of-sub, sub-add, sub-sub, neg-zero, add-zero}
+use Rattle.algebra.proofs.Sums.{sum-ext}
+use Rattle.algebra.proofs.Weights.{total-ext, countOf-ext}
+use Rattle.algebra.proofs.Below.{Below as Element, number, number-injective, element, number-element}
+use Rattle.field.specs.Fields.{opsOf}
+use Rattle.field.specs.Symbols.{Symbols}
+use Rattle.code.specs.declared.Setting.{Setting}
+use Rattle.code.specs.Code.{Code, distancesTo}
+use Rattle.code.specs.Generator.{timesG}
+use Rattle.code.specs.Transmission.{view, earlier, sentSymbol}
+use Rattle.code.specs.Level.{combination}
+use Rattle.code.specs.Settings.{codeOf, Sound}
+use Rattle.code.specs.Windows.{transmission, windowLength, windowDistance, Message}
+use Rattle.code.specs.Reading.{Below, rebuiltDistance, Residual}
+use Rattle.code.proofs.Certainty.{costTo, timesG-ext}
+use Rattle.code.proofs.Windows.{blockCost, rebuiltCost, sent-sub, sent-ahead, sent-zeros, combination-ext}
+use Rattle.code.proofs.Turns.{contribution, single, sent-single}
+use Rattle.code.proofs.Lists.{symbol-below, part-below}
+use Rattle.code.proofs.Numbers.{laws, positive, fieldOf, rootOf, overField, keeps, lifted, number-lifted, sent-number, timesG-number, message-below, byteCost, window-cost}
+use Rattle.code.proofs.Reading.{number-zero}
+use Rattle.code.proofs.Residuals.{number-sub}
+
+module _ (p : Setting) (S : Sound p) where
+  -- The same information blocks send the same symbols, over any field: only symbols below k count.
+  sent-ext : (u v : ℕ → ℕ → Element (p .q)) → ((s r : ℕ) → r < p .k → u s r ≡ v s r) → (s i : ℕ)
+      → sentSymbol (overField p S) u s i ≡ sentSymbol (overField p S) v s i
+  unfolding sentSymbol
+  sent-ext u v same s i =
+      sum-ext (fieldOf p S .ops) (suc (p .m)) _ _ (λ j h. timesG-ext (fieldOf p S) (rootOf p S) (p .n) (p .k) (p .m)
+        (earlier (fieldOf p S .ops) u s j) (earlier (fieldOf p S .ops) v s j) j i (λ r l. at (leb j s) j r l))
+    where
+      at : (b : Bool) (j r : ℕ) → r < p .k → pick b (u (s - j) r) (fieldOf p S .ops .zero) ≡ pick b (v (s - j) r) (fieldOf p S .ops .zero)
+      at true j r l = same (s - j) r l
+      at false j r l = refl
+
+  -- What information block x at block j of the message contributes, taken out of the residual.
+  abbrev pub lessened : List ℕ → (ℕ → ℕ) → ℕ → ℕ → ℕ → ℕ
+  lessened left x j s i =
+      pick (leb j s) (pick (leb (s - j) (p .m)) (sub (opsOf (p .q)) (view (p .n) left s i) (timesG (codeOf p) x (s - j) i)) (view (p .n) left s i)) (view (p .n) left s i)
+
+  module _ (T : ℕ) (reception g left h left' : List ℕ) (R : (i : ℕ) → getD reception i 0 < p .q) (G : (i : ℕ) → getD g i 0 < p .q)
+      (H : (i : ℕ) → getD h i 0 < p .q) (residual : Residual p T reception g left) (x : ℕ → ℕ) (X : (r : ℕ) → x r < p .q) (j : ℕ)
+      (empty : (r : ℕ) → r < p .k → view (p .k) g j r ≡ 0) (placed : (r : ℕ) → r < p .k → view (p .k) h j r ≡ x r)
+      (others : (s r : ℕ) → (s ≡ j → ⊥) → r < p .k → view (p .k) h s r ≡ view (p .k) g s r) where
+
+    x' : ℕ → Element (p .q)
+    x' r = element (p .q) (positive p S) (x r)
+
+    differs : (s r : ℕ) → r < p .k
+        → sub (fieldOf p S .ops) (lifted p S (view (p .k) h) s r) (lifted p S (view (p .k) g) s r) ≡ single (fieldOf p S) (rootOf p S) (p .n) (p .k) (p .m) x' j s r
+    unfolding lifted x'
+    differs s r l = at (ℕ-discrete s j)
+      where
+        zero : Element (p .q)
+        zero = fieldOf p S .ops .zero
+        zero-element : element (p .q) (positive p S) 0 ≡ zero
+        zero-element = number-injective _ _ (number-element (p .q) (positive p S) 0 (positive p S) ∙ sym (number-zero p S))
+        sub-zero : (a : Element (p .q)) → sub (fieldOf p S .ops) a zero ≡ a
+        sub-zero a = ap (fieldOf p S .ops .add a) (neg-zero (fieldOf p S)) ∙ add-zero (fieldOf p S) a
+        at : Dec (s ≡ j) → sub (fieldOf p S .ops) (element (p .q) (positive p S) (view (p .k) h s r)) (element (p .q) (positive p S) (view (p .k) g s r)) ≡ pick (eqb s j) (x' r) zero
+        at (yes e) =
+            ap₂ (λ (a b : ℕ). sub (fieldOf p S .ops) (element (p .q) (positive p S) a) (element (p .q) (positive p S) b))
+              (ap (λ (t : ℕ). view (p .k) h t r) e ∙ placed r l) (ap (λ (t : ℕ). view (p .k) g t r) e ∙ empty r l)
+            ∙ ap (sub (fieldOf p S .ops) (x' r)) zero-element ∙ sub-zero (x' r)
+            ∙ sym (ap (λ (t : Bool). pick t (x' r) zero) (eq-eqb s j e))
+        at (no d) =
+            ap (λ (a : ℕ). sub (fieldOf p S .ops) (element (p .q) (positive p S) a) (element (p .q) (positive p S) (view (p .k) g s r))) (others s r d l)
+            ∙ sub-self (fieldOf p S) (element (p .q) (positive p S) (view (p .k) g s r))
+            ∙ sym (ap (λ (t : Bool). pick t (x' r) zero) (ne-eqb s j d))
+
+    sent-less : (s i : ℕ)
+        → sub (fieldOf p S .ops) (sentSymbol (overField p S) (lifted p S (view (p .k) h)) s i) (sentSymbol (overField p S) (lifted p S (view (p .k) g)) s i)
+          ≡ contribution (fieldOf p S) (rootOf p S) (p .n) (p .k) (p .m) x' j s i
+    sent-less s i =
+        sent-sub (fieldOf p S) (rootOf p S) (p .n) (p .k) (p .m) (lifted p S (view (p .k) h)) (lifted p S (view (p .k) g)) s i
+        ∙ sent-ext _ (single (fieldOf p S) (rootOf p S) (p .n) (p .k) (p .m) x' j) (λ b r l. differs b r l) s i
+        ∙ sent-single (fieldOf p S) (rootOf p S) (p .n) (p .k) (p .m) x' j s i
+
+    -- The residual after block j of the message was found and its contribution taken out.
+    pub residual-step : ((s i : ℕ) → s < T + p .m → i < p .n → view (p .n) left' s i ≡ lessened left x j s i) → Residual p T reception h left'
+    unfolding contribution x'
+    residual-step changed =
+        record { symbol = λ s i l u. changed s i l u ∙ at s i l u (decLe j s) (decLe (s - j) (p .m)) ∙ sym (whole s i) }
+      where
+        zero : Element (p .q)
+        zero = fieldOf p S .ops .zero
+        w' : ℕ → ℕ → Element (p .q)
+        w' = lifted p S (view (p .n) reception)
+        before : ℕ → ℕ → Element (p .q)
+        before s i = sub (fieldOf p S .ops) (w' s i) (sentSymbol (overField p S) (lifted p S (view (p .k) g)) s i)
+        whole : (s i : ℕ) → sub (opsOf (p .q)) (view (p .n) reception s i) (sentSymbol (codeOf p) (view (p .k) h) s i)
+            ≡ number (sub (fieldOf p S .ops) (before s i) (contribution (fieldOf p S) (rootOf p S) (p .n) (p .k) (p .m) x' j s i))
+        whole s i =
+            sym (number-sub p S (w' s i) (sentSymbol (overField p S) (lifted p S (view (p .k) h)) s i)
+              ∙ ap₂ (sub (opsOf (p .q))) (number-lifted p S (view (p .n) reception) s i (R (s * p .n + i))) (sent-number p S (view (p .k) h) (λ b r. H (b * p .k + r)) s i))
+            ∙ ap (λ (t : Element (p .q)). number (sub (fieldOf p S .ops) (w' s i) t)) (add-of-sub (fieldOf p S) _ _ _ (sent-less s i))
+            ∙ ap number (sub-add (fieldOf p S) (w' s i) (sentSymbol (overField p S) (lifted p S (view (p .k) g)) s i) (contribution (fieldOf p S) (rootOf p S) (p .n) (p .k) (p .m) x' j s i))
+        number-before : (s i : ℕ) → s < T + p .m → i < p .n → number (before s i) ≡ view (p .n) left s i
+        number-before s i l u =
+            number-sub p S (w' s i) (sentSymbol (overField p S) (lifted p S (view (p .k) g)) s i)
+            ∙ ap₂ (sub (opsOf (p .q))) (number-lifted p S (view (p .n) reception) s i (R (s * p .n + i))) (sent-number p S (view (p .k) g) (λ b r. G (b * p .k + r)) s i)
+            ∙ sym (residual .symbol s i l u)
+        unchanged : (s i : ℕ) → s < T + p .m → i < p .n → view (p .n) left s i ≡ number (sub (fieldOf p S .ops) (before s i) zero)
+        unchanged s i l u =
+            sym (number-before s i l u) ∙ ap number (sym (ap (fieldOf p S .ops .add (before s i)) (neg-zero (fieldOf p S)) ∙ add-zero (fieldOf p S) (before s i)))
+        at : (s i : ℕ) → s < T + p .m → i < p .n → Dec (j ≤ s) → Dec (s - j ≤ p .m)
+            → lessened left x j s i ≡ number (sub (fieldOf p S .ops) (before s i) (contribution (fieldOf p S) (rootOf p S) (p .n) (p .k) (p .m) x' j s i))
+        at s i l u (yes a) (yes b) =
+            ap₂ (λ (c d : Bool). pick c (pick d (sub (opsOf (p .q)) (view (p .n) left s i) (timesG (codeOf p) x (s - j) i)) (view (p .n) left s i)) (view (p .n) left s i))
+              (le-leb j s a) (le-leb (s - j) (p .m) b)
+            ∙ sym (ap₂ (λ (c d : Bool). number (sub (fieldOf p S .ops) (before s i) (pick c (pick d (timesG (overField p S) x' (s - j) i) zero) zero)))
+                (le-leb j s a) (le-leb (s - j) (p .m) b)
+              ∙ number-sub p S (before s i) (timesG (overField p S) x' (s - j) i)
+              ∙ ap₂ (sub (opsOf (p .q))) (number-before s i l u) (timesG-number p S x X (s - j) i))
+        at s i l u (yes a) (no b) =
+            let past : p .m < s - j = omega arith in
+            ap₂ (λ (c d : Bool). pick c (pick d (sub (opsOf (p .q)) (view (p .n) left s i) (timesG (codeOf p) x (s - j) i)) (view (p .n) left s i)) (view (p .n) left s i))
+              (le-leb j s a) (lt-leb (s - j) (p .m) past)
+            ∙ unchanged s i l u
+            ∙ sym (ap₂ (λ (c d : Bool). number (sub (fieldOf p S .ops) (before s i) (pick c (pick d (timesG (overField p S) x' (s - j) i) zero) zero)))
+                (le-leb j s a) (lt-leb (s - j) (p .m) past))
+        at s i l u (no a) b =
+            let past : s < j = omega arith in
+            ap (λ (c : Bool). pick c (pick (leb (s - j) (p .m)) (sub (opsOf (p .q)) (view (p .n) left s i) (timesG (codeOf p) x (s - j) i)) (view (p .n) left s i)) (view (p .n) left s i))
+              (lt-leb j s past)
+            ∙ unchanged s i l u
+            ∙ sym (ap (λ (c : Bool). number (sub (fieldOf p S .ops) (before s i) (pick c (pick (leb (s - j) (p .m)) (timesG (overField p S) x' (s - j) i) zero) zero)))
+                (lt-leb j s past))
+
+  -- The reception itself is the residual of the zero message.
+  pub residual-start : (T : ℕ) (reception g : List ℕ) → ((i : ℕ) → getD reception i 0 < p .q) → ((i : ℕ) → getD g i 0 ≡ 0) → Residual p T reception g reception
+  unfolding lifted
+  residual-start T reception g R zeros =
+      record { symbol = λ s i l u.
+        let sent : sentSymbol (codeOf p) (view (p .k) g) s i ≡ number (fieldOf p S .ops .zero) =
+            sym (sent-number p S (view (p .k) g) (λ b r. subst (λ (t : ℕ). t < p .q) (sym (zeros (b * p .k + r))) (positive p S)) s i)
+            ∙ ap number (sent-ext (lifted p S (view (p .k) g)) (λ b r. fieldOf p S .ops .zero) (λ b r h. zero-element (b * p .k + r)) s i
+              ∙ sent-zeros (fieldOf p S) (rootOf p S) (p .n) (p .k) (p .m) s i) in
+        sym (ap₂ (sub (opsOf (p .q))) (sym (number-lifted p S (view (p .n) reception) s i (R (s * p .n + i)))) sent
+          ∙ sym (number-sub p S (lifted p S (view (p .n) reception) s i) (fieldOf p S .ops .zero))
+          ∙ ap number (ap (fieldOf p S .ops .add (lifted p S (view (p .n) reception) s i)) (neg-zero (fieldOf p S)) ∙ add-zero (fieldOf p S) (lifted p S (view (p .n) reception) s i))
+          ∙ number-lifted p S (view (p .n) reception) s i (R (s * p .n + i))) }
+    where
+      zero-element : (i : ℕ) → element (p .q) (positive p S) (getD g i 0) ≡ fieldOf p S .ops .zero
+      zero-element i =
+          ap (element (p .q) (positive p S)) (zeros i)
+          ∙ number-injective _ _ (number-element (p .q) (positive p S) 0 (positive p S) ∙ sym (number-zero p S))
+
+  module _ (T : ℕ) (reception g left : List ℕ) (R : (i : ℕ) → getD reception i 0 < p .q) (G : (i : ℕ) → getD g i 0 < p .q)
+      (residual : Residual p T reception g left) (s i : ℕ) (l : s < T + p .m) (u : i < p .n) where
+    received : Element (p .q)
+    received = lifted p S (view (p .n) reception) s i
+
+    sent : Element (p .q)
+    sent = sentSymbol (overField p S) (lifted p S (view (p .k) g)) s i
+
+    number-received : number received ≡ view (p .n) reception s i
+    unfolding received
+    number-received = number-lifted p S (view (p .n) reception) s i (R (s * p .n + i))
+
+    number-sent : number sent ≡ sentSymbol (codeOf p) (view (p .k) g) s i
+    unfolding sent
+    number-sent = sent-number p S (view (p .k) g) (λ b r. G (b * p .k + r)) s i
+
+    number-left : number (sub (fieldOf p S .ops) received sent) ≡ view (p .n) left s i
+    number-left =
+        number-sub p S received sent ∙ ap₂ (sub (opsOf (p .q))) number-received number-sent ∙ sym (residual .symbol s i l u)
+
+    -- The reception less the residual is the transmission.
+    pub residual-back : sub (opsOf (p .q)) (view (p .n) reception s i) (view (p .n) left s i) ≡ sentSymbol (codeOf p) (view (p .k) g) s i
+    residual-back =
+        sym (ap₂ (sub (opsOf (p .q))) number-received number-left) ∙ sym (number-sub p S received (sub (fieldOf p S .ops) received sent))
+        ∙ ap number (take-back received sent) ∙ number-sent
+      where
+        take-back : (a b : Element (p .q)) → sub (fieldOf p S .ops) a (sub (fieldOf p S .ops) a b) ≡ b
+        take-back a b = sub-sub (fieldOf p S) a b
+
+    -- The residual is zero just where the reception holds the sent symbol.
+    pub residual-test : eqb (view (p .n) reception s i) (sentSymbol (codeOf p) (view (p .k) g) s i) ≡ eqb (view (p .n) left s i) 0
+    residual-test = at (ℕ-discrete (view (p .n) reception s i) (sentSymbol (codeOf p) (view (p .k) g) s i))
+      where
+        at : Dec (view (p .n) reception s i ≡ sentSymbol (codeOf p) (view (p .k) g) s i)
+            → eqb (view (p .n) reception s i) (sentSymbol (codeOf p) (view (p .k) g) s i) ≡ eqb (view (p .n) left s i) 0
+        at (yes e) =
+            eq-eqb _ _ e ∙ sym (eq-eqb _ _ (sym number-left
+              ∙ (ap (λ (a : Element (p .q)). number (sub (fieldOf p S .ops) a sent)) (number-injective received sent (number-received ∙ e ∙ sym number-sent))
+              ∙ ap number (sub-self (fieldOf p S) sent) ∙ number-zero p S)))
+        at (no d) =
+            ne-eqb _ _ d ∙ sym (ne-eqb _ _ (λ z. d (sym number-received
+              ∙ (ap number (eq-of-sub (fieldOf p S) received sent (number-injective _ _ (number-left ∙ z ∙ sym (number-zero p S)))) ∙ number-sent))))

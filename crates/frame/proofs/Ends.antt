@@ -1,0 +1,98 @@
+-- What is left once all windows were read: the last comparison decides, and gives the transmission and the altered count.
+-- Holds: `left-test`, `left-window`, `left-altered`, `left-back`, `frame-fits`, `frame-none`.
+use mathlib.Core.Path.{_≡_, refl, sym, ap, ap₂, subst, _∙_}
+use mathlib.Core.Bool.{Bool, true, false, not}
+use mathlib.Core.List.{List}
+use Prim.Native.Nat.{ℕ, _+_, _-_, _*_, _/_, _%_, _≤_, _<_}
+use native.Mathlib.Nat.{mul-le-mul-right}
+use native.Mathlib.Omega.{arith}
+use lib.Dec.{eqb}
+use lib.ListN.{length, getD, take, drop}
+use lib.Seq.{ext-getD, getD-take, getD-drop}
+use Rattle.algebra.specs.Ops.{sub}
+use Rattle.algebra.specs.Weight.{countOf, distance}
+use Rattle.algebra.proofs.Weights.{countOf-ext}
+use Rattle.field.specs.Fields.{opsOf}
+use Rattle.field.specs.Symbols.{Symbols}
+use Rattle.code.specs.declared.Setting.{Setting}
+use Rattle.code.specs.Code.{limit}
+use Rattle.code.specs.Transmission.{view, sentSymbol}
+use Rattle.code.specs.Settings.{codeOf, Sound}
+use Rattle.code.specs.Windows.{transmission, windowLength, windowDistance, altered, Message, Fits}
+use Rattle.code.specs.Reading.{windowWeight, Residual}
+use Rattle.code.proofs.Lists.{symbol-below}
+use Rattle.code.proofs.Messages.{place-in-blocks}
+use Rattle.code.proofs.Settings.{block-positive}
+use Rattle.code.proofs.Numbers.{positive, transmission-view}
+use Rattle.code.proofs.ResidualSteps.{residual-back, residual-test}
+use Rattle.frame.specs.Frame.{Progress, NoneFits, FrameRead, fits, none, Compared, all-near, one-far}
+
+module _ (p : Setting) (S : Sound p) (T : ℕ) (reception message left : List ℕ) (R : Symbols (p .q) reception) (M : Message p T message)
+    (residual : Residual p T reception message left) where
+  received : (i : ℕ) → getD reception i 0 < p .q
+  received = symbol-below (p .q) reception R (positive p S)
+
+  found : (i : ℕ) → getD message i 0 < p .q
+  found = symbol-below (p .q) message (M .symbols) (positive p S)
+
+  -- At each place, what is left is zero just where the reception holds the sent symbol..
+  pub left-test : (a : ℕ) → a < (T + p .m) * p .n → eqb (getD reception a 0) (getD (transmission p message) a 0) ≡ eqb (getD left a 0) 0
+  left-test a l =
+      let at = place-in-blocks (T + p .m) a (p .n) (block-positive p S) l in
+      subst (λ (t : ℕ). eqb (getD reception t 0) (getD (transmission p message) t 0) ≡ eqb (getD left t 0) 0) (at .2)
+      (ap (eqb (view (p .n) reception (a / p .n) (a % p .n))) (transmission-view p S T message M (a / p .n) (a % p .n) (at .0) (at .1))
+      ∙ residual-test p S T reception message left received found residual (a / p .n) (a % p .n) (at .0) (at .1))
+
+  -- .. and the reception less what is left is the transmission.
+  pub left-back : (a : ℕ) → a < (T + p .m) * p .n → sub (opsOf (p .q)) (getD reception a 0) (getD left a 0) ≡ getD (transmission p message) a 0
+  left-back a l =
+      let at = place-in-blocks (T + p .m) a (p .n) (block-positive p S) l in
+      subst (λ (t : ℕ). sub (opsOf (p .q)) (getD reception t 0) (getD left t 0) ≡ getD (transmission p message) t 0) (at .2)
+      (residual-back p S T reception message left received found residual (a / p .n) (a % p .n) (at .0) (at .1)
+      ∙ sym (transmission-view p S T message M (a / p .n) (a % p .n) (at .0) (at .1)))
+
+  -- A window's nonzero symbols are its differences.
+  pub left-window : (j : ℕ) → j < T → windowDistance p reception (transmission p message) j ≡ windowWeight p (take (windowLength p) (drop (j * p .n) left))
+  left-window j l =
+      countOf-ext (windowLength p) _ _ (λ i h. ap not
+        (left-test (j * p .n + i) (inside i h)
+        ∙ sym (ap (λ (t : ℕ). eqb t 0) (getD-take (windowLength p) (drop (j * p .n) left) i 0 h ∙ getD-drop (j * p .n) left i 0))))
+    where
+      inside : (i : ℕ) → i < windowLength p → j * p .n + i < (T + p .m) * p .n
+      inside i h =
+          let top : j + (p .m + 1) ≤ T + p .m = omega arith in
+          omega (arith, mul-le-mul-right (p .n) top)
+
+  -- All of them together are the altered symbols.
+  pub left-altered : altered p T reception (transmission p message) ≡ countOf ((T + p .m) * p .n) (λ i. not (eqb (getD left i 0) 0))
+  left-altered = countOf-ext ((T + p .m) * p .n) _ _ (λ i h. ap not (left-test i h))
+
+module _ (p : Setting) (S : Sound p) (T : ℕ) (reception message left : List ℕ) (R : Symbols (p .q) reception) (long : length reception ≡ (T + p .m) * p .n)
+    (blocks : 1 ≤ T) (P : Progress p T reception T message left) where
+  whole : Message p T message
+  whole = record { blocks = blocks; long = P .message-long; symbols = P .message-symbols }
+
+  -- Near in every window: the message fits.
+  pub frame-fits : ((j : ℕ) → j < T → windowWeight p (take (windowLength p) (drop (j * p .n) left)) ≤ limit (p .n) (p .k) (p .m)) → FrameRead p T reception message left true
+  frame-fits near =
+      fits
+        (record {
+          message-of = whole;
+          long = long;
+          near = λ j l. subst (λ (t : ℕ). t ≤ limit (p .n) (p .k) (p .m)) (sym (left-window p S T reception message left R whole (P .residual) j l)) (near j l)
+        })
+        (P .left-symbols) (P .left-long ∙ sym long) (P .residual)
+
+  -- Far in one window: no message fits, since it could only be this one.
+  pub frame-none : (j : ℕ) → j < T → limit (p .n) (p .k) (p .m) < windowWeight p (take (windowLength p) (drop (j * p .n) left)) → NoneFits p T reception
+  frame-none j l far x F =
+      let same : x ≡ message =
+          ext-getD 0 x message (F .message-of .long ∙ sym (P .message-long)) (λ i u. P .begins x F i (omega (arith, F .message-of .long))) in
+      let near : windowDistance p reception (transmission p message) j ≤ limit (p .n) (p .k) (p .m) =
+          subst (λ (t : List ℕ). windowDistance p reception (transmission p t) j ≤ limit (p .n) (p .k) (p .m)) same (F .near j l) in
+      omega (arith, left-window p S T reception message left R whole (P .residual) j l)
+
+  -- The last comparison decides.
+  pub frame-compared : {r : Bool} → Compared p T left r → FrameRead p T reception message left r
+  frame-compared (all-near near) = frame-fits near
+  frame-compared (one-far j l far) = none (frame-none j l far)

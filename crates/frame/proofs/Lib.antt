@@ -1,0 +1,9 @@
+-- What the proofs of reading share.
+pub mod Levels
+pub mod Tried
+pub mod Reached
+pub mod Parts
+pub mod Lessening
+pub mod Turn
+pub mod Progress
+pub mod Ends

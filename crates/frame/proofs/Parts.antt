@@ -1,0 +1,45 @@
+-- A list with another part in the place of k elements from a on (`putMid`, what a lent part leaves in the whole), place by place.
+-- Holds: `put-length`, `put-before`, `put-inside`, `put-after`, `put-symbols`.
+use mathlib.Core.Path.{_≡_, refl, sym, ap, subst, _∙_}
+use mathlib.Core.List.{List, _++_}
+use Prim.Native.Nat.{ℕ, _+_, _-_, _≤_, _<_}
+use native.Mathlib.Omega.{arith}
+use native.Mathlib.Decide.{decLt}
+use lib.ListN.{length, getD, take, drop, length-take, length-drop, List·getD-append}
+use lib.Seq.{getD-take, getD-drop, getD-append-add, length-take-le}
+use borrow.Rule.Slice.PartMut.{putMid, same-len-mid}
+use Rattle.field.specs.Symbols.{Symbols}
+
+module _ (a k : ℕ) (xs ys : List ℕ) (room : a + k ≤ length xs) (long : length ys ≡ k) where
+  start-long : length (take a xs) ≡ a
+  start-long = length-take-le a xs (omega arith)
+
+  pub put-length : length (putMid a k xs ys) ≡ length xs
+  put-length = same-len-mid a k xs ys (long ∙ sym (length-take-le k (drop a xs) (omega (arith, length-drop a xs))))
+
+  pub put-before : (i : ℕ) → i < a → getD (putMid a k xs ys) i 0 ≡ getD xs i 0
+  put-before i l = List·getD-append (take a xs) (ys ++ drop k (drop a xs)) 0 i (omega (arith, start-long)) ∙ getD-take a xs i 0 l
+
+  pub put-inside : (i : ℕ) → i < k → getD (putMid a k xs ys) (a + i) 0 ≡ getD ys i 0
+  put-inside i l =
+      ap (λ (t : ℕ). getD (putMid a k xs ys) (t + i) 0) (sym start-long)
+      ∙ (getD-append-add (take a xs) (ys ++ drop k (drop a xs)) i 0 ∙ List·getD-append ys (drop k (drop a xs)) 0 i (omega arith))
+
+  pub put-after : (i : ℕ) → a + k ≤ i → getD (putMid a k xs ys) i 0 ≡ getD xs i 0
+  put-after i l =
+      let far : i ≡ length (take a xs) + (length ys + (i - (a + k))) = omega (arith, start-long) in
+      let back : a + (k + (i - (a + k))) ≡ i = omega arith in
+      ap (λ (t : ℕ). getD (putMid a k xs ys) t 0) far
+      ∙ (getD-append-add (take a xs) (ys ++ drop k (drop a xs)) (length ys + (i - (a + k))) 0
+      ∙ (getD-append-add ys (drop k (drop a xs)) (i - (a + k)) 0
+      ∙ (getD-drop k (drop a xs) (i - (a + k)) 0 ∙ (getD-drop a xs (k + (i - (a + k))) 0 ∙ ap (λ (t : ℕ). getD xs t 0) back))))
+
+  pub put-symbols : (q : ℕ) → Symbols q xs → Symbols q ys → Symbols q (putMid a k xs ys)
+  put-symbols q X Y = record { below = λ i l. at i (omega (arith, put-length)) (decLt i a) (decLt i (a + k)) }
+    where
+      at : (i : ℕ) → i < length xs → Dec (i < a) → Dec (i < a + k) → getD (putMid a k xs ys) i 0 < q
+      at i l (yes b) t = subst (λ (v : ℕ). v < q) (sym (put-before i b)) (X .below i l)
+      at i l (no b) (yes t) =
+          let place : a + (i - a) ≡ i = omega arith in
+          subst (λ (v : ℕ). v < q) (sym (ap (λ (s : ℕ). getD (putMid a k xs ys) s 0) (sym place) ∙ put-inside (i - a) (omega arith))) (Y .below (i - a) (omega arith))
+      at i l (no b) (no t) = subst (λ (v : ℕ). v < q) (sym (put-after i (omega arith))) (X .below i l)

@@ -1,0 +1,3 @@
+-- What reading a window and a frame promise of one another.
+pub mod Window
+pub mod Frame
