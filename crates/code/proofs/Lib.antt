@@ -13,3 +13,4 @@ pub mod Residuals
 pub mod ResidualSteps
 pub mod Messages
 pub mod Demand3
+pub mod Orders

@@ -1,5 +1,5 @@
 -- The levels of a window: sums of distances and of rebuilt blocks, as loops make them.
--- Holds: `distances-none`, `distances-more`; `rebuilt-sum`, `rebuilt-none`, `rebuilt-more`, `rebuilt-all`; `part-length`, `part-symbol`, `part-distance`, `few`, `symbols-part`, `rebuilt-few`.
+-- Holds: `distances-none`, `distances-more`; `rebuilt-sum`, `rebuilt-none`, `rebuilt-more`, `rebuilt-all`; `part-length`, `part-symbol`, `part-distance`, `few`, `symbols-part`, `rebuilt-few`, `part-weight`.
 use mathlib.Core.Path.{_≡_, refl, sym, ap, ap₂, subst, _∙_}
 use mathlib.Core.Bool.{not}
 use mathlib.Core.List.{List}
@@ -9,7 +9,7 @@ use native.Mathlib.Omega.{arith}
 use lib.Dec.{eqb}
 use lib.ListN.{length, getD, take, drop, length-take, length-drop}
 use lib.Seq.{getD-take, getD-drop}
-use Rattle.algebra.specs.Weight.{total, distance}
+use Rattle.algebra.specs.Weight.{total, countOf, distance}
 use Rattle.algebra.proofs.Weights.{countOf-ext, countOf-le}
 use Rattle.field.specs.Symbols.{Symbols}
 use Rattle.code.proofs.Lists.{symbol-below, part-below}
@@ -85,3 +85,11 @@ sum-few p window y (suc s) = omega (arith, sum-few p window y s, few (p .n) (vie
 
 pub rebuilt-few : (p : Setting) (window : List ℕ) (y : ℕ → ℕ → ℕ) (l : ℕ) → rebuiltDistance p window l y ≤ (l + 1) * p .n
 rebuilt-few p window y l = subst (λ (t : ℕ). t ≤ (l + 1) * p .n) (rebuilt-all p window y l) (sum-few p window y (l + 1))
+
+-- The nonzero symbols of a part.
+pub part-weight : (n start : ℕ) (window : List ℕ) → start + n ≤ length window
+    → countOf (length (take (start + n - start) (drop start window))) (λ i. not (eqb (getD (take (start + n - start) (drop start window)) i 0) 0))
+      ≡ countOf n (λ i. not (eqb (getD (take n (drop start window)) i 0) 0))
+part-weight n start window h =
+    ap (λ (t : ℕ). countOf t (λ i. not (eqb (getD (take (start + n - start) (drop start window)) i 0) 0))) (part-length n start window h)
+    ∙ ap (λ (t : ℕ). countOf n (λ i. not (eqb (getD (take t (drop start window)) i 0) 0))) (same-size n start window)

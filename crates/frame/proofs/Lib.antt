@@ -6,4 +6,6 @@ pub mod Parts
 pub mod Lessening
 pub mod Turn
 pub mod Progress
+pub mod Begin
+pub mod Advance
 pub mod Ends

@@ -1,5 +1,5 @@
 -- Reading a frame: the windows in turn, then the last comparison (01, "Reading a reception").
--- Holds: `Progress`, `NoneFits`, `Turns`, `Compared`, `FrameRead`.
+-- Holds: `Progress`, `NoneFits`, `Advanced`, `Compared`, `FrameRead`.
 use mathlib.Core.Path.{_≡_}
 use mathlib.Core.Bool.{Bool, true, false}
 use mathlib.Core.List.{List}
@@ -25,10 +25,10 @@ pub record Progress (p : Setting) (T : ℕ) (reception : List ℕ) (j : ℕ) (me
 abbrev pub NoneFits : Setting → ℕ → List ℕ → Type 0
 NoneFits p T reception = (x : List ℕ) → Fits p T reception x → ⊥
 
--- All windows were read; or one had no near information, and no message fits.
-pub data Turns (p : Setting) (T : ℕ) (reception message left : List ℕ) : Bool → Type 0 where
-  all-read : Progress p T reception T message left → Turns p T reception message left true
-  stopped : NoneFits p T reception → Turns p T reception message left false
+-- The windows before j were read; or one had no near information, and no message fits.
+pub data Advanced (p : Setting) (T : ℕ) (reception : List ℕ) (j : ℕ) (message left : List ℕ) : Bool → Type 0 where
+  advanced : Progress p T reception j message left → Advanced p T reception j message left true
+  stopped : NoneFits p T reception → Advanced p T reception j message left false
 
 -- The message fits, with its residual; or no message does.
 pub data FrameRead (p : Setting) (T : ℕ) (reception message left : List ℕ) : Bool → Type 0 where

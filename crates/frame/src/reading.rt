@@ -1,18 +1,50 @@
 // A frame: the windows in turn, then the last comparison.
 ghost use mathlib.Core.Path.{_≡_};
-ghost use Prim.Native.Nat.{_+_, _*_, _≤_};
+ghost use Prim.Native.Nat.{_+_, _*_, _≤_, _<_};
 ghost use lib.ListN.{length};
 ghost use Rattle.field.specs.Symbols.{Symbols};
 ghost use Rattle.code.specs.Code as distances;
-ghost use Rattle.code.specs.Windows.{windowLength};
-ghost use Rattle.tables.specs.Tables.{Ready, MatrixOf};
-ghost use Rattle.frame.specs.Frame.{Turns, Compared, FrameRead};
+ghost use Rattle.code.specs.Settings.{Sound};
+ghost use Rattle.tables.specs.Tables.{Ready, Small, MatrixOf};
+ghost use Rattle.frame.specs.Frame.{Progress, Advanced, Compared, FrameRead};
 
 use code::Setting;
 use field::Tables;
 use tables::{Matrix, Rows};
 
-// Reads the windows in turn: message blocks into the message area, what is left of the reception into the other.
+// One turn: window j of what is left is read, and message block j found.
+fn turn(
+    p: Setting,
+    products: &Tables,
+    rows: &Rows,
+    matrix: &Matrix,
+    blocks: usize,
+    reception: &[u8],
+    j: usize,
+    message: &mut [u8],
+    left: &mut [u8],
+) -> bool
+    requires { ⌜ Ready p (now products) (now rows) × MatrixOf p (now matrix) × (length (now reception) ≡ (blocks + p .m) * p .n) × Symbols (p .q) (now reception) × (j < blocks) × Progress p blocks (now reception) j (now message) (now left) ⌝ }
+    ensures { λ r. ⌜ Advanced p blocks (now (reception .entry)) (j + 1) (now (message .exit)) (now (left .exit)) r ⌝ }
+{
+    let n = p.n;
+    let k = p.k;
+    let size = (p.m + 1) * n;
+    let start = j * n;
+    let end = start + size;
+    let from = j * k;
+    let to = from + k;
+    super::window::read_window(
+        p,
+        products,
+        rows,
+        matrix,
+        &mut left[start..end],
+        &mut message[from..to],
+    )
+}
+
+// The windows in turn.
 fn read_windows(
     p: Setting,
     products: &Tables,
@@ -23,32 +55,14 @@ fn read_windows(
     message: &mut [u8],
     left: &mut [u8],
 ) -> bool
-    requires { ⌜ Ready p (now products) (now rows) × MatrixOf p (now matrix) × (length (now reception) ≡ (blocks + p .m) * p .n) × Symbols (p .q) (now reception) × (length (now message) ≡ blocks * p .k) × (length (now left) ≡ length (now reception)) ⌝ }
-    ensures { λ r. ⌜ Turns p blocks (now (reception .entry)) (now (message .exit)) (now (left .exit)) r ⌝ }
+    requires { ⌜ Ready p (now products) (now rows) × MatrixOf p (now matrix) × (length (now reception) ≡ (blocks + p .m) * p .n) × Symbols (p .q) (now reception) × Progress p blocks (now reception) 0 (now message) (now left) ⌝ }
+    ensures { λ r. ⌜ Advanced p blocks (now (reception .entry)) blocks (now (message .exit)) (now (left .exit)) r ⌝ }
 {
-    let n = p.n;
-    let k = p.k;
-    let size = (p.m + 1) * n;
-    super::area::clear(message);
-    bytes::copy(reception, left);
-    let mut start: usize = 0;
-    let mut from: usize = 0;
     let mut j: usize = 0;
     while j < blocks {
-        let end = start + size;
-        let to = from + k;
-        if !super::window::read_window(
-            p,
-            products,
-            rows,
-            matrix,
-            &mut left[start..end],
-            &mut message[from..to],
-        ) {
+        if !turn(p, products, rows, matrix, blocks, reception, j, message, left) {
             return false;
         }
-        start += n;
-        from = to;
         j += 1;
     }
     true
@@ -56,7 +70,7 @@ fn read_windows(
 
 // The last comparison: at most t nonzero symbols in every window of what is left.
 fn compare_windows(p: Setting, blocks: usize, left: &[u8], limit: usize) -> bool
-    requires { ⌜ (limit ≡ distances.limit (p .n) (p .k) (p .m)) × (length (now left) ≡ (blocks + p .m) * p .n) ⌝ }
+    requires { ⌜ Sound p × Small p × (limit ≡ distances.limit (p .n) (p .k) (p .m)) × (length (now left) ≡ (blocks + p .m) * p .n) ⌝ }
     ensures { λ r. ⌜ Compared p blocks (now (left .entry)) r ⌝ }
 {
     let n = p.n;
@@ -88,6 +102,8 @@ pub fn read(
     requires { ⌜ Ready p (now products) (now rows) × MatrixOf p (now matrix) × (1 ≤ blocks) × (length (now reception) ≡ (blocks + p .m) * p .n) × Symbols (p .q) (now reception) × (length (now message) ≡ blocks * p .k) × (length (now left) ≡ length (now reception)) ⌝ }
     ensures { λ r. ⌜ FrameRead p blocks (now (reception .entry)) (now (message .exit)) (now (left .exit)) r ⌝ }
 {
+    super::area::clear(message);
+    bytes::copy(reception, left);
     if !read_windows(p, products, rows, matrix, blocks, reception, message, left) {
         return false;
     }

@@ -1,1 +1,7 @@
 -- What the proofs of the public calls share.
+pub mod Answers
+pub mod Sums
+pub mod Written
+pub mod Encoding
+pub mod Bits
+pub mod Windows

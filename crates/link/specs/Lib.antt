@@ -4,3 +4,4 @@ pub mod Encoding
 pub mod Display
 pub mod Marks
 pub mod Decoding
+pub mod Sending

@@ -1,4 +1,8 @@
 // The public calls of the order link: encoding, decoding, the display and marks.
+pub mod display;
+pub mod encode;
+pub mod mark;
+mod questions;
 
 // The answer of every call: the number and place of the first question answered "no", or 0 and 0, and the number of symbols altered.
 pub struct Answer {

@@ -2,3 +2,5 @@
 pub mod Filled
 pub mod Matrices
 pub mod Places
+pub mod Small
+pub mod Examples

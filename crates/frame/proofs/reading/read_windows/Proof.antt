@@ -1,114 +1,68 @@
+-- `frame::reading::read_windows`: the windows before j were read.
+use mathlib.Core.Path.{_≡_, refl, subst, _∙_}
+use Prim.Native.Nat.{ℕ, _+_, _-_, _≤_}
+use native.Mathlib.Omega.{arith}
+use denote.Ref.{now}
+use lib.ListN.{length}
+use Rattle.frame.specs.Frame.{Progress, Advanced, advanced}
+use Rattle.frame.proofs.Advance.{advance-more, advance-stopped}
 use Rattle.frame.proofs.reading.read_windows.Statement.{statement}
 use Rattle.frame.proofs.reading.read_windows.Tie as tie
-use Rattle.frame.proofs.reading.read_windows.Reads as reads
-use Rattle.frame.proofs.reading.read_windows.Lts as lts
-use Rattle.bytes.proofs.copy.Reads as copy-reads
-use Rattle.frame.proofs.area.clear.Reads as clear-reads
-use Rattle.frame.proofs.window.read_window.Reads as read-window-reads
 
 abbrev Inv-loop : tie.InvT-loop
-Inv-loop p products rows matrix blocks reception message₀ left₀ n k size start₀ from₀ j₀ message left start from j =
-    ?
+Inv-loop p products rows matrix blocks reception message₀ left₀ j₀ message left j =
+    (j ≤ blocks) × (length message ≡ length message₀) × (length left ≡ length left₀) × Progress p blocks reception j message left
 
 abbrev μ-loop : tie.MeasureT-loop
-μ-loop p products rows matrix blocks reception message₀ left₀ n k size start₀ from₀ j₀ message left start from j =
-    ?
+μ-loop p products rows matrix blocks reception message₀ left₀ j₀ message left j = blocks - j
 
--- src/reading.rt:31:17
-add-size : tie.Need-add-size Inv-loop μ-loop
-add-size c = ?
-
--- src/reading.rt:31:16
-mul-size : tie.Need-mul-size Inv-loop μ-loop
-mul-size c = ?
-
--- src/reading.rt:32:5
-clear-requires : tie.Need-clear-requires Inv-loop μ-loop
-clear-requires c κs = ?
-
--- src/reading.rt:33:5
-copy-requires : tie.Need-copy-requires Inv-loop μ-loop
-copy-requires c κs = ?
-
--- src/reading.rt:37:5
 loop-holds : tie.Need-loop-holds Inv-loop μ-loop
-loop-holds c = ?
+loop-holds c = (omega arith, refl, refl, c .before .before .before .pre .4)
 
--- src/reading.rt:38:19
-add-end : tie.Need-add-end Inv-loop μ-loop
-add-end c = ?
+turn-requires : tie.Need-turn-requires Inv-loop μ-loop
+turn-requires c κs =
+    let entry = c .before .before .before .before .before .before .before in
+    (entry .pre .0, entry .pre .1, entry .pre .2, entry .pre .3, c .before .before .loop-test .taken, c .before .before .before .loop .inv .3)
 
--- src/reading.rt:39:18
-add-to : tie.Need-add-to Inv-loop μ-loop
-add-to c = ?
-
--- src/reading.rt:45:13
-sub-read-window : tie.Need-sub-read-window Inv-loop μ-loop
-sub-read-window c = ?
-
--- src/reading.rt:45:13
-part-read-window-start : tie.Need-part-read-window-start Inv-loop μ-loop
-part-read-window-start c = ?
-
--- src/reading.rt:45:13
-part-read-window-end : tie.Need-part-read-window-end Inv-loop μ-loop
-part-read-window-end c = ?
-
--- src/reading.rt:46:13
-sub-read-window-2 : tie.Need-sub-read-window-2 Inv-loop μ-loop
-sub-read-window-2 c = ?
-
--- src/reading.rt:46:13
-part-read-window-start-2 : tie.Need-part-read-window-start-2 Inv-loop μ-loop
-part-read-window-start-2 c = ?
-
--- src/reading.rt:46:13
-part-read-window-end-2 : tie.Need-part-read-window-end-2 Inv-loop μ-loop
-part-read-window-end-2 c = ?
-
--- src/reading.rt:40:13
-read-window-requires : tie.Need-read-window-requires Inv-loop μ-loop
-read-window-requires c κs = ?
-
--- src/reading.rt:48:13
 same-length : tie.Need-same-length Inv-loop μ-loop
-same-length c = ?
+same-length c = c .before .before .before .before .before .turn .kept .1 .1 .1 .1 .1 .1 .1 .0 ∙ c .before .before .before .before .before .before .before .before .before .loop .inv .1
 
--- src/reading.rt:48:13
 same-length-2 : tie.Need-same-length-2 Inv-loop μ-loop
-same-length-2 c = ?
+same-length-2 c = c .before .before .before .before .before .turn .kept .1 .1 .1 .1 .1 .1 .1 .1 .0 ∙ c .before .before .before .before .before .before .before .before .before .loop .inv .2
 
--- src/reading.rt:48:13
 returns : tie.Need-returns Inv-loop μ-loop
-returns c = ?
+returns c =
+    let entry = c .before .before .before .before .before .before .before .before .before .before .before .before .before in
+    advance-stopped (entry .args .p) (entry .args .blocks) (now (entry .args .reception)) (c .before .before .before .before .before .before .before .before .before .loop .j + 1) (c .before .before .before .before .before .turn .last .1 .1 .1 .1 .1 .1 .1 .0) (c .before .before .before .before .before .turn .last .1 .1 .1 .1 .1 .1 .1 .1 .0)
+    (entry .args .blocks) (c .before .before .before .before .before .turn .last .1 .1 .1 .1 .1 .1 .1 .0) (c .before .before .before .before .before .turn .last .1 .1 .1 .1 .1 .1 .1 .1 .0) (c .before .before .before .before .before .turn .ensures) (c .if1 .taken)
 
--- src/reading.rt:50:9
-add-start : tie.Need-add-start Inv-loop μ-loop
-add-start c = ?
-
--- src/reading.rt:52:9
 add-j : tie.Need-add-j Inv-loop μ-loop
-add-j c = ?
+add-j c = omega arith
 
--- src/reading.rt:37:5
 loop-less : tie.Need-loop-less Inv-loop μ-loop
-loop-less c = ?
+loop-less c = omega arith
 
--- src/reading.rt:37:5
 loop-again : tie.Need-loop-again Inv-loop μ-loop
-loop-again c = ?
+loop-again c =
+    let entry = c .before .before .before .before .before .before .before .before .before .before .before .before .before in
+    ( omega arith
+    , c .before .before .before .before .before .turn .kept .1 .1 .1 .1 .1 .1 .1 .0 ∙ c .before .before .before .before .before .before .before .before .before .loop .inv .1
+    , c .before .before .before .before .before .turn .kept .1 .1 .1 .1 .1 .1 .1 .1 .0 ∙ c .before .before .before .before .before .before .before .before .before .loop .inv .2
+    , advance-more (entry .args .p) (entry .args .blocks) (now (entry .args .reception)) (c .before .before .before .before .before .before .before .before .before .loop .j + 1) (c .before .before .before .before .before .turn .last .1 .1 .1 .1 .1 .1 .1 .0) (c .before .before .before .before .before .turn .last .1 .1 .1 .1 .1 .1 .1 .1 .0)
+      (c .before .before .before .before .before .turn .ensures) (c .if1 .left)
+    )
 
--- src/reading.rt:16:1
 same-length-3 : tie.Need-same-length-3 Inv-loop μ-loop
-same-length-3 c = ?
+same-length-3 c = c .before .loop .inv .1
 
--- src/reading.rt:16:1
 same-length-4 : tie.Need-same-length-4 Inv-loop μ-loop
-same-length-4 c = ?
+same-length-4 c = c .before .loop .inv .2
 
--- src/reading.rt:16:1
 returns-2 : tie.Need-returns-2 Inv-loop μ-loop
-returns-2 c = ?
+returns-2 c =
+    let a = c .before .before .before .before .before .args in
+    let done : c .before .loop .j ≡ a .blocks = omega arith in
+    advanced (subst (λ (t : ℕ). Progress (a .p) (a .blocks) (now (a .reception)) t (c .before .loop .message) (c .before .loop .left)) done (c .before .loop .inv .3))
 
 pub read-windows-spec : {M : Type 1} → statement M
 read-windows-spec =
@@ -116,24 +70,11 @@ read-windows-spec =
     (tie.spec
     Inv-loop
     μ-loop
-    add-size
-    mul-size
-    clear-requires
-    copy-requires
     loop-holds
-    add-end
-    add-to
-    sub-read-window
-    part-read-window-start
-    part-read-window-end
-    sub-read-window-2
-    part-read-window-start-2
-    part-read-window-end-2
-    read-window-requires
+    turn-requires
     same-length
     same-length-2
     returns
-    add-start
     add-j
     loop-less
     loop-again

@@ -1,0 +1,274 @@
+-- What the first "no" of a list of questions says, and what a call knows when every answer was "yes".
+-- Holds: `first-yes`, `first-no` (one question), `append-yes`, `append-no` (a list of questions before others), `all-yes`, `yes-all` (number 0
+-- says that every answer was "yes"); `symbols-all`, `symbols-none`, `symbols-next`, `symbols-end` (question 4, as a loop asks it);
+-- `FrameYes`, `frame-yes`, `DecodingYes`, `decoding-yes`, `EncodingYes`, `encoding-yes`, `display-yes`, `marks-yes`.
+use mathlib.Core.Path.{_≡_, refl, sym, ap, subst, _∙_}
+use mathlib.Core.Bool.{Bool, true, false, not, _&&_}
+use mathlib.Core.List.{List, [], _∷_, _++_}
+use Prim.Native.Nat.{ℕ, zero, suc, _+_, _-_, _*_, _/_, _%_, _≤_, _<_}
+use native.Mathlib.Nat.{div-add-mod', le-div-iff-mul-le, not-suc-le-zero, le-of-suc-le-suc, mul-le-mul}
+use native.Mathlib.Numerals.{add-one}
+use native.Mathlib.Omega.{arith}
+use lib.Dec.{T, eqb, leb, ltb, leb→le, ltb→lt, eqb→eq}
+use lib.ListN.{length, getD, drop, length-drop}
+use lib.Seq.{drop-cons, drop-length}
+use borrow.Author.Tests.{eq-eqb, ne-eqb, lt-ltb, le-ltb, ltb-true, ltb-false}
+use Rattle.algebra.specs.Ops.{pick}
+use Rattle.algebra.proofs.Tests.{and-left, and-right}
+use Rattle.field.specs.Symbols.{Symbols}
+use Rattle.field.proofs.Symbols.{symbols-none as no-symbols, symbols-more}
+use Rattle.code.specs.declared.Setting.{Setting}
+use Rattle.code.specs.Settings.{isSetting, settingOf}
+use Rattle.code.specs.Windows.{windowLength, Message}
+use Rattle.tables.proofs.Small.{Sizes, sizesOf}
+use Rattle.link.specs.declared.Answer.{Answer}
+use Rattle.link.specs.Questions.{Question, ask, answer, symbolQuestion, transmissionQuestion, firstNo, mostBlocks, blocksOf, symbolsTo, frameQuestions, decodingQuestions, encodingQuestions, displayQuestions, marksQuestions}
+
+-- One question: "yes" asks the rest, "no" is the answer.
+pub first-yes : (x : Question) (rest : List Question) → x .holds ≡ true → firstNo (x ∷ rest) ≡ firstNo rest
+first-yes x rest e = ap (λ (t : Bool). pick t (firstNo rest) (answer (x .number) (x .place) 0)) e
+
+pub first-no : (x : Question) (rest : List Question) → x .holds ≡ false → firstNo (x ∷ rest) ≡ answer (x .number) (x .place) 0
+first-no x rest e = ap (λ (t : Bool). pick t (firstNo rest) (answer (x .number) (x .place) 0)) e
+
+-- No question has the number 0.
+abbrev pub numbered : List Question → Bool
+numbered [] = true
+numbered (x ∷ rest) = not (eqb (x .number) 0) && numbered rest
+
+-- Every answer is "yes".
+abbrev pub AllYes : List Question → Type 0
+AllYes [] = Unit
+AllYes (x ∷ rest) = T (x .holds) × AllYes rest
+
+-- The number 0 says that every answer was "yes".
+pub all-yes : (l : List Question) → T (numbered l) → firstNo l .number ≡ 0 → AllYes l
+all-yes [] n e = tt
+all-yes (x ∷ rest) n e = at (all-yes rest (and-right (not (eqb (x .number) 0)) (numbered rest) n)) (x .holds) e
+  where
+    at : (firstNo rest .number ≡ 0 → AllYes rest) → (t : Bool) → pick t (firstNo rest) (answer (x .number) (x .place) 0) .number ≡ 0 → T t × AllYes rest
+    at more true e = (tt, more e)
+    at more false e = absurd (subst (λ (t : Bool). T (not t)) (eq-eqb (x .number) 0 e) (and-left (not (eqb (x .number) 0)) (numbered rest) n))
+
+-- A list of questions before others: its "no" is the answer, and if it has none the others are asked.
+pub append-no : (a b : List Question) → (firstNo a .number ≡ 0 → ⊥) → firstNo (a ++ b) ≡ firstNo a
+append-no [] b h = absurd (h refl)
+append-no (x ∷ a) b h = at (append-no a b) (x .holds) h
+  where
+    at : ((firstNo a .number ≡ 0 → ⊥) → firstNo (a ++ b) ≡ firstNo a) → (t : Bool)
+        → (pick t (firstNo a) (answer (x .number) (x .place) 0) .number ≡ 0 → ⊥)
+        → pick t (firstNo (a ++ b)) (answer (x .number) (x .place) 0) ≡ pick t (firstNo a) (answer (x .number) (x .place) 0)
+    at more true h = more h
+    at more false h = refl
+
+pub append-yes : (a b : List Question) → T (numbered a) → firstNo a .number ≡ 0 → firstNo (a ++ b) ≡ firstNo b
+append-yes [] b n e = refl
+append-yes (x ∷ a) b n e = at (append-yes a b (and-right (not (eqb (x .number) 0)) (numbered a) n)) (x .holds) e
+  where
+    at : (firstNo a .number ≡ 0 → firstNo (a ++ b) ≡ firstNo b) → (t : Bool)
+        → pick t (firstNo a) (answer (x .number) (x .place) 0) .number ≡ 0
+        → pick t (firstNo (a ++ b)) (answer (x .number) (x .place) 0) ≡ firstNo b
+    at more true e = more e
+    at more false e = absurd (subst (λ (t : Bool). T (not t)) (eq-eqb (x .number) 0 e) (and-left (not (eqb (x .number) 0)) (numbered a) n))
+
+-- The questions of each call after those that need no setting, over the setting p that code holds.
+abbrev pub frameLater : ℕ → Setting → List Question
+frameLater long p =
+    ask 2 (eqb (long % p .n) 0 && leb (windowLength p) long)
+    ∷ ask 3 (leb (blocksOf p long) mostBlocks)
+    ∷ []
+
+abbrev pub decodingLater : List ℕ → ℕ → ℕ → Setting → List Question
+decodingLater reception messageRoom transmissionRoom p =
+    symbolQuestion (p .q) reception
+    ∷ ask 5 (leb (blocksOf p (length reception) * p .k) messageRoom)
+    ∷ transmissionQuestion p (blocksOf p (length reception)) transmissionRoom
+    ∷ []
+
+abbrev pub encodingLater : List ℕ → ℕ → Setting → List Question
+encodingLater message transmissionRoom p =
+    ask 8 (eqb (length message % p .k) 0 && leb (p .k) (length message))
+    ∷ ask 3 (leb (length message / p .k) mostBlocks)
+    ∷ symbolQuestion (p .q) message
+    ∷ transmissionQuestion p (length message / p .k) transmissionRoom
+    ∷ []
+
+abbrev pub displayLater : ℕ → ℕ → Setting → List Question
+displayLater long j p = ask 12 (ltb j (blocksOf p long)) ∷ []
+
+-- Question 1 got "yes", and p is the setting.
+pub after-first : (number : ℕ) (p : Setting) (later : Setting → List Question) → isSetting number ≡ true → p ≡ settingOf number
+    → firstNo (ask 1 (isSetting number) ∷ later (settingOf number)) ≡ firstNo (later p)
+after-first number p later known e = first-yes (ask 1 (isSetting number)) (later (settingOf number)) known ∙ ap (λ (t : Setting). firstNo (later t)) (sym e)
+
+-- Questions 1 to 3 got "yes", and p is the setting.
+pub after-frame : (number long : ℕ) (p : Setting) (later : Setting → List Question) → firstNo (frameQuestions number long) .number ≡ 0 → p ≡ settingOf number
+    → firstNo (frameQuestions number long ++ later (settingOf number)) ≡ firstNo (later p)
+after-frame number long p later known e =
+    append-yes (frameQuestions number long) (later (settingOf number)) tt known ∙ ap (λ (t : Setting). firstNo (later t)) (sym e)
+
+-- Question 4, as a loop asks it: the symbols before place i are below q.
+pub symbols-start : (q : ℕ) (l : List ℕ) → symbolsTo q l ≡ 0 + symbolsTo q (drop 0 l)
+symbols-start q l = omega arith
+
+pub symbols-next : (q : ℕ) (l : List ℕ) (i : ℕ) → i < length l → getD l i 0 < q → i + symbolsTo q (drop i l) ≡ i + 1 + symbolsTo q (drop (i + 1) l)
+unfolding symbolsTo
+symbols-next q l i h b =
+    let more : symbolsTo q (drop i l) ≡ suc (symbolsTo q (drop (suc i) l)) =
+        ap (symbolsTo q) (drop-cons l i 0 h) ∙ ap (λ (t : Bool). pick t (suc (symbolsTo q (drop (suc i) l))) 0) (lt-ltb (getD l i 0) q b) in
+    let place : symbolsTo q (drop (i + 1) l) ≡ symbolsTo q (drop (suc i) l) = ap (λ (t : ℕ). symbolsTo q (drop t l)) (add-one i) in
+    omega arith
+
+pub symbols-stop : (q : ℕ) (l : List ℕ) (i : ℕ) → i < length l → q ≤ getD l i 0 → i + symbolsTo q (drop i l) ≡ i
+unfolding symbolsTo
+symbols-stop q l i h b =
+    let none : symbolsTo q (drop i l) ≡ 0 =
+        ap (symbolsTo q) (drop-cons l i 0 h) ∙ ap (λ (t : Bool). pick t (suc (symbolsTo q (drop (suc i) l))) 0) (le-ltb (getD l i 0) q b) in
+    omega arith
+
+pub symbols-end : (q : ℕ) (l : List ℕ) (i : ℕ) → i ≡ length l → i + symbolsTo q (drop i l) ≡ i
+unfolding symbolsTo
+symbols-end q l i e =
+    let none : symbolsTo q (drop i l) ≡ 0 = ap (symbolsTo q) (ap (λ (t : ℕ). drop t l) e ∙ drop-length l) in
+    omega arith
+
+pub symbols-most : (q : ℕ) (l : List ℕ) → symbolsTo q l ≤ length l
+unfolding symbolsTo
+symbols-most q [] = omega arith
+symbols-most q (x ∷ l) = at (symbols-most q l) (ltb x q)
+  where
+    at : symbolsTo q l ≤ length l → (t : Bool) → pick t (suc (symbolsTo q l)) 0 ≤ suc (length l)
+    at h true = omega arith
+    at h false = omega arith
+
+-- All of them: a list of symbols.
+pub symbols-all : (q : ℕ) (l : List ℕ) → symbolsTo q l ≡ length l → Symbols q l
+unfolding symbolsTo
+symbols-all q [] e = no-symbols q
+symbols-all q (x ∷ l) e = at (symbols-all q l) (ltb x q) refl e
+  where
+    at : (symbolsTo q l ≡ length l → Symbols q l) → (t : Bool) → ltb x q ≡ t → pick t (suc (symbolsTo q l)) 0 ≡ suc (length l) → Symbols q (x ∷ l)
+    at more true b e = symbols-more q x l (ltb-true x q b) (more (omega arith))
+    at more false b e = absurd (omega arith)
+
+-- What questions 1 to 3 say of a frame of this length, over its setting.
+pub record Frame (p : Setting) (long : ℕ) : Type 0 where
+  pub sizes : Sizes p
+  pub blocks : 1 ≤ blocksOf p long
+  pub most : blocksOf p long ≤ mostBlocks
+  pub long-is : long ≡ (blocksOf p long + p .m) * p .n
+
+blocks-of-length : (n m long : ℕ) → 0 < n → long % n ≡ 0 → (m + 1) * n ≤ long → (1 ≤ long / n - m) × (long ≡ (long / n - m + m) * n)
+blocks-of-length n m long positive whole room =
+    let enough : m + 1 ≤ long / n = le-div-iff-mul-le positive .1 room in
+    let back : long / n - m + m ≡ long / n = omega arith in
+    let all : long / n * n ≡ long = omega (arith, div-add-mod' long n) in
+    (omega arith, sym (ap (λ (t : ℕ). t * n) back ∙ all))
+
+frame-of : (p : Setting) (long : ℕ) → Sizes p → T (eqb (long % p .n) 0 && leb (windowLength p) long) → T (leb (blocksOf p long) mostBlocks) → Frame p long
+frame-of p long sizes shape few =
+    let whole : long % p .n ≡ 0 = eqb→eq (long % p .n) 0 (and-left (eqb (long % p .n) 0) (leb (windowLength p) long) shape) in
+    let room : windowLength p ≤ long = leb→le (windowLength p) long (and-right (eqb (long % p .n) 0) (leb (windowLength p) long) shape) in
+    let found = blocks-of-length (p .n) (p .m) long (sizes .symbols) whole room in
+    record { sizes = sizes; blocks = found .0; most = leb→le (blocksOf p long) mostBlocks few; long-is = found .1 }
+
+pub record FrameYes (number long : ℕ) : Type 0 where
+  pub setting : T (isSetting number)
+  pub frame : Frame (settingOf number) long
+
+pub frame-yes : (number long : ℕ) → firstNo (frameQuestions number long) .number ≡ 0 → FrameYes number long
+frame-yes number long e =
+    let all = all-yes (frameQuestions number long) tt e in
+    record { setting = all .0; frame = frame-of (settingOf number) long (sizesOf number (all .0)) (all .1 .0) (all .1 .1 .0) }
+
+-- The areas that a frame of at most 512 blocks needs are small.
+pub message-small : (p : Setting) (T : ℕ) → Sizes p → T ≤ mostBlocks → T * p .k ≤ 512 * 3
+message-small p T s h = mul-le-mul h (s .information-most)
+
+pub transmission-small : (p : Setting) (T : ℕ) → Sizes p → T ≤ mostBlocks → (T + p .m) * p .n ≤ 514 * 7
+transmission-small p T s h = let top : T + p .m ≤ 514 = omega (arith, s .memory-most) in mul-le-mul top (s .symbols-most)
+
+pub window-small : (p : Setting) → Sizes p → windowLength p ≤ 3 * 7
+window-small p s = let top : p .m + 1 ≤ 3 = omega (arith, s .memory-most) in mul-le-mul top (s .symbols-most)
+
+-- What decoding knows when questions 1 to 6 got "yes".
+pub record DecodingYes (number : ℕ) (reception : List ℕ) (messageRoom transmissionRoom : ℕ) : Type 0 where
+  pub setting : T (isSetting number)
+  pub blocks : 1 ≤ blocksOf (settingOf number) (length reception)
+  pub most : blocksOf (settingOf number) (length reception) ≤ mostBlocks
+  pub long : length reception ≡ (blocksOf (settingOf number) (length reception) + settingOf number .m) * settingOf number .n
+  pub symbols : Symbols (settingOf number .q) reception
+  pub message-room : blocksOf (settingOf number) (length reception) * settingOf number .k ≤ messageRoom
+  pub transmission-room : (blocksOf (settingOf number) (length reception) + settingOf number .m) * settingOf number .n ≤ transmissionRoom
+
+pub decoding-yes : (number : ℕ) (reception : List ℕ) (messageRoom transmissionRoom : ℕ)
+    → firstNo (decodingQuestions number reception messageRoom transmissionRoom) .number ≡ 0 → DecodingYes number reception messageRoom transmissionRoom
+decoding-yes number reception messageRoom transmissionRoom e =
+    let all = all-yes (decodingQuestions number reception messageRoom transmissionRoom) tt e in
+    let p = settingOf number in
+    let frame = frame-of p (length reception) (sizesOf number (all .0)) (all .1 .0) (all .1 .1 .0) in
+    record {
+      setting = all .0;
+      blocks = frame .blocks;
+      most = frame .most;
+      long = frame .long-is;
+      symbols = symbols-all (p .q) reception (eqb→eq (symbolsTo (p .q) reception) (length reception) (all .1 .1 .1 .0));
+      message-room = leb→le (blocksOf p (length reception) * p .k) messageRoom (all .1 .1 .1 .1 .0);
+      transmission-room = leb→le ((blocksOf p (length reception) + p .m) * p .n) transmissionRoom (all .1 .1 .1 .1 .1 .0)
+    }
+
+-- What encoding knows when its questions got "yes", T being the length divided by k.
+pub record EncodingYes (number : ℕ) (message : List ℕ) (transmissionRoom : ℕ) : Type 0 where
+  pub setting : T (isSetting number)
+  pub most : length message / settingOf number .k ≤ mostBlocks
+  pub message-of : Message (settingOf number) (length message / settingOf number .k) message
+  pub room : (length message / settingOf number .k + settingOf number .m) * settingOf number .n ≤ transmissionRoom
+
+pub encoding-yes : (number : ℕ) (message : List ℕ) (transmissionRoom : ℕ)
+    → firstNo (encodingQuestions number message transmissionRoom) .number ≡ 0 → EncodingYes number message transmissionRoom
+encoding-yes number message transmissionRoom e =
+    let all = all-yes (encodingQuestions number message transmissionRoom) tt e in
+    let p = settingOf number in
+    let T = length message / p .k in
+    let whole : length message % p .k ≡ 0 = eqb→eq (length message % p .k) 0 (and-left (eqb (length message % p .k) 0) (leb (p .k) (length message)) (all .1 .0)) in
+    let least : p .k ≤ length message = leb→le (p .k) (length message) (and-right (eqb (length message % p .k) 0) (leb (p .k) (length message)) (all .1 .0)) in
+    let once : 1 * p .k ≤ length message = omega arith in
+    record {
+      setting = all .0;
+      most = leb→le T mostBlocks (all .1 .1 .0);
+      message-of =
+        record {
+          blocks = le-div-iff-mul-le (sizesOf number (all .0) .information) .1 once;
+          long = omega (arith, div-add-mod' (length message) (p .k));
+          symbols = symbols-all (p .q) message (eqb→eq (symbolsTo (p .q) message) (length message) (all .1 .1 .1 .0))
+        };
+      room = leb→le ((T + p .m) * p .n) transmissionRoom (all .1 .1 .1 .1 .0)
+    }
+
+-- What the display knows when its questions got "yes".
+pub record WindowYes (number long j : ℕ) : Type 0 where
+  pub setting : T (isSetting number)
+  pub frame : Frame (settingOf number) long
+  pub inside : j < blocksOf (settingOf number) long
+
+pub display-yes : (number long j : ℕ) → firstNo (displayQuestions number long j) .number ≡ 0 → WindowYes number long j
+display-yes number long j e =
+    let all = all-yes (displayQuestions number long j) tt e in
+    record {
+      setting = all .0;
+      frame = frame-of (settingOf number) long (sizesOf number (all .0)) (all .1 .0) (all .1 .1 .0);
+      inside = ltb→lt j (blocksOf (settingOf number) long) (all .1 .1 .1 .0)
+    }
+
+-- What marking knows when its questions got "yes".
+pub marks-yes : (number receptionLong transmissionLong j : ℕ) → firstNo (marksQuestions number receptionLong transmissionLong j) .number ≡ 0
+    → WindowYes number receptionLong j × (receptionLong ≡ transmissionLong)
+marks-yes number receptionLong transmissionLong j e =
+    let all = all-yes (marksQuestions number receptionLong transmissionLong j) tt e in
+    ( record {
+        setting = all .0;
+        frame = frame-of (settingOf number) receptionLong (sizesOf number (all .0)) (all .1 .0) (all .1 .1 .0);
+        inside = ltb→lt j (blocksOf (settingOf number) receptionLong) (all .1 .1 .1 .0)
+      }
+    , eqb→eq receptionLong transmissionLong (all .1 .1 .1 .1 .0)
+    )

@@ -1,0 +1,74 @@
+-- `link::display::window`: the part from j × n on, or none.
+use mathlib.Core.Path.{_≡_, sym, ap, _∙_}
+use native.Mathlib.Omega.{arith}
+use denote.Ref.{now}
+use lib.ListN.{length}
+use Rattle.link.specs.Questions.{firstNo, displayQuestions}
+use Rattle.link.proofs.Answers.{WindowYes, display-yes}
+use Rattle.link.proofs.Windows.{Window, window-yes, window-refused, window-shown}
+use borrow.Author.Needs.{needs}
+use Rattle.link.proofs.display.window.Statement.{statement}
+use Rattle.link.proofs.display.window.Tie as tie
+
+display-questions-requires : tie.Need-display-questions-requires
+display-questions-requires c κs = search needs
+
+slice-aggregate-result : tie.Need-slice-aggregate-result
+slice-aggregate-result c = search needs
+
+returns : tie.Need-returns
+returns c = window-refused (c .before .before .before .before .before .args .setting) (now (c .before .before .before .before .before .args .reception)) (c .before .before .before .before .before .args .j) (λ e. c .before .if1 .taken (ap (λ a. a .number) (c .before .before .before .display-questions .ensures) ∙ e))
+
+-- Every question got "yes".
+asked : (c : tie.Else1) → firstNo (displayQuestions (c .before .before .before .before .args .setting) (length (now (c .before .before .before .before .args .reception))) (c .before .before .before .before .args .j)) .number ≡ 0
+asked c = ap (λ a. a .number) (sym (c .before .before .display-questions .ensures)) ∙ c .if1 .left
+
+known : (c : tie.Else1) → WindowYes (c .before .before .before .before .args .setting) (length (now (c .before .before .before .before .args .reception))) (c .before .before .before .before .args .j)
+known c = display-yes (c .before .before .before .before .args .setting) (length (now (c .before .before .before .before .args .reception))) (c .before .before .before .before .args .j) (asked c)
+
+setting-requires : tie.Need-setting-requires
+setting-requires c κs = known c .setting
+
+inside : (c : tie.After-setting) → Window (c .setting .result) (length (now (c .before .before .before .before .before .args .reception))) (c .before .before .before .before .before .args .j)
+inside c = window-yes (c .before .before .before .before .before .args .setting) (length (now (c .before .before .before .before .before .args .reception))) (c .before .before .before .before .before .args .j) (c .setting .result) (c .setting .ensures) (known (c .before))
+
+mul-from : tie.Need-mul-from
+mul-from c = omega (arith, inside c .within)
+
+add-to : tie.Need-add-to
+add-to c = omega (arith, inside c .sizes .memory-most)
+
+mul-to : tie.Need-mul-to
+mul-to c = omega (arith, inside c .small)
+
+add-to-2 : tie.Need-add-to-2
+add-to-2 c = omega (arith, inside c .within)
+
+sub-result : tie.Need-sub-result
+sub-result c = search needs
+
+part-result-start : tie.Need-part-result-start
+part-result-start c = search needs
+
+part-result-end : tie.Need-part-result-end
+part-result-end c = inside c .within
+
+returns-2 : tie.Need-returns-2
+returns-2 c = window-shown (c .before .before .before .before .before .before .args .setting) (now (c .before .before .before .before .before .before .args .reception)) (c .before .before .before .before .before .before .args .j) (c .before .setting .result) (c .before .setting .ensures) (asked (c .before .before))
+
+pub window-spec : {M : Type 1} → statement M
+window-spec =
+    tie.close
+    (tie.spec
+    display-questions-requires
+    slice-aggregate-result
+    returns
+    setting-requires
+    mul-from
+    add-to
+    mul-to
+    add-to-2
+    sub-result
+    part-result-start
+    part-result-end
+    returns-2)

@@ -1,0 +1,97 @@
+-- `link::mark::differences`: from the last place down, each mark is set below those of the later places.
+use mathlib.Core.Path.{_≡_, sym, ap, _∙_}
+use mathlib.Core.Bool.{Bool, not}
+use mathlib.Core.List.{List}
+use Prim.Native.Nat.{ℕ, _+_, _-_, _*_, _^_, _≤_, _<_}
+use native.Mathlib.Omega.{arith}
+use denote.Ref.{now}
+use lib.Dec.{eqb}
+use lib.ListN.{getD}
+use Rattle.link.specs.Marks.{bits}
+use Rattle.link.proofs.Bits.{bits-more, bits-whole}
+use Rattle.link.proofs.mark.differences.Statement.{statement}
+use Rattle.link.proofs.mark.differences.Tie as tie
+
+-- Whether symbol i from `from` on differs.
+abbrev test : List ℕ → List ℕ → ℕ → ℕ → Bool
+test reception transmission from i = not (eqb (getD reception (from + i) 0) (getD transmission (from + i) 0))
+
+abbrev Inv-loop : tie.InvT-loop
+Inv-loop reception transmission from long set₀ left₀ set left =
+    (left ≤ long) × (set ≡ bits (long - left) (λ i. test reception transmission from (left + i)))
+
+abbrev μ-loop : tie.MeasureT-loop
+μ-loop reception transmission from long set₀ left₀ set left = left
+
+loop-holds : tie.Need-loop-holds Inv-loop μ-loop
+unfolding bits
+loop-holds c =
+    let entry = c .before .before in
+    let none : entry .args .long - entry .args .long ≡ 0 = omega arith in
+    (omega arith, sym (ap (λ (t : ℕ). bits t (λ i. test (now (entry .args .reception)) (now (entry .args .transmission)) (entry .args .from) (entry .args .long + i))) none))
+
+sub-left : tie.Need-sub-left Inv-loop μ-loop
+sub-left c = omega arith
+
+add-differ : tie.Need-add-differ Inv-loop μ-loop
+add-differ c = omega arith
+
+shared-slice-read-differ : tie.Need-shared-slice-read-differ Inv-loop μ-loop
+shared-slice-read-differ c = omega arith
+
+add-differ-2 : tie.Need-add-differ-2 Inv-loop μ-loop
+add-differ-2 c = omega arith
+
+shared-slice-read-differ-2 : tie.Need-shared-slice-read-differ-2 Inv-loop μ-loop
+shared-slice-read-differ-2 c = omega arith
+
+differ-requires : tie.Need-differ-requires Inv-loop μ-loop
+differ-requires c κs = tt
+
+-- One more place before those already taken: its mark is the lowest bit, and the number still fits.
+more : (c : tie.After-differ Inv-loop μ-loop)
+    → (c .before .before .before .before .loop .set * 2 + c .differ .result
+      ≡ bits (c .before .before .before .before .before .before .before .args .long - (c .before .before .before .before .loop .left - 1))
+        (λ i. test (now (c .before .before .before .before .before .before .before .args .reception)) (now (c .before .before .before .before .before .before .before .args .transmission)) (c .before .before .before .before .before .before .before .args .from) (c .before .before .before .before .loop .left - 1 + i)))
+    × (c .before .before .before .before .loop .set * 2 + c .differ .result < 2 ^ 32)
+more c =
+    let entry = c .before .before .before .before .before .before .before in
+    bits-more (entry .args .long) (c .before .before .before .before .loop .left) (test (now (entry .args .reception)) (now (entry .args .transmission)) (entry .args .from))
+    (c .before .before .before .before .loop .set) (c .differ .result) (c .before .before .before .loop-test .taken) (c .before .before .before .before .loop .inv .0) (entry .pre .0) (c .before .before .before .before .loop .inv .1) (c .differ .ensures)
+
+mul-set : tie.Need-mul-set Inv-loop μ-loop
+mul-set c = omega (arith, more c .1)
+
+add-set : tie.Need-add-set Inv-loop μ-loop
+add-set c = omega (arith, more c .1, more c .0)
+
+loop-less : tie.Need-loop-less Inv-loop μ-loop
+loop-less c = omega arith
+
+loop-again : tie.Need-loop-again Inv-loop μ-loop
+loop-again c = (omega arith, more c .0)
+
+returns : tie.Need-returns Inv-loop μ-loop
+returns c =
+    let entry = c .before .before .before .before in
+    let done : c .before .loop .left ≡ 0 = omega arith in
+    c .before .loop .inv .1 ∙ bits-whole (entry .args .long) (c .before .loop .left) (test (now (entry .args .reception)) (now (entry .args .transmission)) (entry .args .from)) done
+
+pub differences-spec : {M : Type 1} → statement M
+differences-spec =
+    tie.close
+    (tie.spec
+    Inv-loop
+    μ-loop
+    loop-holds
+    sub-left
+    add-differ
+    shared-slice-read-differ
+    add-differ-2
+    shared-slice-read-differ-2
+    differ-requires
+    mul-set
+    add-set
+    loop-less
+    loop-again
+    returns)

@@ -1,0 +1,31 @@
+// The display: window j of a reception, as that part of the caller's own bytes.
+ghost use mathlib.Core.Path.{_≡_};
+ghost use lib.ListN.{length};
+ghost use Rattle.link.specs.Questions.{firstNo, displayQuestions};
+ghost use Rattle.link.specs.Display.{windowOf};
+
+use super::Answer;
+use super::questions;
+
+// Window j, the m+1 blocks from block j on; empty where one of questions 1, 2, 3 and 12 gets "no".
+pub fn window(setting: u32, reception: &[u8], j: u64) -> &[u8]
+    ensures { λ r. ⌜ now r ≡ windowOf setting (now (reception .entry)) j ⌝ }
+{
+    let answer = questions::display_questions(setting, reception.len(), j);
+    if answer.number != 0 {
+        return &reception[..0];
+    }
+    let p = tables::setting(setting);
+    let n = p.n;
+    let m = p.m;
+    let from = (j as usize) * n;
+    let to = from + (m + 1) * n;
+    &reception[from..to]
+}
+
+// The answer of `window` on the same input.
+pub fn window_answer(setting: u32, reception: &[u8], j: u64) -> Answer
+    ensures { λ r. ⌜ r ≡ firstNo (displayQuestions setting (length (now (reception .entry))) j) ⌝ }
+{
+    questions::display_questions(setting, reception.len(), j)
+}

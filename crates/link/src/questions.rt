@@ -1,0 +1,166 @@
+// The questions of 01, asked in order by every call: the answer is the first "no".
+ghost use mathlib.Core.Path.{_≡_};
+ghost use lib.ListN.{length};
+ghost use Rattle.link.specs.Questions.{answer, firstNo, symbolsTo, frameQuestions, decodingQuestions, encodingQuestions, displayQuestions, marksQuestions};
+
+use super::Answer;
+
+// "When every answer is yes, number and place are 0."
+pub fn yes() -> Answer
+    ensures { λ r. ⌜ r ≡ answer 0 0 0 ⌝ }
+{
+    Answer {
+        number: 0,
+        altered: 0,
+        place: 0,
+    }
+}
+
+// "A "no" gives the number .. the count is 0."
+pub fn no(number: u32, place: u64) -> Answer
+    ensures { λ r. ⌜ r ≡ answer number place 0 ⌝ }
+{
+    Answer {
+        number: number,
+        altered: 0,
+        place: place,
+    }
+}
+
+fn wide(symbol: u8) -> usize
+    ensures { λ r. ⌜ r ≡ symbol ⌝ }
+{
+    symbol as usize
+}
+
+// The place of the first byte that is not below q, or the length where there is none.
+pub fn first_not_below(q: usize, bytes: &[u8]) -> usize
+    ensures { λ r. ⌜ r ≡ symbolsTo q (now (bytes .entry)) ⌝ }
+{
+    let mut i: usize = 0;
+    while i < bytes.len() {
+        if q <= wide(bytes[i]) {
+            return i;
+        }
+        i += 1;
+    }
+    i
+}
+
+// Questions 1, 2 and 3 of a frame of this many symbols.
+pub fn frame_questions(number: u32, long: usize) -> Answer
+    ensures { λ r. ⌜ r ≡ firstNo (frameQuestions number long) ⌝ }
+{
+    if !tables::is_setting(number) {
+        return no(1, 0);
+    }
+    let p = tables::setting(number);
+    let n = p.n;
+    let m = p.m;
+    if long % n != 0 {
+        return no(2, 0);
+    }
+    if long < (m + 1) * n {
+        return no(2, 0);
+    }
+    if 512 < long / n - m {
+        return no(3, 0);
+    }
+    yes()
+}
+
+// Decoding: 1, 2, 3, 4, 5, 6.
+pub fn decoding_questions(
+    number: u32,
+    reception: &[u8],
+    message_room: usize,
+    transmission_room: usize,
+) -> Answer
+    ensures { λ r. ⌜ r ≡ firstNo (decodingQuestions number (now (reception .entry)) «message_room» «transmission_room») ⌝ }
+{
+    let frame = frame_questions(number, reception.len());
+    if frame.number != 0 {
+        return frame;
+    }
+    let p = tables::setting(number);
+    let q = p.q;
+    let n = p.n;
+    let k = p.k;
+    let m = p.m;
+    let symbols = first_not_below(q, reception);
+    if symbols != reception.len() {
+        return no(4, symbols as u64);
+    }
+    let blocks = reception.len() / n - m;
+    if message_room < blocks * k {
+        return no(5, 0);
+    }
+    if transmission_room < (blocks + m) * n {
+        return no(6, 0);
+    }
+    yes()
+}
+
+// Encoding: 1, 8, 3, 4, 6.
+pub fn encoding_questions(number: u32, message: &[u8], transmission_room: usize) -> Answer
+    ensures { λ r. ⌜ r ≡ firstNo (encodingQuestions number (now (message .entry)) «transmission_room») ⌝ }
+{
+    if !tables::is_setting(number) {
+        return no(1, 0);
+    }
+    let p = tables::setting(number);
+    let q = p.q;
+    let n = p.n;
+    let k = p.k;
+    let m = p.m;
+    if message.len() % k != 0 {
+        return no(8, 0);
+    }
+    if message.len() < k {
+        return no(8, 0);
+    }
+    let blocks = message.len() / k;
+    if 512 < blocks {
+        return no(3, 0);
+    }
+    let symbols = first_not_below(q, message);
+    if symbols != message.len() {
+        return no(4, symbols as u64);
+    }
+    if transmission_room < (blocks + m) * n {
+        return no(6, 0);
+    }
+    yes()
+}
+
+// Display: 1, 2, 3, 12.
+pub fn display_questions(number: u32, long: usize, j: u64) -> Answer
+    ensures { λ r. ⌜ r ≡ firstNo (displayQuestions number long j) ⌝ }
+{
+    let frame = frame_questions(number, long);
+    if frame.number != 0 {
+        return frame;
+    }
+    let p = tables::setting(number);
+    let n = p.n;
+    let m = p.m;
+    let blocks = (long / n - m) as u64;
+    if blocks <= j {
+        return no(12, 0);
+    }
+    yes()
+}
+
+// Marks: 1, 2, 3, 12, 13.
+pub fn marks_questions(number: u32, reception_long: usize, transmission_long: usize, j: u64) -> Answer
+    ensures { λ r. ⌜ r ≡ firstNo (marksQuestions number «reception_long» «transmission_long» j) ⌝ }
+{
+    let window = display_questions(number, reception_long, j);
+    if window.number != 0 {
+        return window;
+    }
+    if reception_long != transmission_long {
+        return no(13, 0);
+    }
+    yes()
+}

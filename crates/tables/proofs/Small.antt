@@ -1,0 +1,49 @@
+-- Sizes of the settings, for the bounds that code asks.
+-- Holds: `smallOf`, `block-positive`, `Sizes`, `sizesOf`.
+use Prim.Native.Nat.{ℕ, zero, suc, _+_, _-_, _*_, _≤_, _<_}
+use native.Mathlib.Nat.{mul-le-mul}
+use native.Mathlib.Omega.{arith}
+use lib.Dec.{T}
+use Rattle.code.specs.declared.Setting.{Setting}
+use Rattle.code.specs.Settings.{setting, settings, isSetting, settingOf, Sound}
+use Rattle.code.proofs.Settings.{Each, none, next, each-at, setting-range, soundOf}
+use Rattle.tables.specs.Tables.{Small}
+
+small : (q k m : ℕ) → q ≤ 8 → m ≤ 2 → k ≤ 3 → (m + 1) * k * (q - 1) ≤ 42 → Small (setting q k m)
+small q k m e t i r = record { elements = e; memory = t; information = i; rows = r }
+
+smalls : Each Small settings
+smalls =
+    next (small 5 1 2 (omega arith) (omega arith) (omega arith) (omega arith))
+    (next (small 8 2 2 (omega arith) (omega arith) (omega arith) (omega arith))
+    (next (small 8 3 1 (omega arith) (omega arith) (omega arith) (omega arith)) none))
+
+pub smallOf : (s : ℕ) → T (isSetting s) → Small (settingOf s)
+smallOf s t = each-at smalls (s - 1) (setting 0 0 0) (omega (arith, setting-range s t))
+
+-- Blocks are not empty.
+pub block-positive : (p : Setting) → Sound p → 0 < p .n
+block-positive p S =
+    let least : 1 ≤ p .m + 1 = omega arith in
+    omega (arith, S .room, mul-le-mul least (S .information))
+
+-- The bounds that arithmetic on block numbers uses.
+pub record Sizes (p : Setting) : Type 0 where
+  pub symbols : 0 < p .n
+  pub symbols-most : p .n ≤ 7
+  pub information : 0 < p .k
+  pub information-most : p .k ≤ 3
+  pub memory-most : p .m ≤ 2
+
+pub sizes : (p : Setting) → Sound p → Small p → Sizes p
+sizes p S s =
+    record {
+      symbols = block-positive p S;
+      symbols-most = omega (arith, S .block, s .elements);
+      information = S .information;
+      information-most = s .information;
+      memory-most = s .memory
+    }
+
+pub sizesOf : (s : ℕ) → T (isSetting s) → Sizes (settingOf s)
+sizesOf s t = sizes (settingOf s) (soundOf s t) (smallOf s t)
