@@ -1,1 +1,1 @@
--- No definitions.
+-- The program is only proved safe: what it tests is proved in `block`.
