@@ -1,4 +1,5 @@
--- From the locator to the spectrum of the error, over any field with α of order n (BLUEPRINT section 5: y_i = e_i ψ(α^i)).
+-- From the locator to the spectrum of the error, over any field with α of order n.
+-- The block y_i = e_i ψ(α^i), ψ the mirrored locator, has few nonzero symbols and many zeros in its spectrum, so it is zero.
 -- A light block e (2 × weight at most r) whose spectrum is known at α^0 .. α^(r-1): the locator of what is known annihilates the whole spectrum.
 -- Holds: `light-annihilated` (the distance lemma again), `length-of-light`, `recurs-of-light`, and `extension-is-spectrum`: the recurrence gives all of it.
 use mathlib.Core.Path.{_≡_, refl, sym, ap, ap₂, subst, _∙_}

@@ -1,4 +1,4 @@
--- The block step's promise (01, "find the level-l code block within (d_l - 1)/2, rounded down, symbols"; BLUEPRINT: cost in place of floors).
+-- The block step's promise (01, "find the level-l code block within (d_l - 1)/2, rounded down, symbols"; a cost below d_l in place of halves rounded down).
 -- For a received block and a level either the information of a combination that is near, or that none is.
 -- Holds: `blockCost`, `Information`, `Step`.
 use mathlib.Core.Bool.{Bool, true, false}

@@ -5,3 +5,5 @@ pub mod Written
 pub mod Encoding
 pub mod Bits
 pub mod Windows
+pub mod Decoding
+pub mod Demand3

@@ -1,10 +1,12 @@
 // The public calls of the order link: encoding, decoding, the display and marks.
+pub mod decode;
 pub mod display;
 pub mod encode;
 pub mod mark;
 mod questions;
 
 // The answer of every call: the number and place of the first question answered "no", or 0 and 0, and the number of symbols altered.
+#[repr(C)]
 pub struct Answer {
     pub number: u32,
     pub altered: u32,
@@ -12,6 +14,7 @@ pub struct Answer {
 }
 
 // The differences in a window, one bit a symbol, the earliest lowest, and how many are set.
+#[repr(C)]
 pub struct Marks {
     pub answer: Answer,
     pub marks: u32,

@@ -1,0 +1,75 @@
+// Decoding: from a reception (the received word) to the message that fits it and its transmission.
+ghost use mathlib.Core.Path.{_≡_};
+ghost use Prim.Native.Nat.{_+_, _*_, _≤_};
+ghost use lib.Dec.{T};
+ghost use lib.ListN.{length};
+ghost use Rattle.field.specs.Fields.{Good};
+ghost use Rattle.field.specs.Symbols.{Symbols};
+ghost use Rattle.code.specs.Settings.{isSetting, settingOf};
+ghost use Rattle.link.specs.Decoding.{Restored, FrameDecoded, Decoded};
+
+use code::Setting;
+use super::Answer;
+use super::questions;
+
+// The reception less what is left of it: the transmission, in the place of what is left.
+fn restore(q: usize, reception: &[u8], left: &mut [u8])
+    requires { ⌜ Good q × Symbols q (now reception) × Symbols q (now left) × (length (now left) ≡ length (now reception)) ⌝ }
+    ensures { λ _. ⌜ Restored q (length (now (left .entry))) (now (reception .entry)) (now (left .entry)) (now (left .exit)) ⌝ }
+{
+    let mut i: usize = 0;
+    while i < left.len() {
+        let symbol = field::subtract(q, reception[i], left[i]);
+        left[i] = symbol;
+        i += 1;
+    }
+}
+
+// Question 7, on areas of just the sizes that the message and its transmission take.
+fn decode_frame(
+    setting: u32,
+    p: Setting,
+    blocks: usize,
+    reception: &[u8],
+    message: &mut [u8],
+    transmission: &mut [u8],
+) -> Answer
+    requires { ⌜ T (isSetting setting) × (p ≡ settingOf setting) × (1 ≤ blocks) × (blocks ≤ 512) × (length (now reception) ≡ (blocks + p .m) * p .n) × Symbols (p .q) (now reception) × (length (now message) ≡ blocks * p .k) × (length (now transmission) ≡ length (now reception)) ⌝ }
+    ensures { λ r. ⌜ FrameDecoded p blocks (now (reception .entry)) r (now (message .exit)) (now (transmission .exit)) ⌝ }
+{
+    let q = p.q;
+    let products = field::tables();
+    let rows = tables::rows(setting);
+    let matrix = tables::matrix(setting);
+    if !frame::reading::read(p, &products, &rows, &matrix, blocks, reception, message, transmission) {
+        frame::area::clear(message);
+        frame::area::clear(transmission);
+        return questions::no(7, 0);
+    }
+    let altered = frame::area::weight(transmission);
+    restore(q, reception, transmission);
+    Answer {
+        number: 0,
+        altered: altered as u32,
+        place: 0,
+    }
+}
+
+// Decodes a reception: the answer to questions 1 to 7 and the number of symbols altered; the message that fits in the first T × k bytes of its
+// area and its transmission in the first (T+m) × n bytes of its, or zeros there if no message fits.
+pub fn decode(setting: u32, reception: &[u8], message: &mut [u8], transmission: &mut [u8]) -> Answer
+    ensures { λ r. ⌜ Decoded setting (now (reception .entry)) (now (message .entry)) (now (transmission .entry)) r (now (message .exit)) (now (transmission .exit)) ⌝ }
+{
+    let answer = questions::decoding_questions(setting, reception, message.len(), transmission.len());
+    if answer.number != 0 {
+        return answer;
+    }
+    let p = tables::setting(setting);
+    let n = p.n;
+    let k = p.k;
+    let m = p.m;
+    let blocks = reception.len() / n - m;
+    let short = blocks * k;
+    let long = (blocks + m) * n;
+    decode_frame(setting, p, blocks, reception, &mut message[..short], &mut transmission[..long])
+}
