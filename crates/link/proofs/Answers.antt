@@ -1,7 +1,8 @@
 -- What the first "no" of a list of questions says, and what a call knows when every answer was "yes".
--- Holds: `first-yes`, `first-no` (one question), `append-yes`, `append-no` (a list of questions before others), `all-yes`, `yes-all` (number 0
--- says that every answer was "yes"); `symbols-all`, `symbols-none`, `symbols-next`, `symbols-end` (question 4, as a loop asks it);
--- `FrameYes`, `frame-yes`, `DecodingYes`, `decoding-yes`, `EncodingYes`, `encoding-yes`, `display-yes`, `marks-yes`.
+-- Holds: `first-yes`, `first-no` (one question), `append-yes`, `append-no` (a list of questions before others), `all-yes` (number 0 says that every
+-- answer was "yes"), `after-first`, `after-frame` (what is left to ask, over the setting in hand); `symbols-start`, `symbols-next`, `symbols-stop`,
+-- `symbols-end` (question 4, as a loop asks it), `symbols-all`; `Frame`; `FrameYes`, `DecodingYes`, `EncodingYes`, `WindowYes` and `frame-yes`,
+-- `decoding-yes`, `encoding-yes`, `display-yes`, `marks-yes`; `message-small`, `transmission-small`, `window-small` (the areas' sizes).
 use mathlib.Core.Path.{_≡_, refl, sym, ap, subst, _∙_}
 use mathlib.Core.Bool.{Bool, true, false, not, _&&_}
 use mathlib.Core.List.{List, [], _∷_, _++_}
