@@ -7,3 +7,4 @@ pub mod Bits
 pub mod Windows
 pub mod Samples
 pub mod Decoding
+pub mod Demand3
