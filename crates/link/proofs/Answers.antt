@@ -132,15 +132,6 @@ symbols-end q l i e =
     let none : symbolsTo q (drop i l) ≡ 0 = ap (symbolsTo q) (ap (λ (t : ℕ). drop t l) e ∙ drop-length l) in
     omega arith
 
-pub symbols-most : (q : ℕ) (l : List ℕ) → symbolsTo q l ≤ length l
-unfolding symbolsTo
-symbols-most q [] = omega arith
-symbols-most q (x ∷ l) = at (symbols-most q l) (ltb x q)
-  where
-    at : symbolsTo q l ≤ length l → (t : Bool) → pick t (suc (symbolsTo q l)) 0 ≤ suc (length l)
-    at h true = omega arith
-    at h false = omega arith
-
 -- All of them: a list of symbols.
 pub symbols-all : (q : ℕ) (l : List ℕ) → symbolsTo q l ≡ length l → Symbols q l
 unfolding symbolsTo
