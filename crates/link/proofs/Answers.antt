@@ -1,7 +1,8 @@
 -- What the first "no" of a list of questions says, and what a call knows when every answer was "yes".
--- Holds: `first-yes`, `first-no` (one question), `append-yes`, `append-no` (a list of questions before others), `all-yes`, `yes-all` (number 0
--- says that every answer was "yes"); `symbols-all`, `symbols-none`, `symbols-next`, `symbols-end` (question 4, as a loop asks it);
--- `FrameYes`, `frame-yes`, `DecodingYes`, `decoding-yes`, `EncodingYes`, `encoding-yes`, `display-yes`, `marks-yes`.
+-- Holds: `first-yes`, `first-no` (one question), `append-yes`, `append-no` (a list of questions before others), `all-yes` (number 0 says that every
+-- answer was "yes"), `after-first`, `after-frame` (what is left to ask, over the setting in hand); `symbols-start`, `symbols-next`, `symbols-stop`,
+-- `symbols-end` (question 4, as a loop asks it), `symbols-all`; `Frame`; `FrameYes`, `DecodingYes`, `EncodingYes`, `WindowYes` and `frame-yes`,
+-- `decoding-yes`, `encoding-yes`, `display-yes`, `marks-yes`; `message-small`, `transmission-small`, `window-small` (the areas' sizes).
 use mathlib.Core.Path.{_≡_, refl, sym, ap, subst, _∙_}
 use mathlib.Core.Bool.{Bool, true, false, not, _&&_}
 use mathlib.Core.List.{List, [], _∷_, _++_}
@@ -130,15 +131,6 @@ unfolding symbolsTo
 symbols-end q l i e =
     let none : symbolsTo q (drop i l) ≡ 0 = ap (symbolsTo q) (ap (λ (t : ℕ). drop t l) e ∙ drop-length l) in
     omega arith
-
-pub symbols-most : (q : ℕ) (l : List ℕ) → symbolsTo q l ≤ length l
-unfolding symbolsTo
-symbols-most q [] = omega arith
-symbols-most q (x ∷ l) = at (symbols-most q l) (ltb x q)
-  where
-    at : symbolsTo q l ≤ length l → (t : Bool) → pick t (suc (symbolsTo q l)) 0 ≤ suc (length l)
-    at h true = omega arith
-    at h false = omega arith
 
 -- All of them: a list of symbols.
 pub symbols-all : (q : ℕ) (l : List ℕ) → symbolsTo q l ≡ length l → Symbols q l
