@@ -1,5 +1,5 @@
 -- A loop that adds up: what its sum is before the first term, and after one more.
--- Holds: `zero-below`, `alpha-below`, `sum-none`, `sum-more`; `zeros-at`, a cleared area; `below-set` and `area-set`, an area after a store; `distance-none`, `distance-le`, `distance-same`, `distance-more`; `square-place`.
+-- Holds: `zero-below`, `alpha-below`, `sum-none`, `sum-more`; `zeros-at` and `area-zeros`, a cleared area; `below-set` and `area-set`, an area after a store; `distance-none`, `distance-le`, `distance-same`, `distance-more`; `square-place`.
 use mathlib.Core.Path.{_≡_, refl, sym, ap, subst, _∙_}
 use mathlib.Core.Bool.{Bool, true, false, not}
 use mathlib.Core.List.{List}
@@ -18,7 +18,7 @@ use Rattle.algebra.specs.Weight.{total, distance}
 use Rattle.algebra.proofs.Weights.{countOf-le}
 use Rattle.field.specs.Fields.{Good, five-elements, eight-elements, opsOf, alpha}
 use Rattle.field.specs.Symbols.{Is}
-use Rattle.block.specs.Area.{Below, Area}
+use Rattle.block.specs.Area.{AllBelow, Area, capacity}
 
 pub zero-below : (q : ℕ) → Good q → 0 < q
 zero-below q five-elements = lit< tt
@@ -39,7 +39,7 @@ module _ (q : ℕ) (f : ℕ → ℕ) where
       record { same = e .same ∙ ap (λ (t : ℕ). opsOf q .add t (f a)) (h .same) ∙ ap (λ (t : ℕ). sum (opsOf q) t f) (sym (add-one a)); below = e .below }
 
 -- The symbols of an area after a store are below q.
-pub below-set : (q : ℕ) (l : List ℕ) (i v : ℕ) → Below q l → v < q → Below q (set l i v)
+pub below-set : (q : ℕ) (l : List ℕ) (i v : ℕ) → AllBelow q l → v < q → AllBelow q (set l i v)
 below-set q l i v h b j = at (ℕ-discrete j i) (decLt i (length l))
   where
     at : Dec (j ≡ i) → Dec (i < length l) → getD (set l i v) j 0 < q
@@ -79,3 +79,7 @@ module _ (a b : ℕ → ℕ) where
 -- Places of a square of k rows.
 pub square-place : (k a e : ℕ) → a < k → e < k → a * k + e < k * k
 square-place k a e h l = let next : a + 1 ≤ k = omega arith in omega (arith, mul-le-mul-right k next)
+
+-- A cleared area.
+pub area-zeros : (q : ℕ) → Good q → Area q (replicate capacity 0)
+area-zeros q good = record { size = refl; below = λ i. subst (λ (t : ℕ). t < q) (sym (zeros-at capacity i)) (zero-below q good) }

@@ -1,7 +1,7 @@
 -- The two answers of the block step, from what its parts promise (the chain: distance lemma, locator, spectrum of the error, information).
--- Holds: `step-near`, `step-far`.
-use mathlib.Core.Path.{_≡_, refl, sym, ap, subst, _∙_}
-use mathlib.Core.Bool.{Bool, true, false, not}
+-- Holds: `Parts`, what they promise; `step-near`, `step-far`.
+use mathlib.Core.Path.{_≡_, ap, subst, _∙_}
+use mathlib.Core.Bool.{true, false, not}
 use mathlib.Core.List.{List}
 use Prim.Native.Nat.{ℕ, _+_, _-_, _*_, _≤_, _<_}
 use native.Mathlib.Omega.{arith}
@@ -22,32 +22,52 @@ use Rattle.tables.specs.Tables.{MatrixOf}
 use Rattle.block.specs.Area.{at}
 use Rattle.block.specs.Progress.{Found}
 use Rattle.block.specs.Spectrum.{SpectrumOf, Continued}
-use Rattle.block.specs.Step.{blockCost, Information, Read, Step, near, far}
+use Rattle.block.specs.Information.{Read}
+use Rattle.block.specs.Step.{blockCost, Information, Step, near, far}
 use Rattle.block.proofs.CandidateBelow.{combination-same, read-of-near}
 
-module _ (p : Setting) (S : Sound p) (l : ℕ) (level : l ≤ p .m) (block matrix series after values locator found : List ℕ) (L count : ℕ)
-    (long : length block ≡ p .n) (symbols : Symbols (p .q) block) (M : MatrixOf p matrix)
-    (spectral : SpectrumOf (p .q) block (length block) series)
-    (located : Found (p .q) series (p .n - (l + 1) * p .k + 1) L locator)
-    (continued : Continued (p .q) L (p .n - (l + 1) * p .k) ((l + 1) * p .k) locator series after values)
-    (reads : Read (p .q) (p .k) (l + 1) matrix values found)
-    (counted : count ≡ distance (p .n) (at block) (combination (codeOf p) l (view (p .k) found))) where
+-- What the parts of the block step have promised once the symbols that differ are counted.
+pub record Parts (p : Setting) (l : ℕ) (block found : List ℕ) (count : ℕ) : Type 0 where
+  pub sound : Sound p
+  pub level : l ≤ p .m
+  pub long : length block ≡ p .n
+  pub symbols : Symbols (p .q) block
+  pub matrix : List ℕ
+  pub inverse : MatrixOf p matrix
+  pub series : List ℕ
+  pub spectral : SpectrumOf (p .q) block (length block) series
+  pub known : ℕ
+  pub length-found : ℕ
+  pub locator : List ℕ
+  pub located : Found (p .q) series known length-found locator
+  pub all-known : known ≡ p .n - (l + 1) * p .k + 1
+  pub after : List ℕ
+  pub values : List ℕ
+  pub continued : Continued (p .q) length-found (p .n - (l + 1) * p .k) ((l + 1) * p .k) locator series after values
+  pub reads : Read (p .q) (p .k) (l + 1) matrix values found
+  pub counted : count ≡ distance (p .n) (at block) (combination (codeOf p) l (view (p .k) found))
+
+module _ (p : Setting) (l : ℕ) (block found : List ℕ) (count : ℕ) (P : Parts p l block found count) where
   pub step-near : 2 * count < levelDistance (p .n) (p .k) l → Step p l block found true
-  step-near h = near (reads .area) (omega (arith, counted))
+  step-near h = near (P .reads .area) (omega (arith, P .counted))
 
   -- If the information x were near, it would be what was read, and its count the count.
   same-count : (x : ℕ → ℕ → ℕ) → Information p l x → blockCost p l block x < levelDistance (p .n) (p .k) l
       → count ≡ distance (p .n) (at block) (combination (codeOf p) l x)
   same-count x information close =
-      counted
+      P .counted
       ∙ countOf-ext (p .n) (λ i. not (eqb (at block i) (combination (codeOf p) l (view (p .k) found) i))) (λ i. not (eqb (at block i) (combination (codeOf p) l x i)))
-        (λ i h. ap (λ (t : ℕ). not (eqb (at block i) t)) (combination-same (codeOf p) l (view (p .k) found) x i read))
+      (λ i h. ap (λ (t : ℕ). not (eqb (at block i) t)) (combination-same (codeOf p) l (view (p .k) found) x i read))
     where
       read : (b r : ℕ) → b ≤ l → r < p .k → view (p .k) found b r ≡ x b r
       read =
-          read-of-near p S l level block long symbols x information series after values locator matrix found L close
-            (subst (λ (t : ℕ). SpectrumOf (p .q) block t series) long spectral) located continued
-            (symbol-below (p .q) matrix (M .symbols) (positive p S)) (M .inverses) reads
+          read-of-near p (P .sound) l (P .level) block (P .long) (P .symbols) x information
+          (P .series) (P .after) (P .values) (P .locator) (P .matrix) found (P .length-found) close
+          (subst (λ (t : ℕ). SpectrumOf (p .q) block t (P .series)) (P .long) (P .spectral))
+          (subst (λ (t : ℕ). Found (p .q) (P .series) t (P .length-found) (P .locator)) (P .all-known) (P .located))
+          (P .continued)
+          (symbol-below (p .q) (P .matrix) (P .inverse .symbols) (positive p (P .sound)))
+          (P .inverse .inverses) (P .reads)
 
   pub step-far : levelDistance (p .n) (p .k) l ≤ 2 * count → Step p l block found false
   step-far h = far (λ x information. by-cost x information (decLt (blockCost p l block x) (levelDistance (p .n) (p .k) l)))

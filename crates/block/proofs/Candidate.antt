@@ -1,13 +1,12 @@
 -- If a combination is near the received block, the information read off the continued spectrum is its information. Over any field,
 -- α of order n and (l+1)k ≤ n; r = n - (l+1)k is the number of zeros of the level-l code.
 -- Holds: `values-of-near`, `information-of-near`.
-use mathlib.Core.Path.{_≡_, refl, sym, ap, ap₂, subst, _∙_}
+use mathlib.Core.Path.{_≡_, refl, sym, ap, ap₂, _∙_}
 use Prim.Native.Nat.{ℕ, zero, suc, _+_, _-_, _*_, _≤_, _<_}
 use native.Mathlib.Nat.{mul-le-mul-right}
 use native.Mathlib.Omega.{arith}
 use Rattle.algebra.specs.Ops.{Ops, sub}
 use Rattle.algebra.specs.Sum.{sum, power}
-use Rattle.algebra.specs.Polynomial.{valueOf}
 use Rattle.algebra.specs.Weight.{weight}
 use Rattle.algebra.proofs.Laws.{Field, neg-add, neg-neg, add-neg-cancel, ring}
 use Rattle.algebra.proofs.Order.{Order}
@@ -72,14 +71,17 @@ module _ {F : Type 0} (K : Field F) (α : F) (n k m : ℕ) (order : Order (K .op
         → sum (K .ops) k (λ e. M a e ⊗ values (b * k + e)) ≡ x b a
     information-of-near M inverse b a below inside =
         sum-ext (K .ops) k (λ e. M a e ⊗ values (b * k + e)) (λ e. M a e ⊗ spectrum K n α order (λ i. combination code l x i) (stretch K α n k m order l b e))
-          (λ e h. ap (λ (t : F). M a e ⊗ t) (values-of-near (b * k + e) (within e h) ∙ ap (spectrum K n α order (λ i. combination code l x i)) (place e h)))
+        (λ e h. ap (λ (t : F). M a e ⊗ t) (values-of-near (b * k + e) (within e h) ∙ ap (spectrum K n α order (λ i. combination code l x i)) (place e h)))
         ∙ information-of-spectrum K α n k m order M inverse l x fits (spectrum K n α order (λ i. combination code l x i)) (λ s h. refl) b a below inside
       where
         whole : (l - b + 1 + b) * k ≡ (l + 1) * k
         whole = let same : l - b + 1 + b ≡ l + 1 = omega arith in ap (λ (t : ℕ). t * k) same
+
         next : (b + 1) * k ≤ (l + 1) * k
         next = let up : b + 1 ≤ l + 1 = omega arith in mul-le-mul-right k up
+
         within : (e : ℕ) → e < k → b * k + e < (l + 1) * k
         within e h = omega (arith, next)
+
         place : (e : ℕ) → e < k → n - (l + 1) * k + (b * k + e) ≡ n - (l - b + 1) * k + e
         place e h = omega (arith, whole, fits)

@@ -1,6 +1,6 @@
 -- The same on the numbers below q, as the code has it: if the information x is near, it is the information that was read.
 -- Holds: `combination-same`, `read-of-near`.
-use mathlib.Core.Path.{_≡_, refl, sym, ap, ap₂, subst, fun-ext, _∙_}
+use mathlib.Core.Path.{_≡_, refl, sym, ap, subst, _∙_}
 use mathlib.Core.Bool.{Bool, true, false, not}
 use mathlib.Core.List.{List}
 use Prim.Native.Nat.{ℕ, zero, suc, _+_, _-_, _*_, _≤_, _<_}
@@ -33,10 +33,11 @@ use Rattle.code.proofs.Blocks.{codeOver}
 use Rattle.code.proofs.Naturality.{mapped, combination-natural, evaluation-natural}
 use Rattle.code.proofs.Lists.{symbol-below}
 use Rattle.block.specs.Area.{at}
-use Rattle.block.specs.Locator.{tail, Located, Extended}
+use Rattle.block.specs.Locator.{Located, Extended}
 use Rattle.block.specs.Progress.{Found}
 use Rattle.block.specs.Spectrum.{SpectrumOf, Continued}
-use Rattle.block.specs.Step.{blockCost, Information, Read}
+use Rattle.block.specs.Information.{Read}
+use Rattle.block.specs.Step.{blockCost, Information}
 use Rattle.block.proofs.Accumulated.{alpha-below}
 use Rattle.block.proofs.Levels.{level-fits}
 use Rattle.block.proofs.LocatorBelow.{K, positive, el, up, down, raise, fall, zero-down, one-down, add-down, mul-down, neg-down, sum-down, tail-down, located-up}
@@ -49,9 +50,9 @@ pub combination-same : {F : Type 0} (c : Code F) (l : ℕ) (x y : ℕ → ℕ �
 unfolding combination timesG
 combination-same c l x y i same =
     sum-ext (c .ops) (suc l) (λ j. sum (c .ops) (c .k) (λ r. c .ops .mul (x (l - j) r) (rowSymbol c j r i)))
-      (λ j. sum (c .ops) (c .k) (λ r. c .ops .mul (y (l - j) r) (rowSymbol c j r i)))
-      (λ j h. sum-ext (c .ops) (c .k) (λ r. c .ops .mul (x (l - j) r) (rowSymbol c j r i)) (λ r. c .ops .mul (y (l - j) r) (rowSymbol c j r i))
-        (λ r s. ap (λ t. c .ops .mul t (rowSymbol c j r i)) (same (l - j) r (omega arith) s)))
+    (λ j. sum (c .ops) (c .k) (λ r. c .ops .mul (y (l - j) r) (rowSymbol c j r i)))
+    (λ j h. sum-ext (c .ops) (c .k) (λ r. c .ops .mul (x (l - j) r) (rowSymbol c j r i)) (λ r. c .ops .mul (y (l - j) r) (rowSymbol c j r i))
+    (λ r s. ap (λ t. c .ops .mul t (rowSymbol c j r i)) (same (l - j) r (omega arith) s)))
 
 module _ (p : Setting) (S : Sound p) where
   abbrev q : ℕ
@@ -95,11 +96,11 @@ module _ (p : Setting) (S : Sound p) where
   inverses-up M below h =
       record {
         left = λ a b s t. raise q o B _ _
-          (sum-down q o B (p .k) _ (λ e. o .mul (M a e) (evaluation (codeOf p) e b)) (λ e u. mul-down q o B _ _ (down q o B (M a e) (below a e)) (evaluation-down e b)))
-          (identity-down a b) (h .left a b s t);
+            (sum-down q o B (p .k) _ (λ e. o .mul (M a e) (evaluation (codeOf p) e b)) (λ e u. mul-down q o B _ _ (down q o B (M a e) (below a e)) (evaluation-down e b)))
+            (identity-down a b) (h .left a b s t);
         right = λ d e s t. raise q o B _ _
-          (sum-down q o B (p .k) _ (λ a. o .mul (evaluation (codeOf p) d a) (M a e)) (λ a u. mul-down q o B _ _ (evaluation-down d a) (down q o B (M a e) (below a e))))
-          (identity-down d e) (h .right d e s t)
+            (sum-down q o B (p .k) _ (λ a. o .mul (evaluation (codeOf p) d a) (M a e)) (λ a u. mul-down q o B _ _ (evaluation-down d a) (down q o B (M a e) (below a e))))
+            (identity-down d e) (h .right d e s t);
       }
 
   extended-up : (L r m : ℕ) (σ c d values : ℕ → ℕ) → ((i : ℕ) → σ i < q) → ((i : ℕ) → c i < q) → ((i : ℕ) → d i < q) → ((i : ℕ) → values i < q)
@@ -109,7 +110,7 @@ module _ (p : Setting) (S : Sound p) where
         kept = λ j l. ap (el q o B) (h .kept j l);
         recurs = λ u l. raise q o B _ _ (down q o B (d (r + 1 + u)) (bd (r + 1 + u))) (neg-down q o B _ (tail-down q o B σ d bσ bd L (r + 1 + u))) (h .recurs u l);
         difference = λ u l. raise q o B _ _ (down q o B (values u) (bv u))
-          (add-down q o B _ _ (down q o B (c (r + 1 + u)) (bc (r + 1 + u))) (tail-down q o B σ d bσ bd L (r + 1 + u))) (h .difference u l)
+            (add-down q o B _ _ (down q o B (c (r + 1 + u)) (bc (r + 1 + u))) (tail-down q o B σ d bσ bd L (r + 1 + u))) (h .difference u l);
       }
 
   module _ (l : ℕ) (level : l ≤ p .m) (block : List ℕ) (long : length block ≡ p .n) (symbols : Symbols q block) where
@@ -132,7 +133,7 @@ module _ (p : Setting) (S : Sound p) where
         valueOf-natural (K q o B .ops) o number (number-keeps q o B) (p .n) received (power (K q o B .ops) root s)
         ∙ ap (valueOf o (p .n) (λ i. number (received i))) (power-down s)
         ∙ valueOf-ext o (p .n) (λ i. number (received i)) (λ i. getD block i (o .zero)) (power o alpha s)
-          (λ i h. received-down i ∙ ap (getD block i) (sym (B .zero-is)))
+        (λ i h. received-down i ∙ ap (getD block i) (sym (B .zero-is)))
         ∙ ap (λ (t : ℕ). valueOf o t (λ i. getD block i (o .zero)) (power o alpha s)) (sym long)
         ∙ sym (value-is-valueOf o block (power o alpha s))
 
@@ -152,19 +153,20 @@ module _ (p : Setting) (S : Sound p) where
           ≤ distance (p .n) (at block) (combination (codeOf p) l x)
       error-light =
           countOf-mono (p .n) (λ i. not (K q o B .ops .isZero (sub (K q o B .ops) (received i) (combination over l lifted i))))
-            (λ i. not (eqb (at block i) (combination (codeOf p) l x i)))
-            (λ i h e. by-test i e (eqb (at block i) (combination (codeOf p) l x i)) refl)
+          (λ i. not (eqb (at block i) (combination (codeOf p) l x i)))
+          (λ i h e. by-test i e (eqb (at block i) (combination (codeOf p) l x i)) refl)
         where
           never : (t : Bool) → t ≡ true → not t ≡ true → ⊥
           never true s e = subst (λ (b : Bool). T (not b)) e tt
           never false s e = subst (λ (b : Bool). T (not b)) s tt
+
           by-test : (i : ℕ) → not (K q o B .ops .isZero (sub (K q o B .ops) (received i) (combination over l lifted i))) ≡ true
               → (t : Bool) → eqb (at block i) (combination (codeOf p) l x i) ≡ t → not t ≡ true
           by-test i e true s =
               let same : received i ≡ combination over l lifted i =
-                  raise q o B _ _ (received-down i) (combination-down i) (eqb-true (at block i) (combination (codeOf p) l x i) s) in
+              raise q o B _ _ (received-down i) (combination-down i) (eqb-true (at block i) (combination (codeOf p) l x i) s) in
               absurd (never (K q o B .ops .isZero (sub (K q o B .ops) (received i) (combination over l lifted i)))
-                (zero-test (K q o B) _ (ap (λ (t : Below q). sub (K q o B .ops) t (combination over l lifted i)) same ∙ add-neg (K q o B) (combination over l lifted i))) e)
+              (zero-test (K q o B) _ (ap (λ (t : Below q). sub (K q o B .ops) t (combination over l lifted i)) same ∙ add-neg (K q o B) (combination over l lifted i))) e)
           by-test i e false s = refl
 
       pub read-of-near : (series after values locator matrix found : List ℕ) (L : ℕ)
@@ -178,22 +180,22 @@ module _ (p : Setting) (S : Sound p) where
       read-of-near series after values locator matrix found L close spectral located continued matrix-below inverses reads b a below inside =
           reads .symbols b a (omega arith) inside
           ∙ fall q o B
-            (sum-down q o B (p .k) _ (λ e. o .mul (at matrix (a * p .k + e)) (at values (b * p .k + e)))
-              (λ e h. mul-down q o B _ _ (down q o B _ (matrix-below (a * p .k + e))) (down q o B _ (continued .values-area .below (b * p .k + e)))))
-            (down q o B (x b a) (information b a below inside))
-            (information-of-near (K q o B) root (p .n) (p .k) (p .m) order l fits received lifted
-              (distance (p .n) (at block) (combination (codeOf p) l x)) error-light (omega arith)
-              (up q o B (at series)) (up q o B (at after)) (up q o B (at values))
-              (λ s h. raise q o B _ _ (down q o B (at series (suc s)) (spectral .area .below (suc s))) (spectrum-down s)
-                (ap (at series) (sym (add-one s)) ∙ spectral .values s h))
-              L (located .place) (el q o B (located .scale)) (up q o B (at locator)) (up q o B (at (located .former)))
-              (located-up q o B (at series) (at locator) (at (located .former)) (located .scale)
-                (spectral .area .below) (located .placed .locator-area .below) (located .placed .former-area .below) (located .placed .scale-below)
-                (subst (λ (t : ℕ). Located o (at series) t L (located .place) (located .scale) (at locator) (at (located .former))) all-known (located .placed .located)))
-              (extended-up L (p .n - (l + 1) * p .k) ((l + 1) * p .k) (at locator) (at series) (at after) (at values)
-                (located .placed .locator-area .below) (spectral .area .below) (continued .area .below) (continued .values-area .below) (continued .extended))
-              (λ d e. el q o B (view (p .k) matrix d e)) (inverses-up (view (p .k) matrix) (λ d e. matrix-below (d * p .k + e)) inverses)
-              b a below inside)
+          (sum-down q o B (p .k) _ (λ e. o .mul (at matrix (a * p .k + e)) (at values (b * p .k + e)))
+          (λ e h. mul-down q o B _ _ (down q o B _ (matrix-below (a * p .k + e))) (down q o B _ (continued .values-area .below (b * p .k + e)))))
+          (down q o B (x b a) (information b a below inside))
+          (information-of-near (K q o B) root (p .n) (p .k) (p .m) order l fits received lifted
+          (distance (p .n) (at block) (combination (codeOf p) l x)) error-light (omega arith)
+          (up q o B (at series)) (up q o B (at after)) (up q o B (at values))
+          (λ s h. raise q o B _ _ (down q o B (at series (suc s)) (spectral .area .below (suc s))) (spectrum-down s)
+          (ap (at series) (sym (add-one s)) ∙ spectral .values s h))
+          L (located .place) (el q o B (located .scale)) (up q o B (at locator)) (up q o B (at (located .former)))
+          (located-up q o B (at series) (at locator) (at (located .former)) (located .scale)
+          (spectral .area .below) (located .placed .locator-area .below) (located .placed .former-area .below) (located .placed .scale-below)
+          (subst (λ (t : ℕ). Located o (at series) t L (located .place) (located .scale) (at locator) (at (located .former))) all-known (located .placed .located)))
+          (extended-up L (p .n - (l + 1) * p .k) ((l + 1) * p .k) (at locator) (at series) (at after) (at values)
+          (located .placed .locator-area .below) (spectral .area .below) (continued .area .below) (continued .values-area .below) (continued .extended))
+          (λ d e. el q o B (view (p .k) matrix d e)) (inverses-up (view (p .k) matrix) (λ d e. matrix-below (d * p .k + e)) inverses)
+          b a below inside)
         where
           all-known : p .n - (l + 1) * p .k + 1 - 1 ≡ p .n - (l + 1) * p .k
           all-known = omega arith

@@ -1,4 +1,5 @@
--- From the locator to the spectrum of the error, over any field with α of order n (BLUEPRINT section 5: y_i = e_i ψ(α^i)).
+-- From the locator to the spectrum of the error, over any field with α of order n.
+-- The block y_i = e_i ψ(α^i), ψ the mirrored locator, has few nonzero symbols and many zeros in its spectrum, so it is zero.
 -- A light block e (2 × weight at most r) whose spectrum is known at α^0 .. α^(r-1): the locator of what is known annihilates the whole spectrum.
 -- Holds: `light-annihilated` (the distance lemma again), `length-of-light`, `recurs-of-light`, and `extension-is-spectrum`: the recurrence gives all of it.
 use mathlib.Core.Path.{_≡_, refl, sym, ap, ap₂, subst, _∙_}
@@ -11,8 +12,8 @@ use lib.Dec.{T}
 use Rattle.algebra.specs.Ops.{Ops, sub}
 use Rattle.algebra.specs.Sum.{sum, power}
 use Rattle.algebra.specs.Polynomial.{valueOf}
-use Rattle.algebra.specs.Weight.{countOf, weight}
-use Rattle.algebra.proofs.Laws.{Field, Tested, is-zero, non-zero, add-comm, mul-zero, zero-mul, one-mul, neg-unique, neg-neg, ring}
+use Rattle.algebra.specs.Weight.{weight}
+use Rattle.algebra.proofs.Laws.{Field, Tested, is-zero, non-zero, add-comm, mul-zero, one-mul, neg-unique, neg-neg, ring}
 use Rattle.algebra.proofs.Order.{Order}
 use Rattle.algebra.proofs.Sums.{sum-ext, sum-zeros, sum-first}
 use Rattle.algebra.proofs.Powers.{power-add}
@@ -20,7 +21,7 @@ use Rattle.algebra.proofs.Polynomials.{valueOf-scale, valueOf-twist, valueOf-of
 use Rattle.algebra.proofs.Weights.{countOf-mono, zero-test}
 use Rattle.algebra.proofs.Distance.{zero-of-vanishing}
 use Rattle.block.specs.Locator.{convolution, tail, Located, Extended}
-use Rattle.block.proofs.LocatorStep.{convolution-short, convolution-tail}
+use Rattle.block.proofs.LocatorStep.{convolution-short}
 
 module _ {F : Type 0} (K : Field F) (n : ℕ) (α : F) (order : Order (K .ops) n α) where
   infixl 60 _⊕_
@@ -46,11 +47,11 @@ module _ {F : Type 0} (K : Field F) (n : ℕ) (α : F) (order : Order (K .ops) n
     spectrum-y s =
         valueOf-of-sum K n (suc L) (λ a i. σ a ⊗ (e i ⊗ power (K .ops) (power (K .ops) α (L - a)) i)) (power (K .ops) α s)
         ∙ sum-ext (K .ops) (suc L) (λ a. valueOf (K .ops) n (λ i. σ a ⊗ (e i ⊗ power (K .ops) (power (K .ops) α (L - a)) i)) (power (K .ops) α s))
-          (λ a. σ a ⊗ spectrum e (L + s - a))
-          (λ a l. valueOf-scale K n (σ a) (λ i. e i ⊗ power (K .ops) (power (K .ops) α (L - a)) i) (power (K .ops) α s)
-            ∙ ap (λ (t : F). σ a ⊗ t)
-              (valueOf-twist K n e (power (K .ops) α (L - a)) (power (K .ops) α s)
-              ∙ ap (valueOf (K .ops) n e) (sym (power-add K α (L - a) s) ∙ ap (power (K .ops) α) (place a s l))))
+        (λ a. σ a ⊗ spectrum e (L + s - a))
+        (λ a l. valueOf-scale K n (σ a) (λ i. e i ⊗ power (K .ops) (power (K .ops) α (L - a)) i) (power (K .ops) α s)
+        ∙ ap (λ (t : F). σ a ⊗ t)
+        (valueOf-twist K n e (power (K .ops) α (L - a)) (power (K .ops) α s)
+        ∙ ap (valueOf (K .ops) n e) (sym (power-add K α (L - a) s) ∙ ap (power (K .ops) α) (place a s l))))
       where
         place : (a s : ℕ) → a < suc L → L - a + s ≡ L + s - a
         place a s l = omega arith
@@ -60,7 +61,7 @@ module _ {F : Type 0} (K : Field F) (n : ℕ) (α : F) (order : Order (K .ops) n
     unfolding y
     y-zero i z =
         sum-zeros K (suc L) (λ a. σ a ⊗ (e i ⊗ power (K .ops) (power (K .ops) α (L - a)) i))
-          (λ a l. ap (λ (t : F). σ a ⊗ (t ⊗ power (K .ops) (power (K .ops) α (L - a)) i)) z ∙ simp ring)
+        (λ a l. ap (λ (t : F). σ a ⊗ (t ⊗ power (K .ops) (power (K .ops) α (L - a)) i)) z ∙ simp ring)
 
     weight-y : weight (K .ops) n y ≤ weight (K .ops) n e
     weight-y = countOf-mono n (λ i. not (K .ops .isZero (y i))) (λ i. not (K .ops .isZero (e i))) (λ i l h. at i h (K .tested (e i)))
@@ -68,6 +69,7 @@ module _ {F : Type 0} (K : Field F) (n : ℕ) (α : F) (order : Order (K .ops) n
         never : (t : Bool) → t ≡ true → not t ≡ true → ⊥
         never true p q = subst (λ (b : Bool). T (not b)) q tt
         never false p q = subst (λ (b : Bool). T (not b)) p tt
+
         at : (i : ℕ) {t : Bool} → not (K .ops .isZero (y i)) ≡ true → Tested 𝟘 (e i) t → not t ≡ true
         at i h (is-zero z) = absurd (never (K .ops .isZero (y i)) (zero-test K (y i) (y-zero i z)) h)
         at i h (non-zero d) = refl
@@ -77,9 +79,9 @@ module _ {F : Type 0} (K : Field F) (n : ℕ) (α : F) (order : Order (K .ops) n
     light-annihilated w light known s =
         sym (spectrum-y s)
         ∙ valueOf-zeros K n y (power (K .ops) α s)
-          (zero-of-vanishing K n α order 0 w y
-            (λ t l. let same : 0 + t ≡ t = omega arith in ap (spectrum y) same ∙ spectrum-y t ∙ known t l)
-            (omega (arith, weight-y)))
+        (zero-of-vanishing K n α order 0 w y
+        (λ t l. let same : 0 + t ≡ t = omega arith in ap (spectrum y) same ∙ spectrum-y t ∙ known t l)
+        (omega (arith, weight-y)))
 
   -- What is known: c_1 .. c_r are the first r values of e's spectrum, and a locator for them.
   module _ (r : ℕ) (e c : ℕ → F) (known : (s : ℕ) → s < r → c (suc s) ≡ spectrum e s)
@@ -88,7 +90,7 @@ module _ {F : Type 0} (K : Field F) (n : ℕ) (α : F) (order : Order (K .ops) n
     against-known : (M : ℕ) (ρ : ℕ → F) → ((a : ℕ) → M < a → ρ a ≡ 𝟘) → (s : ℕ) → M + s < r → against M ρ e s ≡ convolution (K .ops) ρ c (suc (M + s))
     against-known M ρ short s l =
         sum-ext (K .ops) (suc M) (λ a. ρ a ⊗ spectrum e (M + s - a)) (λ a. ρ a ⊗ c (suc (M + s) - a))
-          (λ a h. ap (λ (t : F). ρ a ⊗ t) (sym (known (M + s - a) (omega arith)) ∙ ap c (place a h)))
+        (λ a h. ap (λ (t : F). ρ a ⊗ t) (sym (known (M + s - a) (omega arith)) ∙ ap c (place a h)))
         ∙ sym (convolution-short K M ρ c short (suc (M + s)) (omega arith))
       where
         place : (a : ℕ) → a < suc M → suc (M + s - a) ≡ suc (M + s) - a
@@ -104,9 +106,10 @@ module _ {F : Type 0} (K : Field F) (n : ℕ) (α : F) (order : Order (K .ops) n
             ap (convolution (K .ops) τ c) (sym place)
             ∙ sym (against-known (p - L) τ (λ a l. located .former-short a (omega arith)) (L - 1) (omega (arith, located .placed)))
             ∙ light-annihilated (p - L) τ e w light
-              (λ s l. against-known (p - L) τ (λ a u. located .former-short a (omega arith)) s (omega (arith, located .placed, located .grown))
-                ∙ located .former-annihilates (suc (p - L + s)) (omega (arith, located .grown)) (omega (arith, located .grown)))
-              (L - 1)
+            (λ s l. against-known (p - L) τ (λ a u. located .former-short a (omega arith)) s (omega (arith, located .placed, located .grown))
+            ∙ located .former-annihilates (suc (p - L + s)) (omega (arith, located .grown)) (omega (arith, located .grown)))
+            (L - 1)
+
         at : Dec (w < L) → L ≤ w
         at (yes h) =
             absurd (K .one-nonzero (sym (located .former-fails) ∙ ap (λ (t : F). scale ⊗ t) (former h) ∙ mul-zero K scale))
@@ -116,8 +119,8 @@ module _ {F : Type 0} (K : Field F) (n : ℕ) (α : F) (order : Order (K .ops) n
     pub recurs-of-light : (w : ℕ) → weight (K .ops) n e ≤ w → w + w ≤ r → (s : ℕ) → against L σ e s ≡ 𝟘
     recurs-of-light w light small =
         light-annihilated L σ e w light
-          (λ s l. against-known L σ (located .short) s (omega (arith, length-of-light w light small))
-            ∙ located .annihilates (suc (L + s)) (omega arith) (omega (arith, length-of-light w light small)))
+        (λ s l. against-known L σ (located .short) s (omega (arith, length-of-light w light small))
+        ∙ located .annihilates (suc (L + s)) (omega arith) (omega (arith, length-of-light w light small)))
 
     against-tail : (j : ℕ) → L ≤ j → against L σ e (j - L) ≡ spectrum e j ⊕ tail (K .ops) L σ (spectrum e) j
     unfolding tail
@@ -127,8 +130,8 @@ module _ {F : Type 0} (K : Field F) (n : ℕ) (α : F) (order : Order (K .ops) n
         ap (λ (t : ℕ). sum (K .ops) (suc L) (λ a. σ a ⊗ spectrum e (t - a))) whole
         ∙ sum-first K L (λ a. σ a ⊗ spectrum e (j - a))
         ∙ ap₂ _⊕_ (ap₂ _⊗_ (located .first) (ap (spectrum e) begin) ∙ one-mul K (spectrum e j))
-          (sum-ext (K .ops) L (λ a. σ (suc a) ⊗ spectrum e (j - suc a)) (λ a. σ (a + 1) ⊗ spectrum e (j - (a + 1)))
-            (λ a s. ap (λ (t : ℕ). σ t ⊗ spectrum e (j - t)) (sym (add-one a))))
+        (sum-ext (K .ops) L (λ a. σ (suc a) ⊗ spectrum e (j - suc a)) (λ a. σ (a + 1) ⊗ spectrum e (j - (a + 1)))
+        (λ a s. ap (λ (t : ℕ). σ t ⊗ spectrum e (j - t)) (sym (add-one a))))
 
     -- The series continued by the recurrence is the spectrum of e.
     module _ (d : ℕ → F) (values : ℕ → F) (m : ℕ) (extended : Extended (K .ops) L r m σ c d values) (w : ℕ) (light : weight (K .ops) n e ≤ w) (small : w + w ≤ r) where
@@ -136,8 +139,8 @@ module _ {F : Type 0} (K : Field F) (n : ℕ) (α : F) (order : Order (K .ops) n
       unfolding tail
       tails s h l earlier =
           sum-ext (K .ops) L (λ a. σ (a + 1) ⊗ d (suc s - (a + 1))) (λ a. σ (a + 1) ⊗ spectrum e (s - (a + 1)))
-            (λ a u. let place : suc s - (a + 1) ≡ suc (s - (a + 1)) = omega arith in
-              ap (λ (t : F). σ (a + 1) ⊗ t) (ap d place ∙ earlier (s - (a + 1)) (omega arith) (omega arith)))
+          (λ a u. let place : suc s - (a + 1) ≡ suc (s - (a + 1)) = omega arith in
+          ap (λ (t : F). σ (a + 1) ⊗ t) (ap d place ∙ earlier (s - (a + 1)) (omega arith) (omega arith)))
 
       up-to : (bound s : ℕ) → s < bound → s < r + m → d (suc s) ≡ spectrum e s
       up-to zero s b l = absurd (omega arith)
@@ -151,7 +154,7 @@ module _ {F : Type 0} (K : Field F) (n : ℕ) (α : F) (order : Order (K .ops) n
               subst (λ (t : ℕ). d t ≡ ⊖ tail (K .ops) L σ d t) place (extended .recurs (s - r) (omega arith))
               ∙ ap (λ (t : F). ⊖ t) (tails s reach l (λ t u. earlier t (omega arith)))
               ∙ sym (neg-unique K (tail (K .ops) L σ (spectrum e) s) (spectrum e s)
-                  (add-comm K (tail (K .ops) L σ (spectrum e) s) (spectrum e s) ∙ sym (against-tail s reach) ∙ recurs-of-light w light small (s - L)))
+              (add-comm K (tail (K .ops) L σ (spectrum e) s) (spectrum e s) ∙ sym (against-tail s reach) ∙ recurs-of-light w light small (s - L)))
 
       pub extension-is-spectrum : (s : ℕ) → s < r + m → d (suc s) ≡ spectrum e s
       extension-is-spectrum s l = up-to (suc s) s (omega arith) l

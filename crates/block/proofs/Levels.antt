@@ -1,6 +1,5 @@
 -- What a setting's bounds give: a level's information fits a block, a block fits an area, the matrix its array.
 -- Holds: `level-fits`, `block-short`, `matrix-small`, `area-symbols`.
-use mathlib.Core.Path.{_≡_}
 use mathlib.Core.List.{List}
 use Prim.Native.Nat.{ℕ, _+_, _-_, _*_, _≤_, _<_}
 use native.Mathlib.Nat.{mul-le-mul-right, mul-le-mul}
@@ -9,7 +8,7 @@ use Rattle.field.specs.Symbols.{Symbols}
 use Rattle.code.specs.declared.Setting.{Setting}
 use Rattle.code.specs.Settings.{Sound}
 use Rattle.tables.specs.Tables.{Small}
-use Rattle.block.specs.Area.{Area, capacity}
+use Rattle.block.specs.Area.{Area, capacity, matrixCapacity}
 
 module _ (p : Setting) (S : Sound p) where
   pub level-fits : (l : ℕ) → l ≤ p .m → (l + 1) * p .k ≤ p .n
@@ -18,7 +17,7 @@ module _ (p : Setting) (S : Sound p) where
   pub block-short : Small p → p .n < capacity
   block-short small = omega (arith, S .block, small .elements)
 
-pub matrix-small : (p : Setting) → Small p → p .k * p .k ≤ 9
+pub matrix-small : (p : Setting) → Small p → p .k * p .k ≤ matrixCapacity
 matrix-small p small = omega (arith, mul-le-mul (small .information) (small .information))
 
 pub area-symbols : {q : ℕ} {l : List ℕ} → Area q l → Symbols q l

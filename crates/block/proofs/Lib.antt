@@ -1,13 +1,13 @@
--- The mathematics of the block step, over any field.
+-- The mathematics of the block step over any field, the same on numbers below q, and the loops. Each file uses only those above it.
 pub mod LocatorStep
 pub mod ErrorSpectrum
-pub mod Accumulated
-pub mod Multiples
+pub mod Candidate
 pub mod LocatorBelow
+pub mod Accumulated
+pub mod Levels
+pub mod Multiples
 pub mod Placing
 pub mod Spectra
-pub mod Candidate
-pub mod CandidateBelow
-pub mod Levels
 pub mod Reading
+pub mod CandidateBelow
 pub mod Answers

@@ -1,7 +1,7 @@
 -- The steps of the locator on numbers below q, carried over from the field of the pairs (number, below q).
 -- Holds: `raise` and `fall` (equations up to the field and down again), `up` (a sequence of numbers as one of elements), `sum-down`, `convolution-down`, `tail-down`,
 -- `located-up`; the steps `start-below`, `kept-below`, `corrected-below`, `lengthened-below`.
-use mathlib.Core.Path.{_≡_, refl, sym, ap, ap₂, subst, _∙_}
+use mathlib.Core.Path.{_≡_, sym, ap, ap₂, subst, _∙_}
 use Prim.Native.Nat.{ℕ, zero, suc, _+_, _-_, _≤_, _<_}
 use native.Mathlib.Omega.{arith}
 use Rattle.algebra.specs.Ops.{Ops, sub}
@@ -60,13 +60,13 @@ module _ (q : ℕ) (o : Ops ℕ) (B : FieldBelow q o) where
     unfolding convolution
     convolution-down j =
         sum-down (suc j) (λ i. K .ops .mul (up f i) (up g (j - i))) (λ i. o .mul (f i) (g (j - i)))
-          (λ i l. mul-down (up f i) (up g (j - i)) (down (f i) (bf i)) (down (g (j - i)) (bg (j - i))))
+        (λ i l. mul-down (up f i) (up g (j - i)) (down (f i) (bf i)) (down (g (j - i)) (bg (j - i))))
 
     pub tail-down : (L j : ℕ) → number (tail (K .ops) L (up f) (up g) j) ≡ tail o L f g j
     unfolding tail
     tail-down L j =
         sum-down L (λ a. K .ops .mul (up f (a + 1)) (up g (j - (a + 1)))) (λ a. o .mul (f (a + 1)) (g (j - (a + 1))))
-          (λ a l. mul-down (up f (a + 1)) (up g (j - (a + 1))) (down (f (a + 1)) (bf (a + 1))) (down (g (j - (a + 1))) (bg (j - (a + 1)))))
+        (λ a l. mul-down (up f (a + 1)) (up g (j - (a + 1))) (down (f (a + 1)) (bf (a + 1))) (down (g (j - (a + 1))) (bg (j - (a + 1)))))
 
   module _ (c σ τ : ℕ → ℕ) (scale : ℕ) (bc : (i : ℕ) → c i < q) (bσ : (i : ℕ) → σ i < q) (bτ : (i : ℕ) → τ i < q) (bs : scale < q) where
     pub located-up : {s L p : ℕ} → Located o c s L p scale σ τ → Located (K .ops) (up c) s L p (el scale) (up σ) (up τ)
@@ -79,7 +79,7 @@ module _ (q : ℕ) (o : Ops ℕ) (B : FieldBelow q o) where
           annihilates = λ j l u. raise _ _ (convolution-down σ c bσ bc j) zero-down (h .annihilates j l u);
           former-short = λ a l. raise _ _ (down (τ a) (bτ a)) zero-down (h .former-short a l);
           former-annihilates = λ j l u. raise _ _ (convolution-down τ c bτ bc j) zero-down (h .former-annihilates j l u);
-          former-fails = raise _ _ (mul-down _ _ (down scale bs) (convolution-down τ c bτ bc p)) one-down (h .former-fails)
+          former-fails = raise _ _ (mul-down _ _ (down scale bs) (convolution-down τ c bτ bc p)) one-down (h .former-fails);
         }
 
     located-down : {s L p : ℕ} → Located (K .ops) (up c) s L p (el scale) (up σ) (up τ) → Located o c s L p scale σ τ
@@ -92,19 +92,19 @@ module _ (q : ℕ) (o : Ops ℕ) (B : FieldBelow q o) where
           annihilates = λ j l u. fall (convolution-down σ c bσ bc j) zero-down (h .annihilates j l u);
           former-short = λ a l. fall (down (τ a) (bτ a)) zero-down (h .former-short a l);
           former-annihilates = λ j l u. fall (convolution-down τ c bτ bc j) zero-down (h .former-annihilates j l u);
-          former-fails = fall (mul-down _ _ (down scale bs) (convolution-down τ c bτ bc p)) one-down (h .former-fails)
+          former-fails = fall (mul-down _ _ (down scale bs) (convolution-down τ c bτ bc p)) one-down (h .former-fails);
         }
 
     -- What the locator leaves at a place above its length.
     convolution-is-tail : {s L p : ℕ} → Located o c s L p scale σ τ → (j : ℕ) → L ≤ j → convolution o σ c j ≡ o .add (c j) (tail o L σ c j)
     convolution-is-tail {s} {L} {p} h j l =
         fall (convolution-down σ c bσ bc j) (add-down _ _ (down (c j) (bc j)) (tail-down σ c bσ bc L j))
-          (convolution-tail K L (up σ) (up c) (located-up h .first) (located-up h .short) j l)
+        (convolution-tail K L (up σ) (up c) (located-up h .first) (located-up h .short) j l)
 
     pub kept-below : {s L p : ℕ} → Located o c s L p scale σ τ → o .add (c (suc s)) (tail o L σ c (suc s)) ≡ o .zero → Located o c (suc s) L p scale σ τ
     kept-below {s} {L} {p} h e =
         located-down (located-kept K (up c) s L p (el scale) (up σ) (up τ) (located-up h)
-          (raise _ _ (convolution-down σ c bσ bc (suc s)) zero-down (convolution-is-tail h (suc s) (omega (arith, h .grown, h .placed)) ∙ e)))
+        (raise _ _ (convolution-down σ c bσ bc (suc s)) zero-down (convolution-is-tail h (suc s) (omega (arith, h .grown, h .placed)) ∙ e)))
 
   pub start-below : (c σ τ : ℕ → ℕ) → ((i : ℕ) → c i < q) → ((i : ℕ) → σ i < q) → ((i : ℕ) → τ i < q)
       → c 0 ≡ 1 → σ 0 ≡ 1 → τ 0 ≡ 1 → ((a : ℕ) → 0 < a → σ a ≡ 0) → ((a : ℕ) → 0 < a → τ a ≡ 0) → Located o c 0 0 0 1 σ τ
@@ -112,10 +112,11 @@ module _ (q : ℕ) (o : Ops ℕ) (B : FieldBelow q o) where
       located-down c σ τ 1 bc bσ bτ (B .one-below)
       (subst (λ (t : Below q). Located (K .ops) (up c) 0 0 0 t (up σ) (up τ)) (raise _ _ one-down (down 1 (B .one-below)) (B .one-is))
       (located-start K (up c) (up σ) (up τ) (one (c 0) (bc 0) first) (one (σ 0) (bσ 0) σ-first) (one (τ 0) (bτ 0) τ-first)
-        (λ a l. none (σ a) (bσ a) (σ-short a l)) (λ a l. none (τ a) (bτ a) (τ-short a l))))
+      (λ a l. none (σ a) (bσ a) (σ-short a l)) (λ a l. none (τ a) (bτ a) (τ-short a l))))
     where
       one : (a : ℕ) → a < q → a ≡ 1 → el a ≡ K .ops .one
       one a h e = raise _ _ (down a h) one-down (e ∙ sym (B .one-is))
+
       none : (a : ℕ) → a < q → a ≡ 0 → el a ≡ K .ops .zero
       none a h e = raise _ _ (down a h) zero-down (e ∙ sym (B .zero-is))
 
@@ -148,8 +149,8 @@ module _ (q : ℕ) (o : Ops ℕ) (B : FieldBelow q o) where
         (record {
           before = λ i l. ap el (S .before i l);
           inside = λ i l. raise _ _ (down (σ' (shift + i)) (bσ' (shift + i)))
-            (difference-down _ _ _ (down (σ (shift + i)) (bσ (shift + i))) (down factor bf) (down (τ i) (bτ i))) (S .inside i l);
-          after = λ i l. ap el (S .after i l)
+              (difference-down _ _ _ (down (σ (shift + i)) (bσ (shift + i))) (down factor bf) (down (τ i) (bτ i))) (S .inside i l);
+          after = λ i l. ap el (S .after i l);
         })
 
     pub corrected-below : s < L + L → Located o c (suc s) L p scale σ' τ
@@ -163,6 +164,6 @@ module _ (q : ℕ) (o : Ops ℕ) (B : FieldBelow q o) where
     lengthened-below l nonzero =
         located-down c σ' σ (o .inv failure) bc bσ' bσ (B .inv-below failure bd)
         (located-lengthened K (up c) s L p (el scale) (up σ) (up τ) (located-up c σ τ scale bc bσ bτ bs h) shift count (up σ') at-place enough subtracted-up
-          (el (o .inv failure)) l
-          (mul-comm K (el (o .inv failure)) (convolution (K .ops) (up σ) (up c) (suc s))
-          ∙ raise _ _ (mul-down _ _ failure-down (down (o .inv failure) (B .inv-below failure bd))) one-down (B .inverse failure bd nonzero ∙ sym (B .one-is))))
+        (el (o .inv failure)) l
+        (mul-comm K (el (o .inv failure)) (convolution (K .ops) (up σ) (up c) (suc s))
+        ∙ raise _ _ (mul-down _ _ failure-down (down (o .inv failure) (B .inv-below failure bd))) one-down (B .inverse failure bd nonzero ∙ sym (B .one-is))))

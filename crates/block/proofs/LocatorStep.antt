@@ -1,6 +1,6 @@
 -- Berlekamp and Massey's algorithm, one place at a time, over any field.
 -- Holds: `located-start`; the three outcomes at a place: `located-kept`, `located-corrected`, `located-lengthened`; `convolution-short`, `convolution-tail`.
-use mathlib.Core.Path.{_≡_, refl, sym, ap, ap₂, subst, _∙_}
+use mathlib.Core.Path.{_≡_, refl, sym, ap, ap₂, _∙_}
 use Prim.Native.Nat.{ℕ, zero, suc, _+_, _-_, _≤_, _<_}
 use native.Mathlib.Nat.{add-suc as nat-add-suc}
 use native.Mathlib.Numerals.{add-one}
@@ -8,7 +8,7 @@ use native.Mathlib.Omega.{arith}
 use native.Mathlib.Decide.{ℕ-discrete, decLt}
 use Rattle.algebra.specs.Ops.{Ops, sub}
 use Rattle.algebra.specs.Sum.{sum}
-use Rattle.algebra.proofs.Laws.{Field, add-zero, zero-add, add-neg, mul-zero, zero-mul, one-mul, mul-assoc, ring}
+use Rattle.algebra.proofs.Laws.{Field, add-zero, zero-mul, one-mul, mul-assoc, ring}
 use Rattle.algebra.proofs.Sums.{sum-ext, sum-add, sum-scale, sum-zeros, sum-first, sum-split}
 use Rattle.block.specs.Locator.{convolution, tail, Located, Subtracted}
 
@@ -18,7 +18,7 @@ pub convolution-ext : {F : Type 0} (o : Ops F) (a b c d : ℕ → F) (j : ℕ) �
 unfolding convolution
 convolution-ext o a b c d j h k =
     sum-ext o (suc j) (λ i. o .mul (a i) (c (j - i))) (λ i. o .mul (b i) (d (j - i)))
-      (λ i l. ap₂ (o .mul) (h i (omega arith)) (k (j - i) (omega arith)))
+    (λ i l. ap₂ (o .mul) (h i (omega arith)) (k (j - i) (omega arith)))
 
 module _ {F : Type 0} (K : Field F) where
   infixl 60 _⊕_
@@ -49,8 +49,8 @@ module _ {F : Type 0} (K : Field F) where
       let whole : j - 0 ≡ j = omega arith in
       convolution-short L σ c h j l ∙ sum-first K L (λ a. σ a ⊗ c (j - a))
       ∙ ap₂ _⊕_ (ap₂ _⊗_ e (ap c whole) ∙ one-mul K (c j))
-        (sum-ext (K .ops) L (λ a. σ (suc a) ⊗ c (j - suc a)) (λ a. σ (a + 1) ⊗ c (j - (a + 1)))
-          (λ a s. ap (λ (t : ℕ). σ t ⊗ c (j - t)) (sym (add-one a))))
+      (sum-ext (K .ops) L (λ a. σ (suc a) ⊗ c (j - suc a)) (λ a. σ (a + 1) ⊗ c (j - (a + 1)))
+      (λ a s. ap (λ (t : ℕ). σ t ⊗ c (j - t)) (sym (add-one a))))
 
   minus-nothing : (a f : F) → a ≡ a ⊕ ⊖ (f ⊗ 𝟘)
   minus-nothing a f = simp ring
@@ -78,20 +78,22 @@ module _ {F : Type 0} (K : Field F) where
     convolution-subtracted c j =
         split σ'
         ∙ ap₂ _⊕_
-          (sum-ext (K .ops) shift (term σ') (term σ) (λ i l. ap (λ (t : F). t ⊗ c (shift + j - i)) (S .before i l)))
-          (sum-ext (K .ops) (suc j) (λ i. term σ' (shift + i)) (λ i. term σ (shift + i) ⊕ ⊖ factor ⊗ (τ i ⊗ c (j - i)))
-            (λ i l. ap (λ (t : F). t ⊗ c (shift + j - (shift + i))) (every i)
-              ∙ spread (σ (shift + i)) factor (τ i) (c (shift + j - (shift + i)))
-              ∙ ap (λ (t : ℕ). term σ (shift + i) ⊕ ⊖ factor ⊗ (τ i ⊗ c t)) (place i))
-          ∙ sum-add K (suc j) (λ i. term σ (shift + i)) (λ i. ⊖ factor ⊗ (τ i ⊗ c (j - i)))
-          ∙ ap (λ (t : F). sum (K .ops) (suc j) (λ i. term σ (shift + i)) ⊕ t) (sum-scale K (suc j) (⊖ factor) (λ i. τ i ⊗ c (j - i))))
+        (sum-ext (K .ops) shift (term σ') (term σ) (λ i l. ap (λ (t : F). t ⊗ c (shift + j - i)) (S .before i l)))
+        (sum-ext (K .ops) (suc j) (λ i. term σ' (shift + i)) (λ i. term σ (shift + i) ⊕ ⊖ factor ⊗ (τ i ⊗ c (j - i)))
+        (λ i l. ap (λ (t : F). t ⊗ c (shift + j - (shift + i))) (every i)
+        ∙ spread (σ (shift + i)) factor (τ i) (c (shift + j - (shift + i)))
+        ∙ ap (λ (t : ℕ). term σ (shift + i) ⊕ ⊖ factor ⊗ (τ i ⊗ c t)) (place i))
+        ∙ sum-add K (suc j) (λ i. term σ (shift + i)) (λ i. ⊖ factor ⊗ (τ i ⊗ c (j - i)))
+        ∙ ap (λ (t : F). sum (K .ops) (suc j) (λ i. term σ (shift + i)) ⊕ t) (sum-scale K (suc j) (⊖ factor) (λ i. τ i ⊗ c (j - i))))
         ∙ gather (sum (K .ops) shift (term σ)) (sum (K .ops) (suc j) (λ i. term σ (shift + i))) factor (sum (K .ops) (suc j) (λ i. τ i ⊗ c (j - i)))
         ∙ ap (λ (t : F). t ⊕ ⊖ (factor ⊗ sum (K .ops) (suc j) (λ i. τ i ⊗ c (j - i)))) (sym (split σ))
       where
         term : (ℕ → F) → ℕ → F
         term s i = s i ⊗ c (shift + j - i)
+
         split : (s : ℕ → F) → sum (K .ops) (suc (shift + j)) (term s) ≡ sum (K .ops) shift (term s) ⊕ sum (K .ops) (suc j) (λ i. term s (shift + i))
         split s = ap (λ (t : ℕ). sum (K .ops) t (term s)) (sym (nat-add-suc shift j)) ∙ sum-split K shift (suc j) (term s)
+
         place : (i : ℕ) → shift + j - (shift + i) ≡ j - i
         place i = omega arith
 
@@ -108,7 +110,7 @@ module _ {F : Type 0} (K : Field F) where
         annihilates = λ j l s. absurd (omega arith);
         former-short = λ a l. former-short a (omega arith);
         former-annihilates = λ j l s. absurd (omega arith);
-        former-fails = ap (λ (t : F). 𝟙 ⊗ t) (ap₂ (λ (s t : F). 𝟘 ⊕ s ⊗ t) former-first one) ∙ simp ring
+        former-fails = ap (λ (t : F). 𝟙 ⊗ t) (ap₂ (λ (s t : F). 𝟘 ⊕ s ⊗ t) former-first one) ∙ simp ring;
       }
 
   module _ (c : ℕ → F) (s L p : ℕ) (scale : F) (σ τ : ℕ → F) (located : Located (K .ops) c s L p scale σ τ) where
@@ -123,7 +125,7 @@ module _ {F : Type 0} (K : Field F) where
           annihilates = λ j l h. at j l h (decLt s j);
           former-short = located .former-short;
           former-annihilates = located .former-annihilates;
-          former-fails = located .former-fails
+          former-fails = located .former-fails;
         }
       where
         at : (j : ℕ) → L < j → j ≤ suc s → Dec (s < j) → convolution (K .ops) σ c j ≡ 𝟘
@@ -170,9 +172,10 @@ module _ {F : Type 0} (K : Field F) where
             up i e (no d) =
                 moved i
                 ∙ ap₂ (λ (x y : F). sub (K .ops) x (convolution (K .ops) σ c (suc s) ⊗ scale ⊗ y))
-                  (ap (convolution (K .ops) σ c) e ∙ located .annihilates j (omega arith) (omega arith))
-                  (located .former-annihilates i (omega arith) (omega arith))
+                (ap (convolution (K .ops) σ c) e ∙ located .annihilates j (omega arith) (omega arith))
+                (located .former-annihilates i (omega arith) (omega arith))
                 ∙ nothing (convolution (K .ops) σ c (suc s) ⊗ scale)
+
             at : Dec (j < shift) → convolution (K .ops) σ' c j ≡ 𝟘
             at (yes b) =
                 convolution-ext (K .ops) σ' σ c c j (λ i u. S .before i (omega arith)) (λ i u. refl)
@@ -193,7 +196,7 @@ module _ {F : Type 0} (K : Field F) where
             annihilates = corrected-annihilates L (omega arith) (omega arith);
             former-short = located .former-short;
             former-annihilates = located .former-annihilates;
-            former-fails = located .former-fails
+            former-fails = located .former-fails;
           }
 
       -- .. and else grows, and the locator so far is the new former one.
@@ -208,5 +211,5 @@ module _ {F : Type 0} (K : Field F) where
             annihilates = corrected-annihilates (suc s - L) (omega arith) (omega arith);
             former-short = λ a l. located .short a (omega arith);
             former-annihilates = λ j l u. located .annihilates j (omega arith) (omega arith);
-            former-fails = e
+            former-fails = e;
           }

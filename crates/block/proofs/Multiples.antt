@@ -2,7 +2,7 @@
 -- Holds: `multiple-none`, `multiple-more`.
 use mathlib.Core.Path.{_≡_, refl, sym, ap, subst, _∙_}
 use mathlib.Core.List.{List}
-use Prim.Native.Nat.{ℕ, zero, suc, _+_, _≤_, _<_}
+use Prim.Native.Nat.{ℕ, _+_, _<_}
 use native.Mathlib.Omega.{arith}
 use native.Mathlib.Decide.{ℕ-discrete}
 use lib.ListN.{length, getD, set}
@@ -26,17 +26,19 @@ module _ (q factor shift : ℕ) (source before : List ℕ) where
       record {
         area = area-set q target (shift + i) v (h .area) (minus .below);
         subtracted =
-          record {
-            before = λ j l. other j (omega arith) ∙ h .subtracted .before j l;
-            inside = λ j l. at-term j l (ℕ-discrete j i);
-            after = λ j l. other (shift + j) (omega arith) ∙ h .subtracted .after j (omega arith)
-          }
+            record {
+              before = λ j l. other j (omega arith) ∙ h .subtracted .before j l;
+              inside = λ j l. at-term j l (ℕ-discrete j i);
+              after = λ j l. other (shift + j) (omega arith) ∙ h .subtracted .after j (omega arith);
+            };
       }
     where
       other : (j : ℕ) → (j ≡ shift + i → ⊥) → getD (set target (shift + i) v) j 0 ≡ getD target j 0
       other j d = getD-set-other target (shift + i) j v 0 d
+
       inside : shift + i < length target
       inside = subst (λ (t : ℕ). shift + i < t) (sym (h .area .size)) room
+
       at-term : (j : ℕ) → j < i + 1 → Dec (j ≡ i)
           → getD (set target (shift + i) v) (shift + j) 0 ≡ sub (opsOf q) (getD before (shift + j) 0) (opsOf q .mul factor (getD source j 0))
       at-term j l (yes e) =

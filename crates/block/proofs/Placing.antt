@@ -1,10 +1,9 @@
 -- One place more in the search for the locator, as the code has it: areas and the numbers of its progress.
 -- Holds: `unit-area`, `placed-start`, `placed-kept`, `placed-corrected`, `placed-lengthened`.
-use mathlib.Core.Path.{_≡_, refl, sym, ap, ap₂, subst, _∙_}
+use mathlib.Core.Path.{_≡_, sym, ap, ap₂, subst, _∙_}
 use mathlib.Core.List.{List}
 use Prim.Native.Nat.{ℕ, zero, suc, _+_, _-_, _≤_, _<_}
 use native.Mathlib.Omega.{arith}
-use lib.ListN.{getD}
 use Rattle.algebra.proofs.Below.{FieldBelow}
 use Rattle.field.specs.Fields.{Good, opsOf}
 use Rattle.field.specs.Symbols.{Is}
@@ -34,7 +33,7 @@ module _ (q : ℕ) (good : Good q) where
         locator-area = a;
         former-area = a;
         scale-below = B .one-below;
-        located = start-below q (opsOf q) B (at series) (at l) (at l) (h .below) (a .below) (a .below) first (u .first) (u .first) (u .rest) (u .rest)
+        located = start-below q (opsOf q) B (at series) (at l) (at l) (h .below) (a .below) (a .below) first (u .first) (u .first) (u .rest) (u .rest);
       }
 
   module _ (series locator former : List ℕ) (s next L p scale rest failure : ℕ) (step : suc s ≡ next) (hs : Area q series) (h : Placed q series s L p scale locator former)
@@ -43,7 +42,7 @@ module _ (q : ℕ) (good : Good q) where
     failure-is =
         fails .same
         ∙ ap₂ (λ (t u : ℕ). opsOf q .add (at series t) u) (sym step)
-          (sums .same ∙ ap (tail (opsOf q) L (at locator) (at series)) (sym step))
+        (sums .same ∙ ap (tail (opsOf q) L (at locator) (at series)) (sym step))
 
     pub placed-kept : failure ≡ 0 → Placed q series next L p scale locator former
     placed-kept e =
@@ -52,9 +51,9 @@ module _ (q : ℕ) (good : Good q) where
           former-area = h .former-area;
           scale-below = h .scale-below;
           located =
-            subst (λ (t : ℕ). Located (opsOf q) (at series) t L p scale (at locator) (at former)) step
-            (kept-below q (opsOf q) B (at series) (at locator) (at former) scale (hs .below) (h .locator-area .below) (h .former-area .below) (h .scale-below)
-              (h .located) (sym failure-is ∙ e ∙ sym (B .zero-is)))
+              subst (λ (t : ℕ). Located (opsOf q) (at series) t L p scale (at locator) (at former)) step
+              (kept-below q (opsOf q) B (at series) (at locator) (at former) scale (hs .below) (h .locator-area .below) (h .former-area .below) (h .scale-below)
+              (h .located) (sym failure-is ∙ e ∙ sym (B .zero-is)));
         }
 
     module _ (factor : ℕ) (locator' : List ℕ) (multiplied : Is q factor (opsOf q .mul failure scale))
@@ -72,10 +71,10 @@ module _ (q : ℕ) (good : Good q) where
             former-area = h .former-area;
             scale-below = h .scale-below;
             located =
-              subst (λ (t : ℕ). Located (opsOf q) (at series) t L p scale (at locator') (at former)) step
-              (corrected-below q (opsOf q) B (at series) (at locator) (at former) (at locator') scale failure factor (next - p) (p - L + 1)
+                subst (λ (t : ℕ). Located (opsOf q) (at series) t L p scale (at locator') (at former)) step
+                (corrected-below q (opsOf q) B (at series) (at locator) (at former) (at locator') scale failure factor (next - p) (p - L + 1)
                 (hs .below) (h .locator-area .below) (h .former-area .below) (M .area .below) (h .scale-below) (fails .below) (multiplied .below)
-                (h .located) failure-is (multiplied .same) at-place enough (M .subtracted) (omega (arith, step)))
+                (h .located) failure-is (multiplied .same) at-place enough (M .subtracted) (omega (arith, step)));
           }
 
       pub placed-lengthened : (scale' : ℕ) → L + L < next → (failure ≡ 0 → ⊥) → Is q scale' (opsOf q .inv failure)
@@ -86,9 +85,9 @@ module _ (q : ℕ) (good : Good q) where
             former-area = h .locator-area;
             scale-below = inverts .below;
             located =
-              subst (λ (t : ℕ). Located (opsOf q) (at series) next (next - L) next t (at locator') (at locator)) (sym (inverts .same))
-              (subst (λ (t : ℕ). Located (opsOf q) (at series) t (t - L) t (opsOf q .inv failure) (at locator') (at locator)) step
-              (lengthened-below q (opsOf q) B (at series) (at locator) (at former) (at locator') scale failure factor (next - p) (p - L + 1)
+                subst (λ (t : ℕ). Located (opsOf q) (at series) next (next - L) next t (at locator') (at locator)) (sym (inverts .same))
+                (subst (λ (t : ℕ). Located (opsOf q) (at series) t (t - L) t (opsOf q .inv failure) (at locator') (at locator)) step
+                (lengthened-below q (opsOf q) B (at series) (at locator) (at former) (at locator') scale failure factor (next - p) (p - L + 1)
                 (hs .below) (h .locator-area .below) (h .former-area .below) (M .area .below) (h .scale-below) (fails .below) (multiplied .below)
-                (h .located) failure-is (multiplied .same) at-place enough (M .subtracted) (omega (arith, step)) nonzero))
+                (h .located) failure-is (multiplied .same) at-place enough (M .subtracted) (omega (arith, step)) nonzero));
           }

@@ -1,20 +1,20 @@
 -- The loop that reads information off the values, place by place: place t is symbol t % k of block t / k.
 -- Holds: `symbolAt`, `ReadTo`, `read-none`, `read-more`, `read-done`; `block-end`, where a place's block ends.
-use mathlib.Core.Path.{_≡_, refl, sym, ap, ap₂, subst, _∙_}
+use mathlib.Core.Path.{_≡_, sym, ap, ap₂, subst, _∙_}
 use mathlib.Core.List.{List}
-use Prim.Native.Nat.{ℕ, zero, suc, _+_, _-_, _*_, _/_, _%_, _≤_, _<_}
+use Prim.Native.Nat.{ℕ, _+_, _-_, _*_, _/_, _%_, _≤_, _<_}
 use native.Mathlib.Nat.{mul-le-mul-right, div-add-mod'}
 use native.Mathlib.Omega.{arith}
 use native.Mathlib.Decide.{ℕ-discrete, decLt}
 use lib.Arith.{digits-mod, digits-lt}
-use lib.ListN.{length, getD, set, replicate}
+use lib.ListN.{getD, set, replicate}
 use lib.Seq.{getD-set-same, getD-set-other}
 use Rattle.algebra.specs.Sum.{sum}
 use Rattle.field.specs.Fields.{Good, opsOf}
 use Rattle.field.specs.Symbols.{Is}
 use Rattle.block.specs.Area.{Area, at, capacity}
-use Rattle.block.specs.Step.{Read}
-use Rattle.block.proofs.Accumulated.{zero-below, zeros-at, area-set}
+use Rattle.block.specs.Information.{Read}
+use Rattle.block.proofs.Accumulated.{area-zeros, area-set}
 
 -- What is to stand at place t.
 unfoldable pub symbolAt : ℕ → ℕ → List ℕ → List ℕ → ℕ → ℕ
@@ -28,8 +28,8 @@ module _ (q k : ℕ) (matrix values : List ℕ) where
   pub read-none : Good q → ReadTo q k 0 matrix values (replicate capacity 0)
   read-none good =
       record {
-        area = record { size = refl; below = λ i. subst (λ (t : ℕ). t < q) (sym (zeros-at capacity i)) (zero-below q good) };
-        symbols = λ t l. absurd (omega arith)
+        area = area-zeros q good;
+        symbols = λ t l. absurd (omega arith);
       }
 
   pub read-more : (information : List ℕ) (place v : ℕ) → ReadTo q k place matrix values information → place < capacity
@@ -52,10 +52,10 @@ module _ (q k : ℕ) (matrix values : List ℕ) where
       record {
         area = h .area;
         symbols = λ b a l s.
-          let row : (b * k + a) % k ≡ a = digits-mod b s in
-          let from : b * k + a - a ≡ b * k = omega arith in
-          h .symbols (b * k + a) (digits-lt l s)
-          ∙ ap₂ (λ (x y : ℕ). sum (opsOf q) k (λ e. opsOf q .mul (at matrix (x * k + e)) (at values (y + e)))) row (ap (λ (t : ℕ). b * k + a - t) row ∙ from)
+            let row : (b * k + a) % k ≡ a = digits-mod b s in
+            let from : b * k + a - a ≡ b * k = omega arith in
+            h .symbols (b * k + a) (digits-lt l s)
+            ∙ ap₂ (λ (x y : ℕ). sum (opsOf q) k (λ e. opsOf q .mul (at matrix (x * k + e)) (at values (y + e)))) row (ap (λ (t : ℕ). b * k + a - t) row ∙ from);
       }
 
 -- The block of a place ends within so many blocks.
@@ -64,6 +64,7 @@ block-end k blocks place h l = within (decLt (place / k) blocks)
   where
     whole : place / k * k + place % k ≡ place
     whole = div-add-mod' place k
+
     within : Dec (place / k < blocks) → place - place % k + k ≤ blocks * k
     within (yes s) = let next : place / k + 1 ≤ blocks = omega arith in omega (arith, mul-le-mul-right k next, whole)
     within (no d) = let past : blocks ≤ place / k = omega arith in absurd (omega (arith, mul-le-mul-right k past, whole))

@@ -2,17 +2,16 @@
 -- Holds: `point-none`, `point-more`, `spectrum-none`, `spectrum-more`; `tail-ext`, `continued-none`, `continued-more`.
 use mathlib.Core.Path.{_≡_, refl, sym, ap, subst, _∙_}
 use mathlib.Core.List.{List}
-use Prim.Native.Nat.{ℕ, zero, suc, _+_, _-_, _≤_, _<_}
+use Prim.Native.Nat.{ℕ, _+_, _-_, _<_}
 use native.Mathlib.Numerals.{add-one}
 use native.Mathlib.Omega.{arith}
 use native.Mathlib.Decide.{ℕ-discrete}
-use lib.ListN.{length, getD, set, replicate}
+use lib.ListN.{getD, set, replicate}
 use lib.Seq.{getD-set-same, getD-set-other}
 use Rattle.algebra.specs.Ops.{Ops}
-use Rattle.algebra.specs.Sum.{sum, power}
+use Rattle.algebra.specs.Sum.{power}
 use Rattle.algebra.specs.Polynomial.{value}
 use Rattle.algebra.proofs.Sums.{sum-ext}
-use Rattle.algebra.proofs.Below.{FieldBelow}
 use Rattle.field.specs.Fields.{Good, opsOf, alpha}
 use Rattle.field.specs.Symbols.{Is}
 use Rattle.field.proofs.Laws.{lawsOf}
@@ -20,7 +19,7 @@ use Rattle.block.specs.Area.{Area, at, capacity}
 use Rattle.block.specs.Locator.{tail}
 use Rattle.block.specs.Progress.{Unit}
 use Rattle.block.specs.Spectrum.{SpectrumOf, Continued}
-use Rattle.block.proofs.Accumulated.{zero-below, area-set, zeros-at}
+use Rattle.block.proofs.Accumulated.{area-set, area-zeros}
 use Rattle.block.proofs.Placing.{unit-area}
 
 module _ (q : ℕ) where
@@ -42,7 +41,7 @@ module _ (q : ℕ) where
       record {
         area = area-set q series (s + 1) v (h .area) (is-value .below);
         first = getD-set-other series (s + 1) 0 v 0 (omega arith) ∙ h .first;
-        values = λ t l. at-value t l (ℕ-discrete t s)
+        values = λ t l. at-value t l (ℕ-discrete t s);
       }
     where
       at-value : (t : ℕ) → t < s + 1 → Dec (t ≡ s) → getD (set series (s + 1) v) (t + 1) 0 ≡ value (opsOf q) block (power (opsOf q) alpha t)
@@ -57,16 +56,16 @@ pub tail-ext : {F : Type 0} (o : Ops F) (L : ℕ) (σ c d : ℕ → F) (j : ℕ)
 unfolding tail
 tail-ext o L σ c d j h same =
     sum-ext o L (λ a. o .mul (σ (a + 1)) (c (j - (a + 1)))) (λ a. o .mul (σ (a + 1)) (d (j - (a + 1))))
-      (λ a l. ap (o .mul (σ (a + 1))) (same (j - (a + 1)) (omega arith)))
+    (λ a l. ap (o .mul (σ (a + 1))) (same (j - (a + 1)) (omega arith)))
 
 module _ (q L r : ℕ) (locator before : List ℕ) where
   pub continued-none : Good q → Area q before → Continued q L r 0 locator before before (replicate capacity 0)
   continued-none good h =
       record {
         area = h;
-        values-area = record { size = refl; below = λ i. subst (λ (t : ℕ). t < q) (sym (zeros-at capacity i)) (zero-below q good) };
+        values-area = area-zeros q good;
         extended = record { kept = λ j l. refl; recurs = λ u l. absurd (omega arith); difference = λ u l. absurd (omega arith) };
-        beyond = λ j l. refl
+        beyond = λ j l. refl;
       }
 
   pub continued-more : (u : ℕ) (after values : List ℕ) (rest v w : ℕ) → Continued q L r u locator before after values → r + 1 + u < capacity
@@ -77,18 +76,20 @@ module _ (q L r : ℕ) (locator before : List ℕ) where
         area = area-set q after (r + 1 + u) w (h .area) (is-negative .below);
         values-area = area-set q values u v (h .values-area) (is-sum .below);
         extended =
-          record {
-            kept = λ j l. other j (omega arith) ∙ h .extended .kept j l;
-            recurs = λ t l. at-place t l (ℕ-discrete t u);
-            difference = λ t l. at-value t l (ℕ-discrete t u)
-          };
-        beyond = λ j l. other j (omega arith) ∙ h .beyond j (omega arith)
+            record {
+              kept = λ j l. other j (omega arith) ∙ h .extended .kept j l;
+              recurs = λ t l. at-place t l (ℕ-discrete t u);
+              difference = λ t l. at-value t l (ℕ-discrete t u);
+            };
+        beyond = λ j l. other j (omega arith) ∙ h .beyond j (omega arith);
       }
     where
       other : (j : ℕ) → (j ≡ r + 1 + u → ⊥) → getD (set after (r + 1 + u) w) j 0 ≡ getD after j 0
       other j d = getD-set-other after (r + 1 + u) j w 0 d
+
       tails : (t : ℕ) → t < u + 1 → tail (opsOf q) L (at locator) (at after) (r + 1 + t) ≡ tail (opsOf q) L (at locator) (at (set after (r + 1 + u) w)) (r + 1 + t)
       tails t l = tail-ext (opsOf q) L (at locator) (at after) (at (set after (r + 1 + u) w)) (r + 1 + t) (omega arith) (λ i s. sym (other i (omega arith)))
+
       at-place : (t : ℕ) → t < u + 1 → Dec (t ≡ u)
           → getD (set after (r + 1 + u) w) (r + 1 + t) 0 ≡ opsOf q .neg (tail (opsOf q) L (at locator) (at (set after (r + 1 + u) w)) (r + 1 + t))
       at-place t l (yes e) =
@@ -96,6 +97,7 @@ module _ (q L r : ℕ) (locator before : List ℕ) where
           ∙ getD-set-same after (r + 1 + u) w 0 (subst (λ (i : ℕ). r + 1 + u < i) (sym (h .area .size)) room)
           ∙ is-negative .same ∙ ap (opsOf q .neg) (is-tail .same ∙ ap (λ (i : ℕ). tail (opsOf q) L (at locator) (at after) (r + 1 + i)) (sym e) ∙ tails t l)
       at-place t l (no d) = other (r + 1 + t) (omega arith) ∙ h .extended .recurs t (omega arith) ∙ ap (opsOf q .neg) (tails t l)
+
       at-value : (t : ℕ) → t < u + 1 → Dec (t ≡ u)
           → getD (set values u v) t 0 ≡ opsOf q .add (getD before (r + 1 + t) 0) (tail (opsOf q) L (at locator) (at (set after (r + 1 + u) w)) (r + 1 + t))
       at-value t l (yes e) =

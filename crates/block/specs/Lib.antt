@@ -1,6 +1,7 @@
--- The block step's promise, and what its functions promise of one another.
+-- The block step's promise (Step), and what its functions promise of one another.
+pub mod Step
 pub mod Area
 pub mod Locator
 pub mod Progress
 pub mod Spectrum
-pub mod Step
+pub mod Information

@@ -1,20 +1,17 @@
--- The block step's promise (01, "find the level-l code block within (d_l - 1)/2, rounded down, symbols"; BLUEPRINT: cost in place of floors).
+-- The block step's promise (01, "find the level-l code block within (d_l - 1)/2, rounded down, symbols"; a cost below d_l in place of halves rounded down).
 -- For a received block and a level either the information of a combination that is near, or that none is.
--- Holds: `blockCost`, `Information`, `Step`; `Read`, what is read off a spectrum.
-use mathlib.Core.Path.{_≡_}
+-- Holds: `blockCost`, `Information`, `Step`.
 use mathlib.Core.Bool.{Bool, true, false}
 use mathlib.Core.List.{List}
-use Prim.Native.Nat.{ℕ, _+_, _*_, _≤_, _<_}
+use Prim.Native.Nat.{ℕ, _*_, _≤_, _<_}
 use lib.ListN.{getD}
-use Rattle.algebra.specs.Sum.{sum}
 use Rattle.algebra.specs.Weight.{distance}
-use Rattle.field.specs.Fields.{opsOf}
 use Rattle.code.specs.declared.Setting.{Setting}
 use Rattle.code.specs.Code.{levelDistance}
 use Rattle.code.specs.Transmission.{view}
 use Rattle.code.specs.Level.{combination}
 use Rattle.code.specs.Settings.{codeOf}
-use Rattle.block.specs.Area.{Area, at}
+use Rattle.block.specs.Area.{Area}
 
 -- What a received block costs against the level-l combination of the information x: twice the number of differing symbols.
 abbrev pub blockCost : Setting → ℕ → List ℕ → (ℕ → ℕ → ℕ) → ℕ
@@ -24,14 +21,9 @@ blockCost p l block x = 2 * distance (p .n) (λ i. getD block i 0) (combination 
 abbrev pub Information : Setting → ℕ → (ℕ → ℕ → ℕ) → Type 0
 Information p l x = (b r : ℕ) → b ≤ l → r < p .k → x b r < p .q
 
--- near: the l+1 information blocks that were found, symbols below q in their area, combine to a block that costs less than d_l; far: every information costs d_l or more.
+-- near: the l+1 information blocks that were found, symbols below q in their area, combine to a block that costs less than d_l;
+-- far: every information costs d_l or more.
 pub data Step (p : Setting) (l : ℕ) (block information : List ℕ) : Bool → Type 0 where
   near : Area (p .q) information → blockCost p l block (view (p .k) information) < levelDistance (p .n) (p .k) l
       → Step p l block information true
   far : ((x : ℕ → ℕ → ℕ) → Information p l x → levelDistance (p .n) (p .k) l ≤ blockCost p l block x) → Step p l block information false
-
--- Symbol a of information block b is row a of the matrix times the values of the block's places, for so many blocks of k symbols.
-pub record Read (q k blocks : ℕ) (matrix values information : List ℕ) : Type 0 where
-  pub area : Area q information
-  pub symbols : (b a : ℕ) → b < blocks → a < k
-      → at information (b * k + a) ≡ sum (opsOf q) k (λ e. opsOf q .mul (at matrix (a * k + e)) (at values (b * k + e)))

@@ -11,13 +11,14 @@ ghost use Rattle.code.specs.Transmission.{view};
 ghost use Rattle.code.specs.Level.{combination};
 ghost use Rattle.code.specs.Settings.{codeOf};
 ghost use Rattle.tables.specs.Tables.{Ready};
-ghost use Rattle.block.specs.Area.{Area, Below, at, capacity};
-ghost use Rattle.block.specs.Step.{Read};
-
+ghost use Rattle.block.specs.Area.{AllBelow, Area, at, capacity, matrixCapacity};
+ghost use Rattle.block.specs.Information.{Read};
+use super::CAPACITY;
+use super::locator::Series;
 use code::Setting;
 use field::Tables;
-use tables::{Matrix, Rows};
-use super::locator::Series;
+use tables::Matrix;
+use tables::Rows;
 
 // Row a of the matrix times the k values from a place on.
 fn times_row(
@@ -29,7 +30,7 @@ fn times_row(
     values: &Series,
     from: usize,
 ) -> u8
-    requires { ⌜ Good q × Lent (now products) × (k * k ≤ 9) × Below q (now matrix) × (a < k) × Area q (now values) × (from + k ≤ capacity) ⌝ }
+    requires { ⌜ Good q × Lent (now products) × (k * k ≤ matrixCapacity) × AllBelow q (now matrix) × (a < k) × Area q (now values) × (from + k ≤ capacity) ⌝ }
     ensures { λ r. ⌜ Is q r (sum (opsOf q) k (λ e. opsOf q .mul (at (now (matrix .entry)) (a * k + e)) (at (now (values .entry)) (from + e)))) ⌝ }
 {
     let mut sum: u8 = 0;
@@ -50,10 +51,10 @@ pub fn read(
     matrix: &Matrix,
     values: &Series,
 ) -> Series
-    requires { ⌜ Good q × Lent (now products) × (0 < k) × (k * k ≤ 9) × (blocks * k ≤ capacity) × Below q (now matrix) × Area q (now values) ⌝ }
+    requires { ⌜ Good q × Lent (now products) × (0 < k) × (k * k ≤ matrixCapacity) × (blocks * k ≤ capacity) × AllBelow q (now matrix) × Area q (now values) ⌝ }
     ensures { λ r. ⌜ Read q k blocks (now (matrix .entry)) (now (values .entry)) r ⌝ }
 {
-    let mut information = [0u8; 16];
+    let mut information = [0u8; CAPACITY];
     let count = blocks * k;
     let mut place: usize = 0;
     while place < count {

@@ -1,4 +1,8 @@
 // The block step: from a received block the information of the code block within the limit, or that there is none (01, "Reading a reception").
+// A block's spectrum is its values at α^0, α^1, ... That of a level-l code block is zero at the first n - (l+1)k places, so there the received block shows
+// the spectrum of the error. The locator that annihilates what is known of it continues it by a recurrence, rightly if the error is light; what the
+// received block has besides is the code block's spectrum, and the matrix reads the information off it. The block is rebuilt from the rows and
+// compared, so a good answer rests on nothing else.
 pub mod information;
 mod locator;
 mod spectrum;
@@ -9,12 +13,15 @@ ghost use lib.ListN.{length};
 ghost use Rattle.field.specs.Symbols.{Symbols};
 ghost use Rattle.tables.specs.Tables.{Ready, MatrixOf};
 ghost use Rattle.block.specs.Step.{Step};
-
 use code::Setting;
 use field::Tables;
-use tables::{Matrix, Rows};
+use tables::Matrix;
+use tables::Rows;
 
-// Room for one block's information or spectrum.
+// Room for a block's spectrum and a 1 before it. A larger setting raises it, here and in specs/Area.antt.
+pub const CAPACITY: usize = 16;
+
+// Symbols in so many places.
 pub type Series = locator::Series;
 
 // The level-l combination within half of d_l - 1 symbols of the received block: true, and its l + 1 information blocks; or false, if there is none.

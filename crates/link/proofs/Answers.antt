@@ -1,18 +1,19 @@
 -- What the first "no" of a list of questions says, and what a call knows when every answer was "yes".
--- Holds: `first-yes`, `first-no` (one question), `append-yes`, `append-no` (a list of questions before others), `all-yes`, `yes-all` (number 0
--- says that every answer was "yes"); `symbols-all`, `symbols-none`, `symbols-next`, `symbols-end` (question 4, as a loop asks it);
--- `FrameYes`, `frame-yes`, `DecodingYes`, `decoding-yes`, `EncodingYes`, `encoding-yes`, `display-yes`, `marks-yes`.
+-- Holds: `first-yes`, `first-no` (one question), `append-yes`, `append-no` (a list of questions before others), `all-yes` (number 0 says that every
+-- answer was "yes"), `after-first`, `after-frame` (what is left to ask, over the setting in hand); `symbols-start`, `symbols-next`, `symbols-stop`,
+-- `symbols-end` (question 4, as a loop asks it), `symbols-all`; `Frame`; `FrameYes`, `DecodingYes`, `EncodingYes`, `WindowYes` and `frame-yes`,
+-- `decoding-yes`, `encoding-yes`, `display-yes`, `marks-yes`; `message-small`, `transmission-small`, `window-small` (the areas' sizes).
 use mathlib.Core.Path.{_≡_, refl, sym, ap, subst, _∙_}
 use mathlib.Core.Bool.{Bool, true, false, not, _&&_}
 use mathlib.Core.List.{List, [], _∷_, _++_}
-use Prim.Native.Nat.{ℕ, zero, suc, _+_, _-_, _*_, _/_, _%_, _≤_, _<_}
-use native.Mathlib.Nat.{div-add-mod', le-div-iff-mul-le, not-suc-le-zero, le-of-suc-le-suc, mul-le-mul}
+use Prim.Native.Nat.{ℕ, suc, _+_, _-_, _*_, _/_, _%_, _≤_, _<_}
+use native.Mathlib.Nat.{div-add-mod', le-div-iff-mul-le, mul-le-mul}
 use native.Mathlib.Numerals.{add-one}
 use native.Mathlib.Omega.{arith}
 use lib.Dec.{T, eqb, leb, ltb, leb→le, ltb→lt, eqb→eq}
-use lib.ListN.{length, getD, drop, length-drop}
+use lib.ListN.{length, getD, drop}
 use lib.Seq.{drop-cons, drop-length}
-use borrow.Author.Tests.{eq-eqb, ne-eqb, lt-ltb, le-ltb, ltb-true, ltb-false}
+use borrow.Author.Tests.{eq-eqb, lt-ltb, le-ltb, ltb-true}
 use Rattle.algebra.specs.Ops.{pick}
 use Rattle.algebra.proofs.Tests.{and-left, and-right}
 use Rattle.field.specs.Symbols.{Symbols}
@@ -21,7 +22,6 @@ use Rattle.code.specs.declared.Setting.{Setting}
 use Rattle.code.specs.Settings.{isSetting, settingOf}
 use Rattle.code.specs.Windows.{windowLength, Message}
 use Rattle.tables.proofs.Small.{Sizes, sizesOf}
-use Rattle.link.specs.declared.Answer.{Answer}
 use Rattle.link.specs.Questions.{Question, ask, answer, symbolQuestion, transmissionQuestion, firstNo, mostBlocks, blocksOf, symbolsTo, frameQuestions, decodingQuestions, encodingQuestions, displayQuestions, marksQuestions}
 
 -- One question: "yes" asks the rest, "no" is the answer.
@@ -115,7 +115,7 @@ pub symbols-next : (q : ℕ) (l : List ℕ) (i : ℕ) → i < length l → getD 
 unfolding symbolsTo
 symbols-next q l i h b =
     let more : symbolsTo q (drop i l) ≡ suc (symbolsTo q (drop (suc i) l)) =
-        ap (symbolsTo q) (drop-cons l i 0 h) ∙ ap (λ (t : Bool). pick t (suc (symbolsTo q (drop (suc i) l))) 0) (lt-ltb (getD l i 0) q b) in
+    ap (symbolsTo q) (drop-cons l i 0 h) ∙ ap (λ (t : Bool). pick t (suc (symbolsTo q (drop (suc i) l))) 0) (lt-ltb (getD l i 0) q b) in
     let place : symbolsTo q (drop (i + 1) l) ≡ symbolsTo q (drop (suc i) l) = ap (λ (t : ℕ). symbolsTo q (drop t l)) (add-one i) in
     omega arith
 
@@ -123,7 +123,7 @@ pub symbols-stop : (q : ℕ) (l : List ℕ) (i : ℕ) → i < length l → q ≤
 unfolding symbolsTo
 symbols-stop q l i h b =
     let none : symbolsTo q (drop i l) ≡ 0 =
-        ap (symbolsTo q) (drop-cons l i 0 h) ∙ ap (λ (t : Bool). pick t (suc (symbolsTo q (drop (suc i) l))) 0) (le-ltb (getD l i 0) q b) in
+    ap (symbolsTo q) (drop-cons l i 0 h) ∙ ap (λ (t : Bool). pick t (suc (symbolsTo q (drop (suc i) l))) 0) (le-ltb (getD l i 0) q b) in
     omega arith
 
 pub symbols-end : (q : ℕ) (l : List ℕ) (i : ℕ) → i ≡ length l → i + symbolsTo q (drop i l) ≡ i
@@ -131,15 +131,6 @@ unfolding symbolsTo
 symbols-end q l i e =
     let none : symbolsTo q (drop i l) ≡ 0 = ap (symbolsTo q) (ap (λ (t : ℕ). drop t l) e ∙ drop-length l) in
     omega arith
-
-pub symbols-most : (q : ℕ) (l : List ℕ) → symbolsTo q l ≤ length l
-unfolding symbolsTo
-symbols-most q [] = omega arith
-symbols-most q (x ∷ l) = at (symbols-most q l) (ltb x q)
-  where
-    at : symbolsTo q l ≤ length l → (t : Bool) → pick t (suc (symbolsTo q l)) 0 ≤ suc (length l)
-    at h true = omega arith
-    at h false = omega arith
 
 -- All of them: a list of symbols.
 pub symbols-all : (q : ℕ) (l : List ℕ) → symbolsTo q l ≡ length l → Symbols q l
@@ -214,7 +205,7 @@ decoding-yes number reception messageRoom transmissionRoom e =
       long = frame .long-is;
       symbols = symbols-all (p .q) reception (eqb→eq (symbolsTo (p .q) reception) (length reception) (all .1 .1 .1 .0));
       message-room = leb→le (blocksOf p (length reception) * p .k) messageRoom (all .1 .1 .1 .1 .0);
-      transmission-room = leb→le ((blocksOf p (length reception) + p .m) * p .n) transmissionRoom (all .1 .1 .1 .1 .1 .0)
+      transmission-room = leb→le ((blocksOf p (length reception) + p .m) * p .n) transmissionRoom (all .1 .1 .1 .1 .1 .0);
     }
 
 -- What encoding knows when its questions got "yes", T being the length divided by k.
@@ -237,12 +228,12 @@ encoding-yes number message transmissionRoom e =
       setting = all .0;
       most = leb→le T mostBlocks (all .1 .1 .0);
       message-of =
-        record {
-          blocks = le-div-iff-mul-le (sizesOf number (all .0) .information) .1 once;
-          long = omega (arith, div-add-mod' (length message) (p .k));
-          symbols = symbols-all (p .q) message (eqb→eq (symbolsTo (p .q) message) (length message) (all .1 .1 .1 .0))
-        };
-      room = leb→le ((T + p .m) * p .n) transmissionRoom (all .1 .1 .1 .1 .0)
+          record {
+            blocks = le-div-iff-mul-le (sizesOf number (all .0) .information) .1 once;
+            long = omega (arith, div-add-mod' (length message) (p .k));
+            symbols = symbols-all (p .q) message (eqb→eq (symbolsTo (p .q) message) (length message) (all .1 .1 .1 .0));
+          };
+      room = leb→le ((T + p .m) * p .n) transmissionRoom (all .1 .1 .1 .1 .0);
     }
 
 -- What the display knows when its questions got "yes".
@@ -257,18 +248,18 @@ display-yes number long j e =
     record {
       setting = all .0;
       frame = frame-of (settingOf number) long (sizesOf number (all .0)) (all .1 .0) (all .1 .1 .0);
-      inside = ltb→lt j (blocksOf (settingOf number) long) (all .1 .1 .1 .0)
+      inside = ltb→lt j (blocksOf (settingOf number) long) (all .1 .1 .1 .0);
     }
 
 -- What marking knows when its questions got "yes".
 pub marks-yes : (number receptionLong transmissionLong j : ℕ) → firstNo (marksQuestions number receptionLong transmissionLong j) .number ≡ 0
     → WindowYes number receptionLong j × (receptionLong ≡ transmissionLong)
 marks-yes number receptionLong transmissionLong j e =
-    let all = all-yes (marksQuestions number receptionLong transmissionLong j) tt e in
-    ( record {
+    let all = all-yes (marksQuestions number receptionLong transmissionLong j) tt e in (
+      record {
         setting = all .0;
         frame = frame-of (settingOf number) receptionLong (sizesOf number (all .0)) (all .1 .0) (all .1 .1 .0);
-        inside = ltb→lt j (blocksOf (settingOf number) receptionLong) (all .1 .1 .1 .0)
-      }
-    , eqb→eq receptionLong transmissionLong (all .1 .1 .1 .1 .0)
+        inside = ltb→lt j (blocksOf (settingOf number) receptionLong) (all .1 .1 .1 .0);
+      },
+      eqb→eq receptionLong transmissionLong (all .1 .1 .1 .1 .0),
     )

@@ -1,6 +1,6 @@
 -- Marks as bits of a number. Holds: `bit-inside` and `bit-past` (bit i of `bits n test` is the test at i for i < n, and 0 from n on), `bits-small`,
 -- `bits-front` (one more test before the others), `ones-bits` (as many ones as tests that hold).
-use mathlib.Core.Path.{_≡_, refl, sym, ap, ap₂, subst, fun-ext, _∙_}
+use mathlib.Core.Path.{_≡_, refl, sym, ap, ap₂, fun-ext, _∙_}
 use mathlib.Core.Bool.{Bool, true, false}
 use Prim.Native.Nat.{ℕ, zero, suc, _+_, _-_, _*_, _/_, _%_, _^_, _≤_, _<_}
 use native.Mathlib.Nat.{div-div-eq-div-mul, div-eq-of-lt, div-one, mul-comm, pow-suc}
@@ -76,10 +76,10 @@ bits-more long left test set mark some within small e m =
     let first : left - 1 + 0 ≡ left - 1 = omega arith in
     let place : (i : ℕ) → left - 1 + suc i ≡ left + i = λ i. omega arith in
     let same : set * 2 + mark ≡ bits (long - (left - 1)) (λ i. test (left - 1 + i)) =
-        ap₂ (λ (a b : ℕ). a * 2 + b)
-          (e ∙ ap (bits (long - left)) (fun-ext (λ i. ap test (sym (place i)))))
-          (m ∙ ap (λ (t : ℕ). pick (test t) 1 0) (sym first))
-        ∙ (bits-front (long - left) (λ i. test (left - 1 + i)) ∙ ap (λ (t : ℕ). bits t (λ i. test (left - 1 + i))) size) in
+    ap₂ (λ (a b : ℕ). a * 2 + b)
+    (e ∙ ap (bits (long - left)) (fun-ext (λ i. ap test (sym (place i)))))
+    (m ∙ ap (λ (t : ℕ). pick (test t) 1 0) (sym first))
+    ∙ (bits-front (long - left) (λ i. test (left - 1 + i)) ∙ ap (λ (t : ℕ). bits t (λ i. test (left - 1 + i))) size) in
     let top : long - (left - 1) ≤ 32 = omega arith in
     let most : 2 ^ (long - (left - 1)) ≤ 2 ^ 32 = pow-mono top in
     (same, omega (arith, bits-small (long - (left - 1)) (λ i. test (left - 1 + i))))

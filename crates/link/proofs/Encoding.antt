@@ -1,15 +1,14 @@
 -- Encoding, from its questions to its promise. Holds: `Sent`, `sent-ready`, `encoded-refused`, `encoded-sent`.
-use mathlib.Core.Path.{_≡_, refl, sym, ap, subst, _∙_}
+use mathlib.Core.Path.{_≡_, sym, ap, subst, _∙_}
 use mathlib.Core.Bool.{Bool}
 use mathlib.Core.List.{List, _++_}
-use Prim.Native.Nat.{ℕ, _+_, _*_, _/_, _≤_, _<_}
-use lib.Dec.{T, eqb}
+use Prim.Native.Nat.{ℕ, _+_, _*_, _/_, _≤_}
 use lib.ListN.{length, drop}
 use borrow.Author.Tests.{eq-eqb, ne-eqb}
 use Rattle.algebra.specs.Ops.{pick}
 use Rattle.field.specs.Tables.{Lent}
 use Rattle.code.specs.declared.Setting.{Setting}
-use Rattle.code.specs.Settings.{isSetting, settingOf}
+use Rattle.code.specs.Settings.{settingOf}
 use Rattle.code.specs.Windows.{transmission}
 use Rattle.code.proofs.Settings.{soundOf}
 use Rattle.tables.specs.Tables.{RowsOf}
@@ -34,12 +33,12 @@ module _ (number : ℕ) (message before : List ℕ) where
       subst (λ (p : Setting). Sent p products rows message (length before)) (sym e)
       (record {
         sending =
-          record {
-            ready = record { sound = soundOf number (known .setting); small = smallOf number (known .setting); products = lent; rows = R };
-            message-of = known .message-of;
-            most = known .most
-          };
-        room-is = known .room
+            record {
+              ready = record { sound = soundOf number (known .setting); small = smallOf number (known .setting); products = lent; rows = R };
+              message-of = known .message-of;
+              most = known .most;
+            };
+        room-is = known .room;
       })
 
   pub encoded-refused : (r : Answer) → r ≡ firstNo (encodingQuestions number message (length before)) → (r .number ≡ 0 → ⊥) → Encoded number message before r before
@@ -53,7 +52,7 @@ module _ (number : ℕ) (message before : List ℕ) where
       record {
         answered = e;
         area =
-          ap (λ (t : List ℕ). t ++ drop ((length message / p .k + p .m) * p .n) before) f
-          ∙ (ap (λ (p : Setting). encodedArea p message before) s
-          ∙ sym (ap (λ (t : Bool). pick t (encodedArea (settingOf number) message before) before) (eq-eqb (r .number) 0 h)))
+            ap (λ (t : List ℕ). t ++ drop ((length message / p .k + p .m) * p .n) before) f
+            ∙ (ap (λ (p : Setting). encodedArea p message before) s
+            ∙ sym (ap (λ (t : Bool). pick t (encodedArea (settingOf number) message before) before) (eq-eqb (r .number) 0 h)));
       }

@@ -5,3 +5,6 @@ pub mod Written
 pub mod Encoding
 pub mod Bits
 pub mod Windows
+pub mod Samples
+pub mod Decoding
+pub mod Demand3

@@ -1,20 +1,19 @@
 -- The encoder's sums: what information blocks outside 0 .. T-1 contribute is zero, so a loop may pass them over.
 -- Holds: `contribution` (the term of a sent symbol), `contribution-inside`, `contribution-past`, `contribution-before`, `sum-start`, `sum-end`.
-use mathlib.Core.Path.{_≡_, refl, sym, ap, ap₂, subst, _∙_}
+use mathlib.Core.Path.{_≡_, sym, ap, ap₂, subst, _∙_}
 use mathlib.Core.Bool.{Bool, true, false}
 use mathlib.Core.List.{List}
 use Prim.Native.Nat.{ℕ, zero, suc, _+_, _-_, _*_, _≤_, _<_, min}
 use native.Mathlib.Nat.{mul-le-mul-right}
-use native.Mathlib.Numerals.{add-one}
 use native.Mathlib.Omega.{arith}
 use native.Mathlib.Decide.{decLe}
 use lib.Dec.{leb}
-use lib.ListN.{length, getD, List·getD-eq-default}
+use lib.ListN.{getD, List·getD-eq-default}
 use borrow.Author.Tests.{le-leb, lt-leb}
-use Rattle.algebra.specs.Ops.{Ops, pick}
+use Rattle.algebra.specs.Ops.{pick}
 use Rattle.algebra.specs.Sum.{sum}
-use Rattle.algebra.proofs.Laws.{Field, mul-zero, zero-mul}
-use Rattle.algebra.proofs.Below.{Below, number, FieldBelow}
+use Rattle.algebra.proofs.Laws.{zero-mul}
+use Rattle.algebra.proofs.Below.{number}
 use Rattle.field.specs.Fields.{opsOf}
 use Rattle.code.specs.declared.Setting.{Setting}
 use Rattle.code.specs.Generator.{rowSymbol, timesG}
@@ -93,7 +92,7 @@ module _ (p : Setting) (S : Sound p) where
     contribution-after j l h =
         sym (contribution-inside j l)
         ∙ times-zeros (λ a. getD message ((s - j) * p .k + a) 0) j i
-          (λ r u. List·getD-eq-default message 0 (omega (arith, mul-le-mul-right (p .k) h, M .long)))
+        (λ r u. List·getD-eq-default message 0 (omega (arith, mul-le-mul-right (p .k) h, M .long)))
 
     -- .. and those before block 0.
     contribution-before : (j : ℕ) → s < j → contribution p message s i j ≡ 0

@@ -1,25 +1,25 @@
 -- Window j of a frame, for the display and for marks: where it lies, and from the questions to the promises.
 -- Holds: `Window`, `window-yes`; `window-refused`, `window-shown`; `marked-refused`, `marked-found`.
-use mathlib.Core.Path.{_≡_, refl, sym, ap, ap₂, subst, _∙_}
+use mathlib.Core.Path.{_≡_, sym, ap, subst, _∙_}
 use mathlib.Core.Bool.{Bool, not}
 use mathlib.Core.List.{List, []}
 use Prim.Native.Nat.{ℕ, _+_, _-_, _*_, _≤_, _<_}
 use native.Mathlib.Nat.{mul-le-mul-right}
 use native.Mathlib.Omega.{arith}
 use lib.Count.{ones}
-use lib.Dec.{T, eqb}
+use lib.Dec.{eqb}
 use lib.ListN.{length, getD, take, drop}
 use borrow.Author.Tests.{eq-eqb, ne-eqb}
 use Rattle.algebra.specs.Ops.{pick}
 use Rattle.code.specs.declared.Setting.{Setting}
-use Rattle.code.specs.Settings.{isSetting, settingOf}
+use Rattle.code.specs.Settings.{settingOf}
 use Rattle.code.specs.Windows.{windowLength, windowDistance}
 use Rattle.tables.proofs.Small.{Sizes}
 use Rattle.link.specs.declared.Answer.{Answer}
 use Rattle.link.specs.declared.Marks.{Marks}
 use Rattle.link.specs.Questions.{firstNo, blocksOf, displayQuestions, marksQuestions}
 use Rattle.link.specs.Display.{windowOf}
-use Rattle.link.specs.Marks.{bits, marksOf, Marked}
+use Rattle.link.specs.Marks.{marksOf, Marked}
 use Rattle.link.proofs.Answers.{Frame, WindowYes, window-small}
 use Rattle.link.proofs.Bits.{ones-bits}
 
@@ -35,7 +35,7 @@ window-of p long j f h =
     record {
       sizes = f .sizes;
       small = window-small p (f .sizes);
-      within = omega (arith, mul-le-mul-right (p .n) top, f .long-is)
+      within = omega (arith, mul-le-mul-right (p .n) top, f .long-is);
     }
 
 pub window-yes : (number long j : ℕ) (p : Setting) → p ≡ settingOf number → WindowYes number long j → Window p long j
@@ -46,7 +46,7 @@ module _ (number : ℕ) (reception : List ℕ) (j : ℕ) where
   pub window-refused : (firstNo (displayQuestions number (length reception) j) .number ≡ 0 → ⊥) → [] ≡ windowOf number reception j
   window-refused h =
       sym (ap (λ (t : Bool). pick t (take (windowLength (settingOf number)) (drop (j * settingOf number .n) reception)) [])
-        (ne-eqb (firstNo (displayQuestions number (length reception) j) .number) 0 h))
+      (ne-eqb (firstNo (displayQuestions number (length reception) j) .number) 0 h))
 
   pub window-shown : (p : Setting) → p ≡ settingOf number → firstNo (displayQuestions number (length reception) j) .number ≡ 0
       → take (j * p .n + windowLength p - j * p .n) (drop (j * p .n) reception) ≡ windowOf number reception j
@@ -55,7 +55,7 @@ module _ (number : ℕ) (reception : List ℕ) (j : ℕ) where
       ap (λ (t : ℕ). take t (drop (j * p .n) reception)) size
       ∙ (ap (λ (p : Setting). take (windowLength p) (drop (j * p .n) reception)) e
       ∙ sym (ap (λ (t : Bool). pick t (take (windowLength (settingOf number)) (drop (j * settingOf number .n) reception)) [])
-        (eq-eqb (firstNo (displayQuestions number (length reception) j) .number) 0 h)))
+      (eq-eqb (firstNo (displayQuestions number (length reception) j) .number) 0 h)))
 
 -- Marks.
 module _ (number : ℕ) (reception sent : List ℕ) (j : ℕ) (r : Answer) (e : r ≡ firstNo (marksQuestions number (length reception) (length sent) j)) where
@@ -64,7 +64,7 @@ module _ (number : ℕ) (reception sent : List ℕ) (j : ℕ) (r : Answer) (e : 
       record {
         answered = e;
         marks = sym (ap (λ (t : Bool). pick t (marksOf (settingOf number) reception sent j) 0) (ne-eqb (r .number) 0 h));
-        set = sym (ap (λ (t : Bool). pick t (windowDistance (settingOf number) reception sent j) 0) (ne-eqb (r .number) 0 h))
+        set = sym (ap (λ (t : Bool). pick t (windowDistance (settingOf number) reception sent j) 0) (ne-eqb (r .number) 0 h));
       }
 
   pub marked-found : (p : Setting) (found : ℕ) → r .number ≡ 0 → p ≡ settingOf number → found ≡ marksOf p reception sent j
@@ -73,11 +73,11 @@ module _ (number : ℕ) (reception sent : List ℕ) (j : ℕ) (r : Answer) (e : 
       record {
         answered = e;
         marks =
-          f ∙ (ap (λ (p : Setting). marksOf p reception sent j) s
-          ∙ sym (ap (λ (t : Bool). pick t (marksOf (settingOf number) reception sent j) 0) (eq-eqb (r .number) 0 h)));
+            f ∙ (ap (λ (p : Setting). marksOf p reception sent j) s
+            ∙ sym (ap (λ (t : Bool). pick t (marksOf (settingOf number) reception sent j) 0) (eq-eqb (r .number) 0 h)));
         set =
-          ap ones f
-          ∙ (ones-bits (windowLength p) (λ i. not (eqb (getD reception (j * p .n + i) 0) (getD sent (j * p .n + i) 0)))
-          ∙ (ap (λ (p : Setting). windowDistance p reception sent j) s
-          ∙ sym (ap (λ (t : Bool). pick t (windowDistance (settingOf number) reception sent j) 0) (eq-eqb (r .number) 0 h))))
+            ap ones f
+            ∙ (ones-bits (windowLength p) (λ i. not (eqb (getD reception (j * p .n + i) 0) (getD sent (j * p .n + i) 0)))
+            ∙ (ap (λ (p : Setting). windowDistance p reception sent j) s
+            ∙ sym (ap (λ (t : Bool). pick t (windowDistance (settingOf number) reception sent j) 0) (eq-eqb (r .number) 0 h))));
       }

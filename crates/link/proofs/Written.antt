@@ -1,11 +1,11 @@
 -- Areas that loops fill from the front, symbol by symbol or part by part.
 -- Holds: `Written`, `written-none`, `written-more`, `written-part`, `written-all`; `written-block`, a block of a frame as a part that comes home.
-use mathlib.Core.Path.{_≡_, refl, sym, ap, subst, _∙_}
+use mathlib.Core.Path.{_≡_, sym, ap, subst, _∙_}
 use mathlib.Core.List.{List, _++_}
-use Prim.Native.Nat.{ℕ, zero, suc, _+_, _-_, _*_, _/_, _%_, _≤_, _<_}
+use Prim.Native.Nat.{ℕ, _+_, _-_, _*_, _/_, _%_, _≤_, _<_}
 use native.Mathlib.Omega.{arith}
 use native.Mathlib.Decide.{decLt, ℕ-discrete}
-use lib.ListN.{length, getD, take, drop, set, length-set, length-append, length-take, length-drop, List·getD-append}
+use lib.ListN.{length, getD, take, drop, set, length-set, length-append, length-drop, List·getD-append}
 use lib.Seq.{ext-getD, getD-take, getD-set-same, getD-set-other, getD-append-add, length-take-le}
 use lib.Arith.{digits-div, digits-mod}
 use borrow.Rule.Slice.PartMut.{putMid, post-is}
@@ -36,8 +36,10 @@ module _ (f : ℕ → ℕ) (places : ℕ) where
     where
       front : length (take i l) ≡ i
       front = length-take-le i l (omega (arith, w .long))
+
       whole : length (take i l ++ (part ++ drop (i + n) l)) ≡ places
       whole = omega (arith, length-append (take i l) (part ++ drop (i + n) l), length-append part (drop (i + n) l), length-drop (i + n) l, w .long, front)
+
       place : (b : ℕ) → b < i + n → Dec (b < i) → getD (take i l ++ (part ++ drop (i + n) l)) b 0 ≡ f b
       place b u (yes s) =
           List·getD-append (take i l) (part ++ drop (i + n) l) 0 b (omega (arith, front)) ∙ (getD-take i l b 0 s ∙ w .at b s)
@@ -61,7 +63,7 @@ written-block g n places s from l {part} start room e w =
     let order : from ≤ from + n = omega arith in
     subst (λ (t : List ℕ). Written (λ a. g (a / n) (a % n)) places (from + n) (take from l ++ (part ++ t))) (sym (post-is from (from + n) l order))
     (written-part (λ a. g (a / n) (a % n)) places from n l part room (ap length e ∙ length-tabulate n (g s))
-      (λ b h. ap (λ (t : List ℕ). getD t b 0) e ∙ (getD-tabulate n (g s) b 0 h ∙ symbol b h)) w)
+    (λ b h. ap (λ (t : List ℕ). getD t b 0) e ∙ (getD-tabulate n (g s) b 0 h ∙ symbol b h)) w)
   where
     symbol : (b : ℕ) → b < n → g s b ≡ g ((from + b) / n) ((from + b) % n)
     symbol b h =

@@ -3,7 +3,6 @@ ghost use mathlib.Core.Path.{_≡_};
 ghost use lib.ListN.{length};
 ghost use Rattle.link.specs.Questions.{firstNo, displayQuestions};
 ghost use Rattle.link.specs.Display.{windowOf};
-
 use super::Answer;
 use super::questions;
 

@@ -8,11 +8,10 @@ ghost use Rattle.code.specs.Settings.{codeOf};
 ghost use Rattle.code.specs.Windows as windows;
 ghost use Rattle.link.specs.Sending.{Sending, Part};
 ghost use Rattle.link.specs.Encoding.{Encoded};
-
-use code::Setting;
-use field::Tables;
 use super::Answer;
 use super::questions;
+use code::Setting;
+use field::Tables;
 use tables::Rows;
 
 // Symbol i of sent block s: the sum of (information block s-j) × G_j over the j that contribute.
@@ -82,14 +81,7 @@ fn send_block(
 }
 
 // The whole transmission, block after block.
-fn send(
-    p: Setting,
-    products: &Tables,
-    rows: &Rows,
-    message: &[u8],
-    blocks: usize,
-    area: &mut [u8],
-)
+fn send(p: Setting, products: &Tables, rows: &Rows, message: &[u8], blocks: usize, area: &mut [u8])
     requires { ⌜ Sending p (now products) (now rows) (now message) blocks × (length (now area) ≡ (blocks + p .m) * p .n) ⌝ }
     ensures { λ _. ⌜ now (area .exit) ≡ windows.transmission p (now (message .entry)) ⌝ }
 {
@@ -121,6 +113,13 @@ pub fn encode(setting: u32, message: &[u8], transmission: &mut [u8]) -> Answer
     let rows = tables::rows(setting);
     let blocks = message.len() / k;
     let long = (blocks + m) * n;
-    send(p, &products, &rows, message, blocks, &mut transmission[..long]);
+    send(
+        p,
+        &products,
+        &rows,
+        message,
+        blocks,
+        &mut transmission[..long],
+    );
     answer
 }

@@ -6,6 +6,7 @@ pub mod mark;
 mod questions;
 
 // The answer of every call: the number and place of the first question answered "no", or 0 and 0, and the number of symbols altered.
+#[repr(C)]
 pub struct Answer {
     pub number: u32,
     pub altered: u32,
@@ -13,6 +14,7 @@ pub struct Answer {
 }
 
 // The differences in a window, one bit a symbol, the earliest lowest, and how many are set.
+#[repr(C)]
 pub struct Marks {
     pub answer: Answer,
     pub marks: u32,

@@ -6,7 +6,6 @@ ghost use lib.Dec.{eqb};
 ghost use lib.ListN.{length, getD};
 ghost use Rattle.algebra.specs.Ops.{pick};
 ghost use Rattle.link.specs.Marks.{bits, Marked};
-
 use super::Marks;
 use super::questions;
 

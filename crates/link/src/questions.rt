@@ -2,7 +2,6 @@
 ghost use mathlib.Core.Path.{_≡_};
 ghost use lib.ListN.{length};
 ghost use Rattle.link.specs.Questions.{answer, firstNo, symbolsTo, frameQuestions, decodingQuestions, encodingQuestions, displayQuestions, marksQuestions};
-
 use super::Answer;
 
 // "When every answer is yes, number and place are 0."
@@ -152,7 +151,12 @@ pub fn display_questions(number: u32, long: usize, j: u64) -> Answer
 }
 
 // Marks: 1, 2, 3, 12, 13.
-pub fn marks_questions(number: u32, reception_long: usize, transmission_long: usize, j: u64) -> Answer
+pub fn marks_questions(
+    number: u32,
+    reception_long: usize,
+    transmission_long: usize,
+    j: u64,
+) -> Answer
     ensures { λ r. ⌜ r ≡ firstNo (marksQuestions number «reception_long» «transmission_long» j) ⌝ }
 {
     let window = display_questions(number, reception_long, j);

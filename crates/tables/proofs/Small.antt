@@ -1,6 +1,6 @@
 -- Sizes of the settings, for the bounds that code asks.
 -- Holds: `smallOf`, `block-positive`, `Sizes`, `sizesOf`.
-use Prim.Native.Nat.{ℕ, zero, suc, _+_, _-_, _*_, _≤_, _<_}
+use Prim.Native.Nat.{ℕ, _+_, _-_, _*_, _≤_, _<_}
 use native.Mathlib.Nat.{mul-le-mul}
 use native.Mathlib.Omega.{arith}
 use lib.Dec.{T}
@@ -42,7 +42,7 @@ sizes p S s =
       symbols-most = omega (arith, S .block, s .elements);
       information = S .information;
       information-most = s .information;
-      memory-most = s .memory
+      memory-most = s .memory;
     }
 
 pub sizesOf : (s : ℕ) → T (isSetting s) → Sizes (settingOf s)

@@ -2,19 +2,15 @@
 use Prim.Native.Nat.{ℕ, _≤_, _-_, _+_, _*_}
 use mathlib.Core.Path.{_≡_, sym, ap, _∙_}
 use native.Mathlib.Omega.{arith}
-use borrow.Author.Needs.{needs}
 use Rattle.algebra.specs.Weight.{distance}
 use Rattle.code.specs.Transmission.{view}
 use Rattle.code.specs.Level.{combination}
 use Rattle.code.specs.Settings.{codeOf}
-use Rattle.block.specs.Area.{at}
+use Rattle.block.specs.Area.{at, capacity}
 use Rattle.block.proofs.Accumulated.{distance-none, distance-same, distance-more}
 use Rattle.block.proofs.Levels.{level-fits, block-short, area-symbols}
 use Rattle.block.proofs.information.differing.Statement.{statement}
 use Rattle.block.proofs.information.differing.Tie as tie
-use Rattle.block.proofs.information.differing.Reads as reads
-use Rattle.block.proofs.information.differing.Lts as lts
-use Rattle.tables.proofs.product.combination.Reads as combination-reads
 
 abbrev Inv-loop : tie.InvT-loop
 Inv-loop p products rows information l block n count₀ i₀ count i = (i ≤ n) × (count ≤ i) × (count ≡ distance i (at block) (combination (codeOf p) l (view (p .k) information)))
@@ -31,7 +27,7 @@ combination-requires : tie.Need-combination-requires Inv-loop μ-loop
 combination-requires c κs =
     let p = c .before .before .before .before .pre in
     let s = c .before .before .before .before .args .p in
-    let room : (c .before .before .before .before .args .l + 1) * s .k ≤ 16 = omega (arith, level-fits s (p .0 .sound) (c .before .before .before .before .args .l) (p .2), block-short s (p .0 .sound) (p .0 .small)) in
+    let room : (c .before .before .before .before .args .l + 1) * s .k ≤ capacity = omega (arith, level-fits s (p .0 .sound) (c .before .before .before .before .args .l) (p .2), block-short s (p .0 .sound) (p .0 .small)) in
     (p .0, area-symbols (p .1), rw (p .1 .size) room, p .2, omega arith)
 
 shared-slice-read-received : tie.Need-shared-slice-read-received Inv-loop μ-loop

@@ -1,15 +1,11 @@
 -- `block::information::read` meets its contract. The loop's invariant: the places so far hold their symbols.
-use Prim.Native.Nat.{_≤_, _<_, _-_, _+_, _*_, _%_}
-use mathlib.Core.Path.{_≡_, subst}
+use Prim.Native.Nat.{_≤_, _-_, _*_}
+use mathlib.Core.Path.{_≡_}
 use native.Mathlib.Nat.{mod-lt, mod-le}
 use native.Mathlib.Omega.{arith}
-use borrow.Author.Needs.{needs}
 use Rattle.block.proofs.Reading.{ReadTo, read-none, read-more, read-done, block-end}
 use Rattle.block.proofs.information.read.Statement.{statement}
 use Rattle.block.proofs.information.read.Tie as tie
-use Rattle.block.proofs.information.read.Reads as reads
-use Rattle.block.proofs.information.read.Lts as lts
-use Rattle.block.proofs.information.times_row.Reads as times-row-reads
 
 abbrev Inv-loop : tie.InvT-loop
 Inv-loop q products k blocks matrix values information₀ count place₀ information place = (place ≤ count) × ReadTo q k place matrix values information

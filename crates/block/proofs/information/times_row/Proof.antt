@@ -1,8 +1,7 @@
 -- `block::information::times_row` meets its contract. The loop's invariant: the sum so far is that of e terms.
-use Prim.Native.Nat.{_≤_, _<_, _-_, _+_, _*_}
+use Prim.Native.Nat.{_≤_, _-_, _+_, _*_}
 use mathlib.Core.Path.{_≡_}
 use native.Mathlib.Omega.{arith}
-use borrow.Author.Needs.{needs}
 use Rattle.algebra.specs.Sum.{sum as sumOf}
 use Rattle.field.specs.Fields.{opsOf}
 use Rattle.field.specs.Symbols.{Is}
@@ -10,9 +9,6 @@ use Rattle.block.specs.Area.{at}
 use Rattle.block.proofs.Accumulated.{sum-none, sum-more, square-place}
 use Rattle.block.proofs.information.times_row.Statement.{statement}
 use Rattle.block.proofs.information.times_row.Tie as tie
-use Rattle.block.proofs.information.times_row.Reads as reads
-use Rattle.block.proofs.information.times_row.Lts as lts
-use Rattle.field.proofs.add_product.Reads as add-product-reads
 
 abbrev Inv-loop : tie.InvT-loop
 Inv-loop q products k matrix a values from sum₀ e₀ sum e = (e ≤ k) × Is q sum (sumOf (opsOf q) e (λ i. opsOf q .mul (at matrix (a * k + i)) (at values (from + i))))

@@ -6,13 +6,6 @@ use Rattle.block.proofs.Placing.{placed-kept, placed-corrected, placed-
 use borrow.Author.Needs.{needs}
 use Rattle.block.proofs.locator.advance.Statement.{statement}
 use Rattle.block.proofs.locator.advance.Tie as tie
-use Rattle.block.proofs.locator.advance.Reads as reads
-use Rattle.block.proofs.locator.advance.Lts as lts
-use Rattle.block.proofs.locator.subtract_multiple.Reads as subtract-multiple-reads
-use Rattle.block.proofs.locator.tail.Reads as tail-reads
-use Rattle.field.proofs.add.Reads as add-reads
-use Rattle.field.proofs.inverse.Reads as inverse-reads
-use Rattle.field.proofs.multiply.Reads as multiply-reads
 
 tail-requires : tie.Need-tail-requires
 tail-requires c κs = search needs
@@ -52,7 +45,7 @@ returns-2 c =
     let p = c .before .before .before .before .before .before .before .before .before .before .pre in
     let step : suc (c .before .before .before .before .before .before .before .before .before .before .args .next - 1) ≡ c .before .before .before .before .before .before .before .before .before .before .args .next = omega arith in
     placed-corrected _ (p .0) _ _ _ _ _ _ _ _ _ _ step (p .2) (p .5) (c .before .before .before .before .before .before .before .before .tail .ensures) (c .before .before .before .before .before .before .add .ensures)
-      _ _ (c .before .before .before .before .multiply .ensures) (c .subtract-multiple .ensures) (c .before .before .before .if2 .taken)
+    _ _ (c .before .before .before .before .multiply .ensures) (c .subtract-multiple .ensures) (c .before .before .before .if2 .taken)
 
 subtract-multiple-requires-2 : tie.Need-subtract-multiple-requires-2
 subtract-multiple-requires-2 c κs = search needs
@@ -68,7 +61,7 @@ returns-3 c =
     let p = c .before .before .before .before .before .before .before .before .before .before .before .before .pre in
     let step : suc (c .before .before .before .before .before .before .before .before .before .before .before .before .args .next - 1) ≡ c .before .before .before .before .before .before .before .before .before .before .before .before .args .next = omega arith in
     placed-lengthened _ (p .0) _ _ _ _ _ _ _ _ _ _ step (p .2) (p .5) (c .before .before .before .before .before .before .before .before .before .before .tail .ensures) (c .before .before .before .before .before .before .before .before .add .ensures)
-      _ _ (c .before .before .before .before .before .before .multiply .ensures) (c .before .subtract-multiple2 .ensures) _ (c .before .before .before .before .before .if2 .left) (c .before .before .before .before .before .before .before .if1 .left) (c .inverse .ensures)
+    _ _ (c .before .before .before .before .before .before .multiply .ensures) (c .before .subtract-multiple2 .ensures) _ (c .before .before .before .before .before .if2 .left) (c .before .before .before .before .before .before .before .if1 .left) (c .inverse .ensures)
 
 pub advance-spec : {M : Type 1} → statement M
 advance-spec =

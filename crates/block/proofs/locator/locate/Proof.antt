@@ -7,10 +7,6 @@ use Rattle.block.specs.Progress.{Placed}
 use Rattle.block.proofs.Placing.{placed-start}
 use Rattle.block.proofs.locator.locate.Statement.{statement}
 use Rattle.block.proofs.locator.locate.Tie as tie
-use Rattle.block.proofs.locator.locate.Reads as reads
-use Rattle.block.proofs.locator.locate.Lts as lts
-use Rattle.block.proofs.locator.advance.Reads as advance-reads
-use Rattle.block.proofs.locator.unit.Reads as unit-reads
 
 abbrev Inv-loop : tie.InvT-loop
 Inv-loop q tables series known locator₀ former₀ progress₀ next₀ locator former progress next = (0 < next) × (next ≤ known) × Placed q series (next - 1) (progress .length) (progress .place) (progress .scale) locator former

@@ -1,16 +1,11 @@
 -- `block::locator::subtract_multiple` meets its contract. The loop's invariant is the promise at count i.
-use mathlib.Core.Path.{_≡_, subst}
-use Prim.Native.Nat.{ℕ, _≤_, _-_, _+_}
+use mathlib.Core.Path.{_≡_}
+use Prim.Native.Nat.{_≤_, _-_, _+_}
 use native.Mathlib.Omega.{arith}
-use borrow.Author.Needs.{needs}
 use Rattle.block.specs.Progress.{Multiple}
 use Rattle.block.proofs.Multiples.{multiple-none, multiple-more}
 use Rattle.block.proofs.locator.subtract_multiple.Statement.{statement}
 use Rattle.block.proofs.locator.subtract_multiple.Tie as tie
-use Rattle.block.proofs.locator.subtract_multiple.Reads as reads
-use Rattle.block.proofs.locator.subtract_multiple.Lts as lts
-use Rattle.field.proofs.multiply.Reads as multiply-reads
-use Rattle.field.proofs.subtract.Reads as subtract-reads
 
 abbrev Inv-loop : tie.InvT-loop
 Inv-loop q tables factor shift count source target₀ i₀ target i = (i ≤ count) × Multiple q factor shift i source target₀ target

@@ -10,9 +10,6 @@ use Rattle.block.specs.Locator.{tail}
 use Rattle.block.proofs.Accumulated.{sum-none, sum-more}
 use Rattle.block.proofs.locator.tail.Statement.{statement}
 use Rattle.block.proofs.locator.tail.Tie as tie
-use Rattle.block.proofs.locator.tail.Reads as reads
-use Rattle.block.proofs.locator.tail.Lts as lts
-use Rattle.field.proofs.add_product.Reads as add-product-reads
 
 abbrev Inv-loop : tie.InvT-loop
 Inv-loop q tables length locator series j sum₀ a₀ sum a = (a ≤ length) × Is q sum (tail (opsOf q) a (at locator) (at series) j)

@@ -6,11 +6,6 @@ use Rattle.block.specs.Spectrum.{Continued}
 use Rattle.block.proofs.Spectra.{continued-none, continued-more}
 use Rattle.block.proofs.spectrum.extend.Statement.{statement}
 use Rattle.block.proofs.spectrum.extend.Tie as tie
-use Rattle.block.proofs.spectrum.extend.Reads as reads
-use Rattle.block.proofs.spectrum.extend.Lts as lts
-use Rattle.block.proofs.locator.tail.Reads as tail-reads
-use Rattle.field.proofs.add.Reads as add-reads
-use Rattle.field.proofs.negate.Reads as negate-reads
 
 abbrev Inv-loop : tie.InvT-loop
 Inv-loop q tables length locator r count series₀ values₀ u₀ series values u = (u ≤ count) × Continued q length r u locator series₀ series values

@@ -1,5 +1,5 @@
 -- `block::spectrum::spectrum` meets its contract. The loop's invariant: s values stand in the series, and the point is α^s.
-use Prim.Native.Nat.{_≤_, _-_, _+_}
+use Prim.Native.Nat.{_≤_, _-_}
 use mathlib.Core.Path.{_≡_}
 use native.Mathlib.Omega.{arith}
 use borrow.Author.Needs.{needs}
@@ -12,11 +12,6 @@ use Rattle.block.proofs.Accumulated.{alpha-below}
 use Rattle.block.proofs.Spectra.{point-none, point-more, spectrum-none, spectrum-more}
 use Rattle.block.proofs.spectrum.spectrum.Statement.{statement}
 use Rattle.block.proofs.spectrum.spectrum.Tie as tie
-use Rattle.block.proofs.spectrum.spectrum.Reads as reads
-use Rattle.block.proofs.spectrum.spectrum.Lts as lts
-use Rattle.block.proofs.locator.unit.Reads as unit-reads
-use Rattle.field.proofs.multiply.Reads as multiply-reads
-use Rattle.field.proofs.value.Reads as value-reads
 
 abbrev Inv-loop : tie.InvT-loop
 Inv-loop q tables block series₀ point₀ s₀ series point s = (s ≤ length block) × Is q point (power (opsOf q) alpha s) × SpectrumOf q block s series

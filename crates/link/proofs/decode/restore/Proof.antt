@@ -1,54 +1,64 @@
+-- `link::decode::restore`: the first i places are restored.
+use mathlib.Core.Path.{_≡_, refl, sym, subst}
+use Prim.Native.Nat.{ℕ, _+_, _-_, _≤_, _<_}
+use native.Mathlib.Omega.{arith}
+use denote.Ref.{now}
+use lib.ListN.{length, getD}
+use Rattle.link.specs.Decoding.{Restored}
+use Rattle.link.proofs.Decoding.{restored-none, restored-more}
 use Rattle.link.proofs.decode.restore.Statement.{statement}
 use Rattle.link.proofs.decode.restore.Tie as tie
-use Rattle.link.proofs.decode.restore.Reads as reads
-use Rattle.link.proofs.decode.restore.Lts as lts
-use Rattle.field.proofs.subtract.Reads as subtract-reads
 
 abbrev Inv-loop : tie.InvT-loop
-Inv-loop q reception left₀ i₀ left i = ?
+Inv-loop q reception left₀ i₀ left i = (i ≤ length left₀) × Restored q i reception left₀ left
 
 abbrev μ-loop : tie.MeasureT-loop
-μ-loop q reception left₀ i₀ left i = ?
+μ-loop q reception left₀ i₀ left i = length left₀ - i
 
--- src/decode.rt:21:5
 loop-holds : tie.Need-loop-holds Inv-loop μ-loop
-loop-holds c = ?
+loop-holds c = (omega arith, restored-none (c .before .before .args .q) (now (c .before .before .args .reception)) (now (c .before .before .args .left)))
 
--- src/decode.rt:22:41
 shared-slice-read-subtract : tie.Need-shared-slice-read-subtract Inv-loop μ-loop
-shared-slice-read-subtract c = ?
+shared-slice-read-subtract c = omega (arith, c .before .before .before .before .before .pre .3, c .before .before .loop .inv .1 .long)
 
--- src/decode.rt:22:55
 slice-read-subtract : tie.Need-slice-read-subtract Inv-loop μ-loop
-slice-read-subtract c = ?
+slice-read-subtract c = omega (arith, c .before .before .before .loop .inv .1 .long)
 
--- src/decode.rt:22:13
 subtract-requires : tie.Need-subtract-requires Inv-loop μ-loop
-subtract-requires c κs = ?
+subtract-requires c κs =
+    let entry = c .before .before .before .before .before .before in
+    let l = c .before .before .before .loop in
+    let least : l .i ≤ l .i = omega arith in
+    ( entry .pre .0
+    , entry .pre .1 .below (l .i) (omega (arith, entry .pre .3, l .inv .1 .long))
+    , subst (λ (t : ℕ). t < entry .args .q) (sym (l .inv .1 .outside (l .i) least)) (entry .pre .2 .below (l .i) (omega (arith, l .inv .1 .long)))
+    )
 
--- src/decode.rt:23:9
 slice-write-left : tie.Need-slice-write-left Inv-loop μ-loop
-slice-write-left c = ?
+slice-write-left c = omega (arith, c .before .before .before .before .loop .inv .1 .long)
 
--- src/decode.rt:24:9
 add-i : tie.Need-add-i Inv-loop μ-loop
-add-i c = ?
+add-i c = omega (arith, c .before .before .before .before .loop .inv .1 .long)
 
--- src/decode.rt:21:5
 loop-less : tie.Need-loop-less Inv-loop μ-loop
-loop-less c = ?
+loop-less c = omega (arith, c .before .before .before .before .loop .inv .1 .long)
 
--- src/decode.rt:21:5
 loop-again : tie.Need-loop-again Inv-loop μ-loop
-loop-again c = ?
+loop-again c =
+    let a = c .before .before .before .before .before .before .before .args in
+    let l = c .before .before .before .before .loop in
+    ( omega (arith, l .inv .1 .long)
+    , restored-more (a .q) (now (a .reception)) (now (a .left)) (l .i) (l .left) (c .subtract .result) (l .inv .1) (omega (arith, l .inv .1 .long)) (c .subtract .ensures .same)
+    )
 
--- src/decode.rt:16:1
 same-length : tie.Need-same-length Inv-loop μ-loop
-same-length c = ?
+same-length c = c .before .loop .inv .1 .long
 
--- src/decode.rt:16:1
 returns : tie.Need-returns Inv-loop μ-loop
-returns c = ?
+returns c =
+    let a = c .before .before .before .before .args in
+    let done : c .before .loop .i ≡ length (now (a .left)) = omega (arith, c .before .loop .inv .1 .long) in
+    subst (λ (t : ℕ). Restored (a .q) t (now (a .reception)) (now (a .left)) (c .before .loop .left)) done (c .before .loop .inv .1)
 
 pub restore-spec : {M : Type 1} → statement M
 restore-spec =

@@ -11,7 +11,7 @@ use Rattle.link.proofs.display.window.Statement.{statement}
 use Rattle.link.proofs.display.window.Tie as tie
 
 display-questions-requires : tie.Need-display-questions-requires
-display-questions-requires c κs = search needs
+display-questions-requires c κs = tt
 
 slice-aggregate-result : tie.Need-slice-aggregate-result
 slice-aggregate-result c = search needs

@@ -12,7 +12,7 @@ use Rattle.link.proofs.encode.encode.Statement.{statement}
 use Rattle.link.proofs.encode.encode.Tie as tie
 
 encoding-questions-requires : tie.Need-encoding-questions-requires
-encoding-questions-requires c κs = search needs
+encoding-questions-requires c κs = tt
 
 returns : tie.Need-returns
 returns c = encoded-refused (c .before .before .before .before .before .args .setting) (now (c .before .before .before .before .before .args .message)) (now (c .before .before .before .before .before .args .transmission)) (c .before .before .encoding-questions .result) (c .before .before .encoding-questions .ensures) (c .if1 .taken)
@@ -28,7 +28,7 @@ setting-requires : tie.Need-setting-requires
 setting-requires c κs = known c .setting
 
 tables-requires : tie.Need-tables-requires
-tables-requires c κs = search needs
+tables-requires c κs = tt
 
 rows-requires : tie.Need-rows-requires
 rows-requires c κs = known (c .before .before) .setting

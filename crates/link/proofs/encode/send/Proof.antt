@@ -1,12 +1,11 @@
 -- `link::encode::send`: block after block.
-use mathlib.Core.Path.{_≡_, refl, sym, ap, ap₂, subst, _∙_}
-use Prim.Native.Nat.{ℕ, _+_, _-_, _*_, _/_, _%_, _≤_, _<_}
+use mathlib.Core.Path.{_≡_, sym, ap, subst, _∙_}
+use Prim.Native.Nat.{ℕ, _+_, _-_, _*_, _/_, _%_, _≤_}
 use native.Mathlib.Nat.{mul-le-mul-right}
 use native.Mathlib.Omega.{arith}
 use denote.Ref.{now}
-use lib.Arith.{digits-div, digits-mod}
 use mathlib.Core.List.{List}
-use lib.ListN.{length, getD, length-take, length-drop}
+use lib.ListN.{length-take, length-drop}
 use Rattle.code.specs.declared.Setting.{Setting}
 use Rattle.code.proofs.Numbers.{message-blocks}
 use Rattle.tables.proofs.Small.{sizes}
@@ -17,9 +16,6 @@ use Rattle.code.specs.Windows.{transmission}
 use Rattle.link.proofs.Written.{Written, written-none, written-block, written-all}
 use Rattle.link.proofs.encode.send.Statement.{statement}
 use Rattle.link.proofs.encode.send.Tie as tie
-use Rattle.link.proofs.encode.send.Reads as reads
-use Rattle.link.proofs.encode.send.Lts as lts
-use Rattle.link.proofs.encode.send_block.Reads as send-block-reads
 
 -- The symbol in place a of a transmission.
 abbrev symbol : Setting → List ℕ → ℕ → ℕ
@@ -73,11 +69,11 @@ loop-less c = omega (arith, c .before .before .before .before .loop-test .taken)
 loop-again : tie.Need-loop-again Inv-loop μ-loop
 loop-again c =
     let entry = c .before .before .before .before .before .before .before .before .before in
-    let loop = c .before .before .before .before .before in
-    ( omega (arith, c .before .before .before .before .loop-test .taken)
-    , omega (arith, loop .loop .inv .1)
-    , written-block (sentSymbol (codeOf (entry .args .p)) (view (entry .args .p .k) (now (entry .args .message)))) (entry .args .p .n) _ (loop .loop .s) (loop .loop .from) (loop .loop .area)
-      (loop .loop .inv .1) (room (c .before .before .before .before)) (c .before .before .send-block .ensures) (loop .loop .inv .2)
+    let loop = c .before .before .before .before .before in (
+      omega (arith, c .before .before .before .before .loop-test .taken),
+      omega (arith, loop .loop .inv .1),
+      written-block (sentSymbol (codeOf (entry .args .p)) (view (entry .args .p .k) (now (entry .args .message)))) (entry .args .p .n) _ (loop .loop .s) (loop .loop .from) (loop .loop .area)
+          (loop .loop .inv .1) (room (c .before .before .before .before)) (c .before .before .send-block .ensures) (loop .loop .inv .2),
     )
 
 same-length : tie.Need-same-length Inv-loop μ-loop
@@ -92,7 +88,7 @@ returns c =
     let all : c .before .loop .s ≡ entry .args .blocks + p .m = omega arith in
     let full : c .before .loop .from ≡ (entry .args .blocks + p .m) * p .n = c .before .loop .inv .1 ∙ ap (λ (t : ℕ). t * p .n) all in
     written-all (symbol p message) ((entry .args .blocks + p .m) * p .n) (c .before .loop .area)
-      (subst (λ (t : ℕ). Written (symbol p message) ((entry .args .blocks + p .m) * p .n) t (c .before .loop .area)) full (c .before .loop .inv .2))
+    (subst (λ (t : ℕ). Written (symbol p message) ((entry .args .blocks + p .m) * p .n) t (c .before .loop .area)) full (c .before .loop .inv .2))
     ∙ sym (ap (λ (t : ℕ). tabulate ((t + p .m) * p .n) (symbol p message)) (message-blocks p (entry .pre .0 .ready .sound) (entry .args .blocks) message (entry .pre .0 .message-of)))
 
 pub send-spec : {M : Type 1} → statement M

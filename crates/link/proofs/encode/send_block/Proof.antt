@@ -1,10 +1,9 @@
 -- `link::encode::send_block`: the symbols of the block, one after the other.
-use mathlib.Core.Path.{_≡_, sym, ap, subst, _∙_}
-use Prim.Native.Nat.{ℕ, _+_, _-_, _*_, _≤_, _<_}
+use mathlib.Core.Path.{_≡_, sym, subst, _∙_}
+use Prim.Native.Nat.{ℕ, _-_, _≤_, _<_}
 use native.Mathlib.Omega.{arith}
 use denote.Ref.{now}
-use lib.ListN.{length, length-set}
-use Rattle.code.specs.Transmission.{view, sentSymbol, tabulate}
+use Rattle.code.specs.Transmission.{view, sentSymbol}
 use Rattle.code.specs.Settings.{codeOf}
 use Rattle.link.proofs.Written.{Written, written-none, written-more, written-all}
 use Rattle.link.proofs.encode.send_block.Statement.{statement}
@@ -38,10 +37,10 @@ inside c = subst (λ (t : ℕ). c .before .loop .i < t) (c .before .loop .inv .1
 
 sent-symbol-requires : tie.Need-sent-symbol-requires Inv-loop μ-loop
 sent-symbol-requires c κs =
-    let entry = c .before .before .before .before .before .before in
-    ( entry .pre .0
-    , record { block = entry .pre .1; start-is = c .before .before .before .start-of .ensures; end-is = c .before .before .end-of .ensures }
-    , inside c
+    let entry = c .before .before .before .before .before .before in (
+      entry .pre .0,
+      record { block = entry .pre .1; start-is = c .before .before .before .start-of .ensures; end-is = c .before .before .end-of .ensures },
+      inside c,
     )
 
 slice-write-block : tie.Need-slice-write-block Inv-loop μ-loop
@@ -55,10 +54,10 @@ loop-less c = omega (arith, inside (c .before))
 
 loop-again : tie.Need-loop-again Inv-loop μ-loop
 loop-again c =
-    let entry = c .before .before .before .before .before .before .before in
-    ( omega (arith, inside (c .before))
-    , written-more (sentSymbol (codeOf (entry .args .p)) (view (entry .args .p .k) (now (entry .args .message))) (entry .args .s)) (entry .args .p .n)
-      (c .before .before .loop .i) (c .before .before .loop .block) (c .sent-symbol .result) (inside (c .before)) (c .sent-symbol .ensures .same) (c .before .before .loop .inv .1)
+    let entry = c .before .before .before .before .before .before .before in (
+      omega (arith, inside (c .before)),
+      written-more (sentSymbol (codeOf (entry .args .p)) (view (entry .args .p .k) (now (entry .args .message))) (entry .args .s)) (entry .args .p .n)
+          (c .before .before .loop .i) (c .before .before .loop .block) (c .sent-symbol .result) (inside (c .before)) (c .sent-symbol .ensures .same) (c .before .before .loop .inv .1),
     )
 
 same-length : tie.Need-same-length Inv-loop μ-loop

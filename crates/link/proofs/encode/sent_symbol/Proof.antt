@@ -1,6 +1,6 @@
 -- `link::encode::sent_symbol`: the loop makes the sum over the j that contribute; the others contribute zero.
 use mathlib.Core.Path.{_≡_, sym, ap, ap₂, _∙_}
-use Prim.Native.Nat.{ℕ, _+_, _-_, _*_, _≤_, _<_}
+use Prim.Native.Nat.{ℕ, _+_, _-_, _*_, _≤_}
 use native.Mathlib.Nat.{mul-le-mul-right}
 use native.Mathlib.Omega.{arith}
 use denote.Ref.{now}
@@ -24,14 +24,14 @@ abbrev μ-loop : tie.MeasureT-loop
 loop-holds : tie.Need-loop-holds Inv-loop μ-loop
 loop-holds c =
     let entry = c .before in
-    let sound = entry .pre .0 .ready .sound in
-    ( omega arith
-    , omega (arith, entry .pre .1 .start-is, entry .pre .1 .end-is, entry .pre .1 .block, entry .pre .0 .message-of .blocks)
-    , record {
+    let sound = entry .pre .0 .ready .sound in (
+      omega arith,
+      omega (arith, entry .pre .1 .start-is, entry .pre .1 .end-is, entry .pre .1 .block, entry .pre .0 .message-of .blocks),
+      record {
         same =
-          sym (sum-start (entry .args .p) sound (entry .args .blocks) (now (entry .args .message)) (entry .pre .0 .message-of) (entry .args .s) (entry .args .i) (entry .args .start) (entry .pre .1 .start-is));
-        below = positive (entry .args .p) sound
-      }
+            sym (sum-start (entry .args .p) sound (entry .args .blocks) (now (entry .args .message)) (entry .pre .0 .message-of) (entry .args .s) (entry .args .i) (entry .args .start) (entry .pre .1 .start-is));
+        below = positive (entry .args .p) sound;
+      },
     )
 
 -- Information block s-j is one of 0 .. T-1, and lies within the message.
@@ -44,10 +44,10 @@ inside : (c : tie.In-loop Inv-loop μ-loop)
 inside c =
     let entry = c .before .before .before in
     let below : entry .args .s - c .before .loop .j + 1 ≤ entry .args .blocks =
-        omega (arith, entry .pre .1 .start-is, entry .pre .1 .end-is, entry .pre .0 .message-of .blocks) in
+    omega (arith, entry .pre .1 .start-is, entry .pre .1 .end-is, entry .pre .0 .message-of .blocks) in
     record {
       from = omega (arith, entry .pre .1 .end-is);
-      within = omega (arith, mul-le-mul-right (entry .args .p .k) below, entry .pre .0 .message-of .long)
+      within = omega (arith, mul-le-mul-right (entry .args .p .k) below, entry .pre .0 .message-of .long);
     }
 
 sub-times-g : tie.Need-sub-times-g Inv-loop μ-loop
@@ -74,18 +74,18 @@ loop-again : tie.Need-loop-again Inv-loop μ-loop
 loop-again c =
     let entry = c .before .before .before .before .before in
     let p = entry .args .p in
-    let j = c .before .before .before .loop .j in
-    ( omega arith
-    , omega arith
-    , record {
+    let j = c .before .before .before .loop .j in (
+      omega arith,
+      omega arith,
+      record {
         same =
-          c .add .ensures .same
-          ∙ (ap₂ (opsOf (p .q) .add) (c .before .before .before .loop .inv .2 .same)
+            c .add .ensures .same
+            ∙ (ap₂ (opsOf (p .q) .add) (c .before .before .before .loop .inv .2 .same)
             (c .before .times-g .ensures .same
             ∙ contribution-inside p (entry .pre .0 .ready .sound) (entry .args .blocks) (now (entry .args .message)) (entry .pre .0 .message-of) (entry .args .s) (entry .args .i) j (inside (c .before .before) .from))
-          ∙ sum-more (p .q) (contribution p (now (entry .args .message)) (entry .args .s) (entry .args .i)) j);
-        below = c .add .ensures .below
-      }
+            ∙ sum-more (p .q) (contribution p (now (entry .args .message)) (entry .args .s) (entry .args .i)) j);
+        below = c .add .ensures .below;
+      },
     )
 
 returns : tie.Need-returns Inv-loop μ-loop
@@ -95,10 +95,10 @@ returns c =
     let all : c .before .loop .j ≡ entry .args .end = omega arith in
     record {
       same =
-        c .before .loop .inv .2 .same
-        ∙ (ap (λ (t : ℕ). sum-of (opsOf (p .q)) t (contribution p (now (entry .args .message)) (entry .args .s) (entry .args .i))) all
-        ∙ sum-end p (entry .pre .0 .ready .sound) (entry .args .blocks) (now (entry .args .message)) (entry .pre .0 .message-of) (entry .args .s) (entry .args .i) (entry .args .end) (entry .pre .1 .end-is));
-      below = c .before .loop .inv .2 .below
+          c .before .loop .inv .2 .same
+          ∙ (ap (λ (t : ℕ). sum-of (opsOf (p .q)) t (contribution p (now (entry .args .message)) (entry .args .s) (entry .args .i))) all
+          ∙ sum-end p (entry .pre .0 .ready .sound) (entry .args .blocks) (now (entry .args .message)) (entry .pre .0 .message-of) (entry .args .s) (entry .args .i) (entry .args .end) (entry .pre .1 .end-is));
+      below = c .before .loop .inv .2 .below;
     }
 
 pub sent-symbol-spec : {M : Type 1} → statement M

@@ -51,8 +51,8 @@ differ-requires c κs = tt
 -- One more place before those already taken: its mark is the lowest bit, and the number still fits.
 more : (c : tie.After-differ Inv-loop μ-loop)
     → (c .before .before .before .before .loop .set * 2 + c .differ .result
-      ≡ bits (c .before .before .before .before .before .before .before .args .long - (c .before .before .before .before .loop .left - 1))
-        (λ i. test (now (c .before .before .before .before .before .before .before .args .reception)) (now (c .before .before .before .before .before .before .before .args .transmission)) (c .before .before .before .before .before .before .before .args .from) (c .before .before .before .before .loop .left - 1 + i)))
+    ≡ bits (c .before .before .before .before .before .before .before .args .long - (c .before .before .before .before .loop .left - 1))
+    (λ i. test (now (c .before .before .before .before .before .before .before .args .reception)) (now (c .before .before .before .before .before .before .before .args .transmission)) (c .before .before .before .before .before .before .before .args .from) (c .before .before .before .before .loop .left - 1 + i)))
     × (c .before .before .before .before .loop .set * 2 + c .differ .result < 2 ^ 32)
 more c =
     let entry = c .before .before .before .before .before .before .before in

@@ -5,12 +5,11 @@ use denote.Ref.{now}
 use lib.ListN.{length}
 use Rattle.link.proofs.Answers.{WindowYes, marks-yes}
 use Rattle.link.proofs.Windows.{Window, window-yes, marked-refused, marked-found}
-use borrow.Author.Needs.{needs}
 use Rattle.link.proofs.mark.marks.Statement.{statement}
 use Rattle.link.proofs.mark.marks.Tie as tie
 
 marks-questions-requires : tie.Need-marks-questions-requires
-marks-questions-requires c κs = search needs
+marks-questions-requires c κs = tt
 
 returns : tie.Need-returns
 returns c = marked-refused (c .before .before .before .before .before .args .setting) (now (c .before .before .before .before .before .args .reception)) (now (c .before .before .before .before .before .args .transmission)) (c .before .before .before .before .before .args .j) (c .before .before .marks-questions .result) (c .before .before .marks-questions .ensures) (c .if1 .taken)
@@ -18,7 +17,7 @@ returns c = marked-refused (c .before .before .before .before .before .args .set
 -- Every question got "yes".
 known : (c : tie.Else1)
     → WindowYes (c .before .before .before .before .before .args .setting) (length (now (c .before .before .before .before .before .args .reception))) (c .before .before .before .before .before .args .j)
-      × (length (now (c .before .before .before .before .before .args .reception)) ≡ length (now (c .before .before .before .before .before .args .transmission)))
+    × (length (now (c .before .before .before .before .before .args .reception)) ≡ length (now (c .before .before .before .before .before .args .transmission)))
 known c = marks-yes (c .before .before .before .before .before .args .setting) (length (now (c .before .before .before .before .before .args .reception))) (length (now (c .before .before .before .before .before .args .transmission))) (c .before .before .before .before .before .args .j) (ap (λ a. a .number) (sym (c .before .before .marks-questions .ensures)) ∙ c .if1 .left)
 
 setting-requires : tie.Need-setting-requires

@@ -1,29 +1,23 @@
 -- `link::questions::display_questions` asks 1 to 3, then 12.
 use mathlib.Core.Path.{_≡_, sym, ap, subst, _∙_}
-use mathlib.Core.Bool.{Bool, true, false}
-use mathlib.Core.List.{_∷_, _++_}
-use Prim.Native.Nat.{ℕ, _+_, _-_, _*_, _/_, _%_, _≤_, _<_}
+use mathlib.Core.List.{_++_}
 use native.Mathlib.Omega.{arith}
-use denote.Ref.{now}
-use lib.Dec.{T}
-use lib.ListN.{length}
-use borrow.Author.Needs.{needs}
-use borrow.Author.Tests.{eq-eqb, ne-eqb, le-leb, lt-leb, lt-ltb, le-ltb, not-true, not-false}
+use borrow.Author.Tests.{lt-ltb, le-ltb}
 use Rattle.code.specs.declared.Setting.{Setting}
-use Rattle.code.specs.Settings.{isSetting, settingOf}
+use Rattle.code.specs.Settings.{settingOf}
 use Rattle.link.specs.Questions.{firstNo, frameQuestions}
 use Rattle.link.proofs.Answers.{append-no, after-frame, displayLater, FrameYes, frame-yes, Frame}
 use Rattle.link.proofs.questions.display_questions.Statement.{statement}
 use Rattle.link.proofs.questions.display_questions.Tie as tie
 
 frame-questions-requires : tie.Need-frame-questions-requires
-frame-questions-requires c κs = search needs
+frame-questions-requires c κs = tt
 
 returns : tie.Need-returns
 returns c =
     c .before .before .frame-questions .ensures
     ∙ sym (append-no (frameQuestions (c .before .before .before .args .number) (c .before .before .before .args .long)) (displayLater (c .before .before .before .args .long) (c .before .before .before .args .j) (settingOf (c .before .before .before .args .number)))
-      (λ e. c .if1 .taken (ap (λ a. a .number) (c .before .before .frame-questions .ensures) ∙ e)))
+    (λ e. c .if1 .taken (ap (λ a. a .number) (c .before .before .frame-questions .ensures) ∙ e)))
 
 -- Questions 1 to 3 got "yes".
 frame-number : (c : tie.Else1) → firstNo (frameQuestions (c .before .before .before .args .number) (c .before .before .before .args .long)) .number ≡ 0
@@ -41,7 +35,7 @@ frame c = subst (λ (p : Setting). Frame p (c .before .before .before .before .a
 -- What is left of the questions, over the setting in hand.
 later : (c : tie.After-setting)
     → firstNo (frameQuestions (c .before .before .before .before .args .number) (c .before .before .before .before .args .long) ++ displayLater (c .before .before .before .before .args .long) (c .before .before .before .before .args .j) (settingOf (c .before .before .before .before .args .number)))
-      ≡ firstNo (displayLater (c .before .before .before .before .args .long) (c .before .before .before .before .args .j) (c .setting .result))
+    ≡ firstNo (displayLater (c .before .before .before .before .args .long) (c .before .before .before .before .args .j) (c .setting .result))
 later c =
     after-frame (c .before .before .before .before .args .number) (c .before .before .before .before .args .long) (c .setting .result) (displayLater (c .before .before .before .before .args .long) (c .before .before .before .before .args .j)) (frame-number (c .before)) (c .setting .ensures)
 
@@ -52,13 +46,13 @@ sub-blocks : tie.Need-sub-blocks
 sub-blocks c = omega (arith, frame c .blocks)
 
 no-requires : tie.Need-no-requires
-no-requires c κs = search needs
+no-requires c κs = tt
 
 returns-2 : tie.Need-returns-2
 returns-2 c = c .no .ensures ∙ sym (later (c .before .before) ∙ simp (le-ltb _ _ (c .before .if2 .taken)))
 
 yes-requires : tie.Need-yes-requires
-yes-requires c κs = search needs
+yes-requires c κs = tt
 
 returns-3 : tie.Need-returns-3
 returns-3 c = c .yes .ensures ∙ sym (later (c .before .before) ∙ simp (lt-ltb _ _ (c .before .if2 .left)))

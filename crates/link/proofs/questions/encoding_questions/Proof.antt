@@ -1,15 +1,11 @@
 -- `link::questions::encoding_questions` asks 1, 8, 3, 4 and 6 in order.
-use mathlib.Core.Path.{_≡_, sym, ap, subst, _∙_}
-use mathlib.Core.Bool.{Bool, true, false}
-use mathlib.Core.List.{_∷_, _++_}
-use Prim.Native.Nat.{ℕ, _+_, _-_, _*_, _/_, _%_, _≤_, _<_}
+use mathlib.Core.Path.{_≡_, sym, subst, _∙_}
+use mathlib.Core.Bool.{true, false}
+use mathlib.Core.List.{_∷_}
 use native.Mathlib.Omega.{arith}
 use denote.Ref.{now}
 use lib.Dec.{T}
-use lib.ListN.{length}
-use borrow.Author.Needs.{needs}
-use borrow.Author.Tests.{eq-eqb, ne-eqb, le-leb, lt-leb, lt-ltb, le-ltb, not-true, not-false}
-use Rattle.code.specs.declared.Setting.{Setting}
+use borrow.Author.Tests.{eq-eqb, ne-eqb, le-leb, lt-leb, not-true, not-false}
 use Rattle.code.specs.Settings.{isSetting, settingOf}
 use Rattle.tables.proofs.Small.{Sizes, sizesOf}
 use Rattle.link.specs.Questions.{ask, firstNo}
@@ -18,10 +14,10 @@ use Rattle.link.proofs.questions.encoding_questions.Statement.{statemen
 use Rattle.link.proofs.questions.encoding_questions.Tie as tie
 
 is-setting-requires : tie.Need-is-setting-requires
-is-setting-requires c κs = search needs
+is-setting-requires c κs = tt
 
 no-requires : tie.Need-no-requires
-no-requires c κs = search needs
+no-requires c κs = tt
 
 returns : tie.Need-returns
 returns c =
@@ -42,7 +38,7 @@ sizes c = subst Sizes (sym (c .setting .ensures)) (sizesOf (c .before .before .b
 -- What is left of the questions, over the setting in hand.
 later : (c : tie.After-setting)
     → firstNo (ask 1 (isSetting (c .before .before .before .before .args .number)) ∷ encodingLater (now (c .before .before .before .before .args .message)) (c .before .before .before .before .args .transmission-room) (settingOf (c .before .before .before .before .args .number)))
-      ≡ firstNo (encodingLater (now (c .before .before .before .before .args .message)) (c .before .before .before .before .args .transmission-room) (c .setting .result))
+    ≡ firstNo (encodingLater (now (c .before .before .before .before .args .message)) (c .before .before .before .before .args .transmission-room) (c .setting .result))
 later c =
     after-first (c .before .before .before .before .args .number) (c .setting .result) (encodingLater (now (c .before .before .before .before .args .message)) (c .before .before .before .before .args .transmission-room)) (known (c .before)) (c .setting .ensures)
 
@@ -50,13 +46,13 @@ rem-if2 : tie.Need-rem-if2
 rem-if2 c = sizes c .information
 
 no-requires-2 : tie.Need-no-requires-2
-no-requires-2 c κs = search needs
+no-requires-2 c κs = tt
 
 returns-2 : tie.Need-returns-2
 returns-2 c = c .no2 .ensures ∙ sym (later (c .before .before) ∙ simp (ne-eqb _ _ (c .before .if2 .taken)))
 
 no-requires-3 : tie.Need-no-requires-3
-no-requires-3 c κs = search needs
+no-requires-3 c κs = tt
 
 returns-3 : tie.Need-returns-3
 returns-3 c = c .no3 .ensures ∙ sym (later (c .before .before .before) ∙ simp (eq-eqb _ _ (c .before .before .if2 .left), lt-leb _ _ (c .before .if3 .taken)))
@@ -65,7 +61,7 @@ div-blocks : tie.Need-div-blocks
 div-blocks c = sizes (c .before .before) .information
 
 no-requires-4 : tie.Need-no-requires-4
-no-requires-4 c κs = search needs
+no-requires-4 c κs = tt
 
 returns-4 : tie.Need-returns-4
 returns-4 c =
@@ -73,17 +69,22 @@ returns-4 c =
     ∙ sym (later (c .before .before .before .before) ∙ simp (eq-eqb _ _ (c .before .before .before .if2 .left), le-leb _ _ (c .before .before .if3 .left), lt-leb _ _ (c .before .if4 .taken)))
 
 first-not-below-requires : tie.Need-first-not-below-requires
-first-not-below-requires c κs = search needs
+first-not-below-requires c κs = tt
 
 no-requires-5 : tie.Need-no-requires-5
-no-requires-5 c κs = search needs
+no-requires-5 c κs = tt
 
 returns-5 : tie.Need-returns-5
 returns-5 c =
     c .no5 .ensures
     ∙ sym (later (c .before .before .before .before .before .before)
-      ∙ simp (eq-eqb _ _ (c .before .before .before .before .before .if2 .left), le-leb _ _ (c .before .before .before .before .if3 .left), le-leb _ _ (c .before .before .before .if4 .left), sym (c .before .before .first-not-below .ensures),
-        ne-eqb _ _ (c .before .if5 .taken)))
+    ∙ simp (
+      eq-eqb _ _ (c .before .before .before .before .before .if2 .left),
+      le-leb _ _ (c .before .before .before .before .if3 .left),
+      le-leb _ _ (c .before .before .before .if4 .left),
+      sym (c .before .before .first-not-below .ensures),
+      ne-eqb _ _ (c .before .if5 .taken),
+    ))
 
 add-if6 : tie.Need-add-if6
 add-if6 c = omega (arith, c .before .before .if4 .left, sizes (c .before .before .before .before .before) .memory-most)
@@ -92,24 +93,36 @@ mul-if6 : tie.Need-mul-if6
 mul-if6 c = omega (arith, transmission-small (c .before .before .before .before .before .setting .result) _ (sizes (c .before .before .before .before .before)) (c .before .before .if4 .left))
 
 no-requires-6 : tie.Need-no-requires-6
-no-requires-6 c κs = search needs
+no-requires-6 c κs = tt
 
 returns-6 : tie.Need-returns-6
 returns-6 c =
     c .no6 .ensures
     ∙ sym (later (c .before .before .before .before .before .before .before)
-      ∙ simp (eq-eqb _ _ (c .before .before .before .before .before .before .if2 .left), le-leb _ _ (c .before .before .before .before .before .if3 .left), le-leb _ _ (c .before .before .before .before .if4 .left), sym (c .before .before .before .first-not-below .ensures),
-        eq-eqb _ _ (c .before .before .if5 .left), lt-leb _ _ (c .before .if6 .taken)))
+    ∙ simp (
+      eq-eqb _ _ (c .before .before .before .before .before .before .if2 .left),
+      le-leb _ _ (c .before .before .before .before .before .if3 .left),
+      le-leb _ _ (c .before .before .before .before .if4 .left),
+      sym (c .before .before .before .first-not-below .ensures),
+      eq-eqb _ _ (c .before .before .if5 .left),
+      lt-leb _ _ (c .before .if6 .taken),
+    ))
 
 yes-requires : tie.Need-yes-requires
-yes-requires c κs = search needs
+yes-requires c κs = tt
 
 returns-7 : tie.Need-returns-7
 returns-7 c =
     c .yes .ensures
     ∙ sym (later (c .before .before .before .before .before .before .before)
-      ∙ simp (eq-eqb _ _ (c .before .before .before .before .before .before .if2 .left), le-leb _ _ (c .before .before .before .before .before .if3 .left), le-leb _ _ (c .before .before .before .before .if4 .left), sym (c .before .before .before .first-not-below .ensures),
-        eq-eqb _ _ (c .before .before .if5 .left), le-leb _ _ (c .before .if6 .left)))
+    ∙ simp (
+      eq-eqb _ _ (c .before .before .before .before .before .before .if2 .left),
+      le-leb _ _ (c .before .before .before .before .before .if3 .left),
+      le-leb _ _ (c .before .before .before .before .if4 .left),
+      sym (c .before .before .before .first-not-below .ensures),
+      eq-eqb _ _ (c .before .before .if5 .left),
+      le-leb _ _ (c .before .if6 .left),
+    ))
 
 pub encoding-questions-spec : {M : Type 1} → statement M
 encoding-questions-spec =

@@ -1,6 +1,6 @@
 -- `link::questions::first_not_below`: the symbols before i are below q.
-use mathlib.Core.Path.{_≡_, sym, subst, _∙_}
-use Prim.Native.Nat.{ℕ, _+_, _-_, _≤_, _<_}
+use mathlib.Core.Path.{_≡_, sym, _∙_}
+use Prim.Native.Nat.{_+_, _-_, _≤_, _<_}
 use native.Mathlib.Omega.{arith}
 use denote.Ref.{now}
 use lib.ListN.{length, getD, drop}
@@ -41,9 +41,9 @@ loop-again : tie.Need-loop-again Inv-loop μ-loop
 loop-again c =
     let loop = c .before .before .before .before in
     let entry = c .before .before .before .before .before .before in
-    let below : getD (now (entry .args .bytes)) (loop .loop .i) 0 < entry .args .q = omega (arith, c .before .wide .ensures) in
-    ( omega arith
-    , loop .loop .inv .1 ∙ symbols-next (entry .args .q) (now (entry .args .bytes)) (loop .loop .i) (c .before .before .before .loop-test .taken) below
+    let below : getD (now (entry .args .bytes)) (loop .loop .i) 0 < entry .args .q = omega (arith, c .before .wide .ensures) in (
+      omega arith,
+      loop .loop .inv .1 ∙ symbols-next (entry .args .q) (now (entry .args .bytes)) (loop .loop .i) (c .before .before .before .loop-test .taken) below,
     )
 
 returns-2 : tie.Need-returns-2 Inv-loop μ-loop

@@ -1,32 +1,24 @@
 -- `link::questions::frame_questions` asks 1, 2 and 3 in order.
-use mathlib.Core.Path.{_≡_, refl, sym, ap, subst, _∙_}
-use mathlib.Core.Bool.{Bool, true, false, not, _&&_}
+use mathlib.Core.Path.{_≡_, sym, subst, _∙_}
+use mathlib.Core.Bool.{true, false}
 use mathlib.Core.List.{_∷_}
-use Prim.Native.Nat.{ℕ, _+_, _-_, _*_, _/_, _%_, _≤_, _<_}
+use Prim.Native.Nat.{_+_, _/_, _≤_}
 use native.Mathlib.Nat.{le-div-iff-mul-le}
 use native.Mathlib.Omega.{arith}
-use lib.Dec.{T, eqb, leb}
-use borrow.Author.Needs.{needs}
+use lib.Dec.{T}
 use borrow.Author.Tests.{eq-eqb, ne-eqb, le-leb, lt-leb, not-true, not-false}
-use Rattle.code.specs.declared.Setting.{Setting}
 use Rattle.code.specs.Settings.{isSetting, settingOf}
 use Rattle.tables.proofs.Small.{Sizes, sizesOf}
 use Rattle.link.specs.Questions.{firstNo, ask}
 use Rattle.link.proofs.Answers.{first-no, after-first, frameLater, window-small}
 use Rattle.link.proofs.questions.frame_questions.Statement.{statement}
 use Rattle.link.proofs.questions.frame_questions.Tie as tie
-use Rattle.link.proofs.questions.frame_questions.Reads as reads
-use Rattle.link.proofs.questions.frame_questions.Lts as lts
-use Rattle.link.proofs.questions.no.Reads as no-reads
-use Rattle.link.proofs.questions.yes.Reads as yes-reads
-use Rattle.tables.proofs.is_setting.Reads as is-setting-reads
-use Rattle.tables.proofs.setting.Reads as setting-reads
 
 is-setting-requires : tie.Need-is-setting-requires
-is-setting-requires c κs = search needs
+is-setting-requires c κs = tt
 
 no-requires : tie.Need-no-requires
-no-requires c κs = search needs
+no-requires c κs = tt
 
 returns : tie.Need-returns
 returns c =
@@ -44,7 +36,7 @@ setting-requires c κs = subst T (sym (known c)) tt
 -- What is left of the questions, over the setting in hand.
 later : (c : tie.After-setting)
     → firstNo (ask 1 (isSetting (c .before .before .before .args .number)) ∷ frameLater (c .before .before .before .args .long) (settingOf (c .before .before .before .args .number)))
-      ≡ firstNo (frameLater (c .before .before .before .args .long) (c .setting .result))
+    ≡ firstNo (frameLater (c .before .before .before .args .long) (c .setting .result))
 later c =
     after-first (c .before .before .before .args .number) (c .setting .result) (frameLater (c .before .before .before .args .long)) (known (c .before)) (c .setting .ensures)
 
@@ -55,7 +47,7 @@ rem-if2 : tie.Need-rem-if2
 rem-if2 c = sizes c .symbols
 
 no-requires-2 : tie.Need-no-requires-2
-no-requires-2 c κs = search needs
+no-requires-2 c κs = tt
 
 returns-2 : tie.Need-returns-2
 returns-2 c = c .no2 .ensures ∙ sym (later (c .before .before) ∙ simp (ne-eqb _ _ (c .before .if2 .taken)))
@@ -67,7 +59,7 @@ mul-if3 : tie.Need-mul-if3
 mul-if3 c = omega (arith, window-small (c .before .setting .result) (sizes (c .before)))
 
 no-requires-3 : tie.Need-no-requires-3
-no-requires-3 c κs = search needs
+no-requires-3 c κs = tt
 
 returns-3 : tie.Need-returns-3
 returns-3 c =
@@ -80,26 +72,26 @@ div-if4 c = sizes (c .before .before) .symbols
 sub-if4 : tie.Need-sub-if4
 sub-if4 c =
     let enough : c .before .before .setting .result .m + 1 ≤ c .before .before .before .before .before .args .long / c .before .before .setting .result .n =
-        le-div-iff-mul-le (sizes (c .before .before) .symbols) .1 (c .if3 .left) in
+    le-div-iff-mul-le (sizes (c .before .before) .symbols) .1 (c .if3 .left) in
     omega arith
 
 no-requires-4 : tie.Need-no-requires-4
-no-requires-4 c κs = search needs
+no-requires-4 c κs = tt
 
 returns-4 : tie.Need-returns-4
 returns-4 c =
     c .no4 .ensures
     ∙ sym (later (c .before .before .before .before)
-      ∙ simp (eq-eqb _ _ (c .before .before .before .if2 .left), le-leb _ _ (c .before .before .if3 .left), lt-leb _ _ (c .before .if4 .taken)))
+    ∙ simp (eq-eqb _ _ (c .before .before .before .if2 .left), le-leb _ _ (c .before .before .if3 .left), lt-leb _ _ (c .before .if4 .taken)))
 
 yes-requires : tie.Need-yes-requires
-yes-requires c κs = search needs
+yes-requires c κs = tt
 
 returns-5 : tie.Need-returns-5
 returns-5 c =
     c .yes .ensures
     ∙ sym (later (c .before .before .before .before)
-      ∙ simp (eq-eqb _ _ (c .before .before .before .if2 .left), le-leb _ _ (c .before .before .if3 .left), le-leb _ _ (c .before .if4 .left)))
+    ∙ simp (eq-eqb _ _ (c .before .before .before .if2 .left), le-leb _ _ (c .before .before .if3 .left), le-leb _ _ (c .before .if4 .left)))
 
 pub frame-questions-spec : {M : Type 1} → statement M
 frame-questions-spec =

@@ -1,0 +1,2 @@
+-- What the test's functions ask of a setting.
+pub mod Lent

@@ -1,0 +1,1 @@
+-- The program is only proved safe: what it tests is proved in `block`.

@@ -1,0 +1,200 @@
+// The block step against plain enumeration: for received blocks of every setting and level, whether it answers just where some information costs
+// less than d_l. Every block of setting 1; of settings 2 and 3 every block whose number is a multiple of a stride.
+// Writes for each setting and level: how many blocks, how many of them near, in how many the two agree.
+ghost use Prim.Native.Nat.{_≤_, _<_};
+ghost use lib.Dec.{T};
+ghost use Rattle.field.specs.Fields.{Good};
+ghost use Rattle.code.specs.Settings.{isSetting, settingOf};
+ghost use Rattle.tables.specs.Tables.{Ready, MatrixOf};
+ghost use Rattle.block.specs.Area.{Area};
+use block::CAPACITY;
+use block::Series;
+use code::Setting;
+use field::Tables;
+use libc::STDOUT_FILENO;
+use tables::Matrix;
+use tables::Rows;
+
+// A number's digits to the base q: its i-th block, or its i-th information.
+fn digits(q: usize, number: usize) -> Series
+    requires { ⌜ Good q ⌝ }
+    ensures { λ r. ⌜ Area q r ⌝ }
+{
+    let mut series = [0u8; CAPACITY];
+    let mut rest = number;
+    let mut i: usize = 0;
+    while i < CAPACITY {
+        series[i] = (rest % q) as u8;
+        rest = rest / q;
+        i += 1;
+    }
+    series
+}
+
+// Whether the information costs less than d_l.
+fn near(
+    p: Setting,
+    products: &Tables,
+    rows: &Rows,
+    information: &Series,
+    l: usize,
+    received: &Series,
+    distance: usize,
+) -> bool
+    requires { ⌜ Ready p (now products) (now rows) × Area (p .q) (now information) × (l ≤ p .m) ⌝ }
+{
+    let n = p.n;
+    let mut cost: usize = 0;
+    let mut i: usize = 0;
+    while i < n {
+        let symbol = tables::product::combination(p, products, rows, information, l, i);
+        let same = received[i] == symbol;
+        i += 1;
+        if same {
+            continue;
+        }
+        cost += 2;
+        if distance <= cost {
+            return false;
+        }
+    }
+    true
+}
+
+// Whether any of the first `count` information words does.
+fn some_near(
+    p: Setting,
+    products: &Tables,
+    rows: &Rows,
+    l: usize,
+    received: &Series,
+    distance: usize,
+    count: usize,
+) -> bool
+    requires { ⌜ Ready p (now products) (now rows) × (l ≤ p .m) ⌝ }
+{
+    let mut x: usize = 0;
+    while x < count {
+        let information = digits(p.q, x);
+        if near(p, products, rows, &information, l, received, distance) {
+            return true;
+        }
+        x += 1;
+    }
+    false
+}
+
+// One block: whether the block step answers with information, and whether enumeration says the same; 1 for yes.
+struct Tally {
+    near: usize,
+    agree: usize,
+}
+
+fn one(
+    p: Setting,
+    products: &Tables,
+    rows: &Rows,
+    matrix: &Matrix,
+    l: usize,
+    distance: usize,
+    count: usize,
+    number: usize,
+) -> Tally
+    requires { ⌜ Ready p (now products) (now rows) × MatrixOf p (now matrix) × (l ≤ p .m) ⌝ }
+    ensures { λ r. ⌜ (r .near ≤ 1) × (r .agree ≤ 1) ⌝ }
+{
+    let n = p.n;
+    let received = digits(p.q, number);
+    let expected = some_near(p, products, rows, l, &received, distance, count);
+    let mut information = [0u8; CAPACITY];
+    let found = block::repair(
+        p,
+        products,
+        rows,
+        matrix,
+        &received[0..n],
+        l,
+        &mut information,
+    );
+    if found {
+        if expected {
+            return Tally { near: 1, agree: 1 };
+        }
+        return Tally { near: 1, agree: 0 };
+    }
+    if expected {
+        return Tally { near: 0, agree: 0 };
+    }
+    Tally { near: 0, agree: 1 }
+}
+
+fn print(number: usize, after: u8) {
+    io::print_decimal(STDOUT_FILENO, number as u64);
+    let mut text = [0u8; 1];
+    text[0] = after;
+    io::write_all(STDOUT_FILENO, &text);
+}
+
+// Every block below `end` whose number is a multiple of the stride.
+fn compare(
+    p: Setting,
+    products: &Tables,
+    rows: &Rows,
+    matrix: &Matrix,
+    l: usize,
+    distance: usize,
+    count: usize,
+    stride: usize,
+    end: usize,
+)
+    requires { ⌜ Ready p (now products) (now rows) × MatrixOf p (now matrix) × (l ≤ p .m) × (0 < stride) × (stride ≤ 4194304) × (end ≤ 4194304) ⌝ }
+{
+    let mut blocks: usize = 0;
+    let mut near: usize = 0;
+    let mut agree: usize = 0;
+    let mut number: usize = 0;
+    while number < end {
+        let tally = one(p, products, rows, matrix, l, distance, count, number);
+        near += tally.near;
+        agree += tally.agree;
+        blocks += 1;
+        number += stride;
+    }
+    print(blocks, b' ');
+    print(near, b' ');
+    print(agree, 10);
+}
+
+// One level of a setting: q^((l+1)k) information words, q^n blocks.
+fn level(number: u32, l: usize, distance: usize, count: usize, stride: usize, end: usize)
+    requires { ⌜ T (isSetting number) × (l ≤ settingOf number .m) × (0 < stride) × (stride ≤ 4194304) × (end ≤ 4194304) ⌝ }
+{
+    let p = tables::setting(number);
+    let products = field::tables();
+    let rows = tables::rows(number);
+    let matrix = tables::matrix(number);
+    print(number as usize, b' ');
+    print(l, b' ');
+    compare(
+        p,
+        &products,
+        &rows,
+        &matrix,
+        l,
+        distance,
+        count,
+        stride,
+        end,
+    );
+}
+
+fn main() {
+    level(1, 0, 4, 5, 1, 625);
+    level(1, 1, 3, 25, 1, 625);
+    level(1, 2, 2, 125, 1, 625);
+    level(2, 0, 6, 64, 523, 2097152);
+    level(2, 1, 4, 4096, 523, 2097152);
+    level(2, 2, 2, 262144, 16001, 2097152);
+    level(3, 0, 5, 512, 523, 2097152);
+    level(3, 1, 2, 262144, 16001, 2097152);
+}

@@ -1,0 +1,42 @@
+// The three functions that a C program calls (include/orderlink.h), thin over the proved library.
+ghost use Rattle.link.specs.Encoding.{Encoded};
+ghost use Rattle.link.specs.Decoding.{Decoded};
+ghost use Rattle.link.specs.Marks.{Marked};
+
+use link::{Answer, Marks};
+
+// struct orderlink_answer orderlink_encode(uint32_t setting, const uint8_t *message, size_t message_len,
+//                                          uint8_t *transmission, size_t transmission_len);
+// Encodes a message; the transmission area holds its transmission, or is unchanged after a refusal.
+#[no_mangle]
+pub extern "C" fn orderlink_encode(setting: u32, message: &[u8], transmission: &mut [u8]) -> Answer
+    ensures { λ r. ⌜ Encoded setting (now (message .entry)) (now (transmission .entry)) r (now (transmission .exit)) ⌝ }
+{
+    link::encode::encode(setting, message, transmission)
+}
+
+// struct orderlink_answer orderlink_decode(uint32_t setting, const uint8_t *reception, size_t reception_len,
+//                                          uint8_t *message, size_t message_len,
+//                                          uint8_t *transmission, size_t transmission_len);
+// Decodes a reception; the areas hold the message that fits and its transmission, zeros if no message fits, or are unchanged after a refusal.
+#[no_mangle]
+pub extern "C" fn orderlink_decode(
+    setting: u32,
+    reception: &[u8],
+    message: &mut [u8],
+    transmission: &mut [u8],
+) -> Answer
+    ensures { λ r. ⌜ Decoded setting (now (reception .entry)) (now (message .entry)) (now (transmission .entry)) r (now (message .exit)) (now (transmission .exit)) ⌝ }
+{
+    link::decode::decode(setting, reception, message, transmission)
+}
+
+// struct orderlink_marks orderlink_marks(uint32_t setting, const uint8_t *reception, size_t reception_len,
+//                                        const uint8_t *transmission, size_t transmission_len, uint64_t j);
+// Marks the differences of a reception and a transmission in window j.
+#[no_mangle]
+pub extern "C" fn orderlink_marks(setting: u32, reception: &[u8], transmission: &[u8], j: u64) -> Marks
+    ensures { λ r. ⌜ Marked setting (now (reception .entry)) (now (transmission .entry)) j r ⌝ }
+{
+    link::mark::marks(setting, reception, transmission, j)
+}

@@ -1,0 +1,142 @@
+-- From what reading a frame promises to what decoding promises.
+-- Holds: `restored-none`, `restored-more`; `frame-decoded-found`, `frame-decoded-none`; `ready-of`; `Receiving`, `receiving`; `decoded-refused`,
+-- `decoded-asked`.
+use mathlib.Core.Path.{_≡_, refl, sym, ap, ap₂, subst, _∙_}
+use mathlib.Core.Bool.{Bool, true, false, not}
+use mathlib.Core.List.{List, _++_}
+use Prim.Native.Nat.{ℕ, _+_, _-_, _*_, _/_, _≤_, _<_}
+use native.Mathlib.Omega.{arith}
+use native.Mathlib.Decide.{ℕ-discrete}
+use lib.Dec.{T, eqb}
+use lib.ListN.{length, getD, drop, set, replicate, length-set}
+use lib.Seq.{ext-getD, getD-set-same, getD-set-other}
+use Rattle.algebra.specs.Ops.{sub}
+use Rattle.algebra.specs.Weight.{countOf}
+use Rattle.field.specs.Fields.{opsOf}
+use Rattle.field.specs.Symbols.{Symbols}
+use Rattle.code.specs.declared.Setting.{Setting}
+use Rattle.field.specs.Tables.{Lent}
+use Rattle.code.specs.Settings.{isSetting, settingOf, Sound}
+use Rattle.code.specs.Windows.{transmission, altered, Fits}
+use Rattle.code.proofs.Lists.{length-tabulate}
+use Rattle.code.proofs.Settings.{soundOf}
+use Rattle.code.proofs.Numbers.{message-blocks}
+use Rattle.tables.specs.Tables.{RowsOf, Ready}
+use Rattle.tables.proofs.Small.{Sizes, smallOf, sizesOf}
+use Rattle.frame.specs.Frame.{NoneFits, FrameRead, fits, none}
+use Rattle.frame.proofs.Ends.{left-altered, left-back}
+use Rattle.link.specs.declared.Answer.{Answer}
+use Rattle.link.specs.Questions.{answer, firstNo, blocksOf, decodingQuestions}
+use Rattle.link.proofs.Answers.{decoding-yes}
+use Rattle.link.specs.Decoding.{Restored, FrameDecoded, frame-found, frame-none, Decoded, refused, found, none-fits}
+
+module _ (q : ℕ) (reception before : List ℕ) where
+  pub restored-none : Restored q 0 reception before before
+  restored-none = record { long = refl; inside = λ i l. absurd (omega arith); outside = λ i l. refl }
+
+  pub restored-more : (i : ℕ) (after : List ℕ) (v : ℕ) → Restored q i reception before after → i < length before
+      → v ≡ sub (opsOf q) (getD reception i 0) (getD after i 0) → Restored q (i + 1) reception before (set after i v)
+  restored-more i after v R l e =
+      record {
+        long = length-set after i v ∙ R .long;
+        inside = λ a h. at a (ℕ-discrete a i) h;
+        outside = λ a h. getD-set-other after i a v 0 (omega arith) ∙ R .outside a (omega arith)
+      }
+    where
+      at : (a : ℕ) → Dec (a ≡ i) → a < i + 1 → getD (set after i v) a 0 ≡ sub (opsOf q) (getD reception a 0) (getD before a 0)
+      at a (yes s) h =
+          let within : i < length after = omega (arith, R .long) in
+          let least : i ≤ i = omega arith in
+          ap (λ (t : ℕ). getD (set after i v) t 0) s ∙ getD-set-same after i v 0 within ∙ e
+          ∙ ap (sub (opsOf q) (getD reception i 0)) (R .outside i least)
+          ∙ ap (λ (t : ℕ). sub (opsOf q) (getD reception t 0) (getD before t 0)) (sym s)
+      at a (no d) h = getD-set-other after i a v 0 d ∙ R .inside a (omega arith)
+
+length-transmission : (p : Setting) → Sound p → (T : ℕ) (reception x : List ℕ) → Fits p T reception x → length (transmission p x) ≡ (T + p .m) * p .n
+unfolding transmission
+length-transmission p S T reception x F =
+    length-tabulate ((length x / p .k + p .m) * p .n) _ ∙ ap (λ (t : ℕ). (t + p .m) * p .n) (message-blocks p S T x (F .message-of))
+
+absurd-bool : false ≡ true → ⊥
+absurd-bool e = subst (λ (b : Bool). T (not b)) e tt
+
+module _ (p : Setting) (T : ℕ) (reception message left : List ℕ) where
+  -- What the frame's reader leaves, if it found a message..
+  pub left-symbols : {r : Bool} → FrameRead p T reception message left r → not r ≡ false → Symbols (p .q) left
+  left-symbols (fits F symbols long residual) h = symbols
+  left-symbols (none far) h = absurd (absurd-bool (sym h))
+
+  pub left-long : {r : Bool} → FrameRead p T reception message left r → not r ≡ false → length left ≡ length reception
+  left-long (fits F symbols long residual) h = long
+  left-long (none far) h = absurd (absurd-bool (sym h))
+
+  -- .. and if it found none.
+  pub frame-decoded-none : {r : Bool} (a : Answer) (cleared emptied : List ℕ) → FrameRead p T reception message left r → not r ≡ true → a ≡ answer 7 0 0
+      → cleared ≡ replicate (T * p .k) 0 → emptied ≡ replicate ((T + p .m) * p .n) 0 → FrameDecoded p T reception a cleared emptied
+  frame-decoded-none a cleared emptied (fits F symbols long residual) h e f g = absurd (absurd-bool h)
+  frame-decoded-none a cleared emptied (none far) h e f g = frame-none far e f g
+
+  pub frame-decoded-found : Sound p → {r : Bool} (restored : List ℕ) (weight : ℕ) → Symbols (p .q) reception → length reception ≡ (T + p .m) * p .n
+      → FrameRead p T reception message left r → not r ≡ false → weight ≡ countOf (length left) (λ i. not (eqb (getD left i 0) 0))
+      → Restored (p .q) (length left) reception left restored → FrameDecoded p T reception (answer 0 0 weight) message restored
+  frame-decoded-found S restored weight R long (none far) h counted back = absurd (absurd-bool (sym h))
+  frame-decoded-found S restored weight R long (fits F symbols same residual) h counted back =
+      frame-found F
+        (ap (answer 0 0) (counted ∙ (ap (λ (t : ℕ). countOf t (λ i. not (eqb (getD left i 0) 0))) (same ∙ long)
+          ∙ sym (left-altered p S T reception message left R (F .message-of) residual))))
+        (ext-getD 0 restored (transmission p message) (back .long ∙ (same ∙ (long ∙ sym (length-transmission p S T reception message F))))
+          (λ i l. back .inside i (omega (arith, back .long)) ∙ left-back p S T reception message left R (F .message-of) residual i (omega (arith, back .long, same, long))))
+
+-- What the functions of a setting are lent.
+pub ready-of : (number : ℕ) (p : Setting) → T (isSetting number) → p ≡ settingOf number → (products : List (List ℕ)) (rows : List ℕ)
+    → Lent products → RowsOf (settingOf number) rows → Ready p products rows
+ready-of number p t e products rows L R =
+    subst (λ (s : Setting). Ready s products rows) (sym e) (record { sound = soundOf number t; small = smallOf number t; products = L; rows = R })
+
+-- What decoding knows of the setting p in hand and the reception, once questions 1 to 6 got "yes".
+pub record Receiving (p : Setting) (reception : List ℕ) (messageRoom transmissionRoom : ℕ) : Type 0 where
+  pub sizes : Sizes p
+  pub blocks : 1 ≤ blocksOf p (length reception)
+  pub most : blocksOf p (length reception) ≤ 512
+  pub long : length reception ≡ (blocksOf p (length reception) + p .m) * p .n
+  pub symbols : Symbols (p .q) reception
+  pub message-room : blocksOf p (length reception) * p .k ≤ messageRoom
+  pub transmission-room : (blocksOf p (length reception) + p .m) * p .n ≤ transmissionRoom
+
+module _ (number : ℕ) (reception message transmitted : List ℕ) where
+  pub receiving : (p : Setting) → p ≡ settingOf number → firstNo (decodingQuestions number reception (length message) (length transmitted)) .number ≡ 0
+      → Receiving p reception (length message) (length transmitted)
+  receiving p e asked =
+      let known = decoding-yes number reception (length message) (length transmitted) asked in
+      subst (λ (s : Setting). Receiving s reception (length message) (length transmitted)) (sym e)
+      (record {
+        sizes = sizesOf number (known .setting);
+        blocks = known .blocks;
+        most = known .most;
+        long = known .long;
+        symbols = known .symbols;
+        message-room = known .message-room;
+        transmission-room = known .transmission-room
+      })
+
+  pub decoded-asked : (p : Setting) → p ≡ settingOf number → firstNo (decodingQuestions number reception (length message) (length transmitted)) .number ≡ 0
+      → {r : Answer} {front sent : List ℕ} → FrameDecoded p (blocksOf p (length reception)) reception r front sent
+      → Decoded number reception message transmitted r (front ++ drop (blocksOf p (length reception) * p .k) message)
+          (sent ++ drop ((blocksOf p (length reception) + p .m) * p .n) transmitted)
+  decoded-asked p e asked {r} {front} {sent} =
+      subst (λ (s : Setting). FrameDecoded s (blocksOf s (length reception)) reception r front sent
+          → Decoded number reception message transmitted r (front ++ drop (blocksOf s (length reception) * s .k) message)
+              (sent ++ drop ((blocksOf s (length reception) + s .m) * s .n) transmitted)) (sym e) whole
+    where
+      whole : FrameDecoded (settingOf number) (blocksOf (settingOf number) (length reception)) reception r front sent
+          → Decoded number reception message transmitted r (front ++ drop (blocksOf (settingOf number) (length reception) * settingOf number .k) message)
+              (sent ++ drop ((blocksOf (settingOf number) (length reception) + settingOf number .m) * settingOf number .n) transmitted)
+      whole (frame-found F a t) =
+          found asked front F a refl (ap (λ (l : List ℕ). l ++ drop ((blocksOf (settingOf number) (length reception) + settingOf number .m) * settingOf number .n) transmitted) t)
+      whole (frame-none far a f t) =
+          none-fits asked far a (ap (λ (l : List ℕ). l ++ drop (blocksOf (settingOf number) (length reception) * settingOf number .k) message) f)
+            (ap (λ (l : List ℕ). l ++ drop ((blocksOf (settingOf number) (length reception) + settingOf number .m) * settingOf number .n) transmitted) t)
+
+  pub decoded-refused : (r : Answer) → r ≡ firstNo (decodingQuestions number reception (length message) (length transmitted)) → (r .number ≡ 0 → ⊥)
+      → Decoded number reception message transmitted r message transmitted
+  decoded-refused r e h = refused (λ z. h (ap (λ (a : Answer). a .number) e ∙ z)) e refl refl

@@ -1,0 +1,109 @@
+-- `link::decode::decode`: refused by the first "no", or what question 7 says in front of what the areas held.
+use mathlib.Core.Path.{_≡_, sym, ap, _∙_}
+use native.Mathlib.Nat.{sub-le}
+use native.Mathlib.Omega.{arith}
+use borrow.Author.Needs.{needs}
+use denote.Ref.{now}
+use lib.ListN.{length}
+use lib.Seq.{length-take-le}
+use Rattle.link.specs.Questions.{firstNo, decodingQuestions}
+use Rattle.link.proofs.Answers.{decoding-yes}
+use Rattle.link.proofs.Decoding.{Receiving, receiving, decoded-refused, decoded-asked}
+use Rattle.link.proofs.decode.decode.Statement.{statement}
+use Rattle.link.proofs.decode.decode.Tie as tie
+
+decoding-questions-requires : tie.Need-decoding-questions-requires
+decoding-questions-requires c κs = search needs
+
+returns : tie.Need-returns
+returns c =
+    let a = c .before .before .before .before .before .before .args in
+    decoded-refused (a .setting) (now (a .reception)) (now (a .message)) (now (a .transmission)) (c .before .before .decoding-questions .result) (c .before .before .decoding-questions .ensures) (c .if1 .taken)
+
+-- Questions 1 to 6 got "yes".
+asked : (c : tie.Else1)
+    → firstNo (decodingQuestions (c .before .before .before .before .before .before .args .setting) (now (c .before .before .before .before .before .before .args .reception)) (length (now (c .before .before .before .before .before .before .args .message))) (length (now (c .before .before .before .before .before .before .args .transmission)))) .number ≡ 0
+asked c = ap (λ a. a .number) (sym (c .before .before .decoding-questions .ensures)) ∙ c .if1 .left
+
+setting-requires : tie.Need-setting-requires
+setting-requires c κs =
+    let a = c .before .before .before .before .before .before .args in
+    decoding-yes (a .setting) (now (a .reception)) (length (now (a .message))) (length (now (a .transmission))) (asked c) .setting
+
+known : (c : tie.After-setting) → Receiving (c .setting .result) (now (c .before .before .before .before .before .before .before .args .reception)) (length (now (c .before .before .before .before .before .before .before .args .message))) (length (now (c .before .before .before .before .before .before .before .args .transmission)))
+known c =
+    let a = c .before .before .before .before .before .before .before .args in
+    receiving (a .setting) (now (a .reception)) (now (a .message)) (now (a .transmission)) (c .setting .result) (c .setting .ensures) (asked (c .before))
+
+div-blocks : tie.Need-div-blocks
+div-blocks c = known c .sizes .symbols
+
+sub-blocks : tie.Need-sub-blocks
+sub-blocks c = omega (arith, known c .blocks)
+
+mul-short : tie.Need-mul-short
+mul-short c = omega (arith, known c .message-room)
+
+add-long : tie.Need-add-long
+add-long c = omega (arith, known c .most, known c .sizes .memory-most)
+
+mul-long : tie.Need-mul-long
+mul-long c = omega (arith, known c .transmission-room)
+
+slice-relend-prefix-decode-frame : tie.Need-slice-relend-prefix-decode-frame
+slice-relend-prefix-decode-frame c = known c .message-room
+
+slice-aggregate-decode-frame : tie.Need-slice-aggregate-decode-frame
+slice-aggregate-decode-frame c = sym (length-take-le _ _ (known (c .before) .message-room))
+
+slice-relend-prefix-decode-frame-2 : tie.Need-slice-relend-prefix-decode-frame-2
+slice-relend-prefix-decode-frame-2 c = known (c .before) .transmission-room
+
+slice-aggregate-decode-frame-2 : tie.Need-slice-aggregate-decode-frame-2
+slice-aggregate-decode-frame-2 c = sym (length-take-le _ _ (known (c .before .before) .transmission-room))
+
+decode-frame-requires : tie.Need-decode-frame-requires
+decode-frame-requires c κs =
+    let a = c .before .before .before .before .before .before .before .before .before .args in
+    let k = known (c .before .before) in
+    ( decoding-yes (a .setting) (now (a .reception)) (length (now (a .message))) (length (now (a .transmission))) (asked (c .before .before .before)) .setting
+    , c .before .before .setting .ensures
+    , k .blocks
+    , k .most
+    , k .long
+    , k .symbols
+    , length-take-le _ _ (k .message-room)
+    , length-take-le _ _ (k .transmission-room) ∙ sym (k .long)
+    )
+
+same-length : tie.Need-same-length
+same-length c = search needs
+
+same-length-2 : tie.Need-same-length-2
+same-length-2 c = search needs
+
+returns-2 : tie.Need-returns-2
+returns-2 c =
+    let a = c .before .before .before .before .before .before .before .before .before .before .before .before .before .before .args in
+    decoded-asked (a .setting) (now (a .reception)) (now (a .message)) (now (a .transmission)) (c .before .before .before .before .before .before .before .setting .result) (c .before .before .before .before .before .before .before .setting .ensures) (asked (c .before .before .before .before .before .before .before .before)) (c .before .before .before .before .decode-frame .ensures)
+
+pub decode-spec : {M : Type 1} → statement M
+decode-spec =
+    tie.close
+    (tie.spec
+    decoding-questions-requires
+    returns
+    setting-requires
+    div-blocks
+    sub-blocks
+    mul-short
+    add-long
+    mul-long
+    slice-relend-prefix-decode-frame
+    slice-aggregate-decode-frame
+    slice-relend-prefix-decode-frame-2
+    slice-aggregate-decode-frame-2
+    decode-frame-requires
+    same-length
+    same-length-2
+    returns-2)

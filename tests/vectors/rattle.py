@@ -1,0 +1,41 @@
+#!/usr/bin/env python3
+"""Makes crates/link_test/stdin and stdout from base/calls.jsonl: the calls' arguments, and what the program must write.
+
+A line of stdin: the call's letter, the setting, j, the lengths of three areas and the areas, all in hexadecimal (crates/link_test/src/main.rt).
+A line of stdout: number, place and count of the answer in decimal, then what the call returned and what it left in the areas.
+Run it where it stands; `--check` only says whether the files are up to date."""
+import json, os, sys
+
+here = os.path.dirname(os.path.abspath(__file__))
+crate = os.path.join(here, "..", "..", "crates", "link_test")
+
+# The call's letter, its areas, and what it writes after the answer.
+CALLS = {
+    "encode": ("E", lambda a: (a["message"], "", a["tarea"]), lambda r: [r["transmission"]]),
+    "window": ("W", lambda a: (a["reception"], "", ""), lambda r: [r["part"]]),
+    "marks": ("M", lambda a: (a["reception"], a["transmission"], ""), lambda r: [str(r["marks"]), str(r["ones"])]),
+}
+
+given, expected = [], []
+with open(os.path.join(here, "base", "calls.jsonl")) as lines:
+    for call in map(json.loads, lines):
+        if call["call"] not in CALLS:
+            continue
+        letter, areas, returned = CALLS[call["call"]]
+        arguments, result = call["args"], call["result"]
+        held = areas(arguments)
+        head = [letter, "%08x" % arguments["number"], "%016x" % arguments.get("j", 0), *("%04x" % (len(area) // 2) for area in held)]
+        given.append(" ".join(head) + " " + "".join(held) + "\n")
+        answer = result["answer"]
+        expected.append(" ".join([str(answer[name]) for name in ("number", "place", "count")] + returned(result)) + "\n")
+
+stale = False
+for name, text in (("stdin", "".join(given)), ("stdout", "".join(expected))):
+    path = os.path.join(crate, name)
+    if "--check" not in sys.argv:
+        with open(path, "w") as f:
+            f.write(text)
+    elif not os.path.exists(path) or open(path).read() != text:
+        print(f"{name} is not what rattle.py makes")
+        stale = True
+sys.exit(stale)
