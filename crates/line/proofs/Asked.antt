@@ -41,6 +41,7 @@ characters-yes line e =
 
 -- Questions 11, 9, 1, 3 and 10 got "yes".
 pub record HeadYes (line : List ℕ) : Type 0 where
+  pub characters : length line ≤ mostCharacters
   pub least : 4 ≤ length line
   pub setting : T (isSetting (settingIn line))
   pub blocks : 1 ≤ blocksIn line
@@ -54,6 +55,7 @@ head-yes line e =
     let p = settingOf (settingIn line) in
     let shape = all .1 .1 .1 .1 .0 in
     record {
+      characters = leb→le (length line) mostCharacters (all .0);
       least = leb→le 4 (length line) (and-left (leb 4 (length line)) (eqb (digitsTo line) (length line)) (all .1 .0));
       setting = all .1 .1 .0;
       blocks = leb→le 1 T (and-left (leb 1 T) (eqb (length line - 4) ((T + p .m) * p .n)) shape);

@@ -3,3 +3,4 @@ pub mod Digits
 pub mod Numbers
 pub mod Placed
 pub mod Asked
+pub mod Frames

@@ -1,12 +1,12 @@
 -- What answering a line promises (01, "Lines at the planning desk"). Holds: `refusal` and `success`, the two kinds of output line; `Answers`, which of
--- them a line gets; `Placed` and `Shown`, a text in a lent area; `Answered`.
+-- them a line gets; `Placed` and `Shown`, a text in a lent area; `Answered`. `FrameAnswered` is what its parts promise one another.
 use mathlib.Core.Path.{_≡_}
 use mathlib.Core.List.{List, _++_, map}
-use Prim.Native.Nat.{ℕ, _≤_}
+use Prim.Native.Nat.{ℕ, _*_, _≤_}
 use lib.Dec.{leb}
-use lib.ListN.{length, drop}
+use lib.ListN.{length, take, drop}
 use Rattle.algebra.specs.Ops.{pick}
-use Rattle.code.specs.declared.Setting.{Setting}
+use Rattle.field.specs.Symbols.{Symbols}
 use Rattle.code.specs.Settings.{settingOf}
 use Rattle.code.specs.Windows.{transmission, altered, Fits}
 use Rattle.link.specs.declared.Answer.{Answer}
@@ -41,6 +41,16 @@ pub data Answers (line text : List ℕ) : Type 0 where
       → text ≡ success (alteredIn line x) (settingIn line) (blocksIn line) x → Answers line text
   -- No message fits.
   none-fits : firstNo (lineQuestions line) .number ≡ 0 → ((x : List ℕ) → FitsIn line x → ⊥) → text ≡ refusal (answer 7 0 0) → Answers line text
+
+-- The part of a message area that a message of the line's setting and T takes.
+abbrev pub messageIn : List ℕ → List ℕ → List ℕ
+messageIn line area = take (blocksIn line * settingOf (settingIn line) .k) area
+
+-- What decoding the line's frame leaves for writing, where questions 11, 9, 1, 3 and 10 got "yes": the answer, and the message area.
+pub record FrameAnswered (line : List ℕ) (r : Answer) (area : List ℕ) : Type 0 where
+  pub refusal-is : (r .number ≡ 0 → ⊥) → Answers line (refusal r)
+  pub success-is : r .number ≡ 0 → Answers line (success (r .altered) (settingIn line) (blocksIn line) (messageIn line area))
+  pub symbols : r .number ≡ 0 → Symbols 16 (messageIn line area)
 
 -- A text at the front of an area, and then what the area held before.
 pub record Placed (text before after : List ℕ) : Type 0 where
