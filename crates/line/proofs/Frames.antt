@@ -1,6 +1,7 @@
 -- The frame of a line whose questions 11, 9, 1, 3 and 10 got "yes", from decoding to the line's answer.
 -- Holds: `symbols-long`, `blocks-is` (the reception's length and T); `decoding-asked` (decoding's questions ask what is left, 4);
--- `frame-answered` (what decoding gives); `head-refused`; `read-frame` (the symbols that were read).
+-- `frame-answered` (what decoding gives); `head-refused`; `read-frame` (the symbols that were read); `answered-most` (an output line's
+-- length).
 use mathlib.Core.Path.{_≡_, refl, sym, ap, ap₂, subst, _∙_}
 use mathlib.Core.Bool.{Bool, true, false, _&&_}
 use mathlib.Core.List.{List, [], _∷_, _++_, map}
@@ -8,10 +9,11 @@ use Prim.Native.Nat.{ℕ, _+_, _-_, _*_, _/_, _%_, _≤_, _<_}
 use native.Mathlib.Nat.{mul-le-mul-right, le-trans, lt-of-lt-of-le}
 use native.Mathlib.Omega.{arith}
 use lib.Arith.{digits-div, digits-mod}
-use lib.Dec.{T, eqb, leb, lit≤}
+use lib.Dec.{T, eqb, leb, lit≤, leb→le}
 use lib.ListN.{length, getD, take, drop, length-map, length-drop}
 use lib.Seq.{take-at, take-all}
 use borrow.Author.Tests.{eq-eqb, le-leb}
+use Rattle.algebra.specs.Ops.{pick}
 use Rattle.field.specs.Symbols.{Symbols}
 use Rattle.code.specs.declared.Setting.{Setting}
 use Rattle.code.specs.Settings.{isSetting, settingOf}
@@ -21,11 +23,12 @@ use Rattle.tables.proofs.Small.{Sizes, sizesOf, smallOf}
 use Rattle.link.specs.declared.Answer.{Answer}
 use Rattle.link.specs.Questions.{Question, ask, answer, firstNo, mostBlocks, blocksOf, symbolsTo, symbolQuestion, transmissionQuestion, frameQuestions, decodingQuestions}
 use Rattle.link.specs.Decoding.{Decoded, refused as decoding-refused, found as decoding-found, none-fits as decoding-none}
-use Rattle.link.proofs.Answers.{append-yes, message-small, transmission-small}
+use Rattle.link.proofs.Answers.{all-yes, append-yes, message-small, transmission-small}
 use Rattle.line.specs.Characters.{digitOf}
 use Rattle.line.specs.Questions.{settingIn, blocksIn, symbolsIn, characterQuestions, headQuestions, lineQuestions}
-use Rattle.line.specs.Answering.{refusal, success, FitsIn, alteredIn, messageIn, Answers, refused, found, none-fits, FrameAnswered}
+use Rattle.line.specs.Answering.{refusal, success, FitsIn, alteredIn, messageIn, Answers, refused, found, none-fits, FrameAnswered, Answered}
 use Rattle.line.proofs.Asked.{HeadYes, head-yes, after-head, in-head}
+use Rattle.line.proofs.Placed.{six, success-long}
 
 true-of : (t : Bool) → T t → t ≡ true
 true-of true h = refl
@@ -164,3 +167,25 @@ pub read-frame : (line area : List ℕ) → take (length (take (length line - 4)
 read-frame line area e =
     let all : take (length line - 4) (drop 4 line) ≡ drop 4 line = take-all (length line - 4) (drop 4 line) (omega (arith, length-drop 4 line)) in
     ap (λ (t : ℕ). take t area) (sym (ap length all ∙ length-drop 4 line)) ∙ (e ∙ ap (map digitOf) all)
+
+-- An output line has at most 1,546 characters, those of a success line of 512 blocks of three symbols.
+answers-most : (line text : List ℕ) → Answers line text → length text ≤ 1546
+answers-most line text (refused h e) = omega (arith, ap length e, six (firstNo (lineQuestions line) .number) (firstNo (lineQuestions line) .place))
+answers-most line text (found h x f e) =
+    let all = all-yes (lineQuestions line) tt h in
+    let few : blocksIn line ≤ mostBlocks = leb→le (blocksIn line) mostBlocks (all .1 .1 .1 .0) in
+    omega
+    ( arith
+    , ap length e
+    , success-long (alteredIn line x) (settingIn line) (blocksIn line) x
+    , f .message-of .long
+    , message-small (settingOf (settingIn line)) (blocksIn line) (sizesOf (settingIn line) (all .1 .1 .0)) few
+    )
+answers-most line text (none-fits h none e) = omega (arith, ap length e, six 7 0)
+
+pub answered-most : (line before : List ℕ) (r : ℕ) (after : List ℕ) → Answered line before r after → r ≤ 1546
+answered-most line before r after a = at (leb (length (a .text)) (length before)) (a .shown .long)
+  where
+    at : (t : Bool) → r ≡ pick t (length (a .text)) 0 → r ≤ 1546
+    at true e = omega (arith, answers-most line (a .text) (a .answers))
+    at false e = omega arith
