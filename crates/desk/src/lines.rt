@@ -26,7 +26,7 @@ pub fn send(output: &[u8], filled: usize, open: bool) -> bool
     if !open {
         return false;
     }
-    io::write_all(STDOUT_FILENO, &output[..filled])
+    io::write_all(STDOUT_FILENO, &output[0..filled])
 }
 
 // Keeps a part of a line behind the characters that are kept already, as far as there is room: one character more than a line may have.
@@ -36,7 +36,7 @@ fn keep(part: &[u8], line: &mut [u8], held: usize) -> usize
 {
     let room = line.len() - held;
     if room < part.len() {
-        bytes::copy(&part[..room], &mut line[held..]);
+        bytes::copy(&part[0..room], &mut line[held..]);
         return line.len();
     }
     bytes::copy(part, &mut line[held..]);
@@ -74,8 +74,8 @@ pub fn answer(line: &[u8], output: &mut [u8], filled: usize, open: bool) -> Wait
 
 // Reads on to the next newline and answers its line, or to the end of the buffer.
 fn step(buffer: &[u8], line: &mut [u8], output: &mut [u8], progress: Progress) -> Progress
-    requires { ⌜ Kept (now buffer) (now line) (now output) progress × (progress .from < length (now buffer)) ⌝ }
-    ensures { λ r. ⌜ Kept (now (buffer .entry)) (now (line .entry)) (now (output .entry)) r × (progress .from < r .from) ⌝ }
+    requires { ⌜ Kept (length (now buffer)) (length (now line)) (length (now output)) progress × (progress .from < length (now buffer)) ⌝ }
+    ensures { λ r. ⌜ Kept (length (now (buffer .entry))) (length (now (line .entry))) (length (now (output .entry))) r × (progress .from < r .from) ⌝ }
 {
     let from = progress.from;
     let to = bytes::scan::find(buffer, from, buffer.len(), b'\n');
@@ -88,7 +88,7 @@ fn step(buffer: &[u8], line: &mut [u8], output: &mut [u8], progress: Progress) -
             open: progress.open,
         };
     }
-    let waiting = answer(&line[..held], output, progress.filled, progress.open);
+    let waiting = answer(&line[0..held], output, progress.filled, progress.open);
     Progress {
         from: to + 1,
         held: 0,
@@ -100,7 +100,7 @@ fn step(buffer: &[u8], line: &mut [u8], output: &mut [u8], progress: Progress) -
 // Answers every line that ends in the buffer, and keeps what follows.
 pub fn lines_in(buffer: &[u8], line: &mut [u8], held: usize, output: &mut [u8]) -> Progress
     requires { ⌜ (held ≤ length (now line)) × (1547 ≤ length (now output)) ⌝ }
-    ensures { λ r. ⌜ Kept (now (buffer .entry)) (now (line .entry)) (now (output .entry)) r ⌝ }
+    ensures { λ r. ⌜ Kept (length (now (buffer .entry))) (length (now (line .entry))) (length (now (output .entry))) r ⌝ }
 {
     let mut progress = Progress {
         from: 0,

@@ -6,26 +6,26 @@ ghost use Prim.Native.Nat.{_≤_, _<_};
 ghost use lib.ListN.{length};
 
 // What a turn leaves: how many characters of an unfinished line are kept, and whether to read on.
-struct Turn {
+struct After {
     held: usize,
     more: bool,
 }
 
 // One read, the lines that it ends, and one write.
-fn turn(input: &mut [u8], line: &mut [u8], held: usize, output: &mut [u8]) -> Turn
+fn turn(input: &mut [u8], line: &mut [u8], held: usize, output: &mut [u8]) -> After
     requires { ⌜ (held ≤ length (now line)) × (1547 ≤ length (now output)) ⌝ }
     ensures { λ r. ⌜ r .held ≤ length (now (line .entry)) ⌝ }
 {
     let got = libc::read(STDIN_FILENO, input);
     let n = io::count(got, input);
     if n == 0 {
-        return Turn { held: held, more: false };
+        return After { held: held, more: false };
     }
     let progress = lines::lines_in(&input[..n], line, held, output);
     if !lines::send(output, progress.filled, progress.open) {
-        return Turn { held: 0, more: false };
+        return After { held: 0, more: false };
     }
-    Turn {
+    After {
         held: progress.held,
         more: true,
     }
@@ -49,7 +49,7 @@ fn finish(line: &mut [u8], held: usize, output: &mut [u8])
     if held == 0 {
         return;
     }
-    let waiting = lines::answer(&line[..held], output, 0, true);
+    let waiting = lines::answer(&line[0..held], output, 0, true);
     lines::send(output, waiting.filled, waiting.open);
 }
 
