@@ -2,7 +2,6 @@
 ghost use Prim.Native.Nat.{_+_, _≤_, _<_};
 ghost use lib.ListN.{length};
 ghost use Rattle.desk.specs.Reading.{Kept};
-
 use libc::STDOUT_FILENO;
 
 // How much output waits to be written, and whether every write so far went through.

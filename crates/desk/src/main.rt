@@ -19,11 +19,17 @@ fn turn(input: &mut [u8], line: &mut [u8], held: usize, output: &mut [u8]) -> Af
     let got = libc::read(STDIN_FILENO, input);
     let n = io::count(got, input);
     if n == 0 {
-        return After { held: held, more: false };
+        return After {
+            held: held,
+            more: false,
+        };
     }
     let progress = lines::lines_in(&input[..n], line, held, output);
     if !lines::send(output, progress.filled, progress.open) {
-        return After { held: 0, more: false };
+        return After {
+            held: 0,
+            more: false,
+        };
     }
     After {
         held: progress.held,

@@ -34,9 +34,9 @@ after-setting line number blocks p e b known s =
 -- Questions 11 and 9 got "yes".
 pub characters-yes : (line : List ℕ) → firstNo (characterQuestions line) .number ≡ 0 → (length line ≤ mostCharacters) × (4 ≤ length line)
 characters-yes line e =
-    let all = all-yes (characterQuestions line) tt e in
-    ( leb→le (length line) mostCharacters (all .0)
-    , leb→le 4 (length line) (and-left (leb 4 (length line)) (eqb (digitsTo line) (length line)) (all .1 .0))
+    let all = all-yes (characterQuestions line) tt e in (
+      leb→le (length line) mostCharacters (all .0),
+      leb→le 4 (length line) (and-left (leb 4 (length line)) (eqb (digitsTo line) (length line)) (all .1 .0)),
     )
 
 -- Questions 11, 9, 1, 3 and 10 got "yes".
@@ -60,7 +60,7 @@ head-yes line e =
       setting = all .1 .1 .0;
       blocks = leb→le 1 T (and-left (leb 1 T) (eqb (length line - 4) ((T + p .m) * p .n)) shape);
       most = leb→le T mostBlocks (all .1 .1 .1 .0);
-      long = eqb→eq (length line - 4) ((T + p .m) * p .n) (and-right (leb 1 T) (eqb (length line - 4) ((T + p .m) * p .n)) shape)
+      long = eqb→eq (length line - 4) ((T + p .m) * p .n) (and-right (leb 1 T) (eqb (length line - 4) ((T + p .m) * p .n)) shape);
     }
 
 -- Then question 4 is left; otherwise the first "no" of those is the line's.

@@ -49,12 +49,15 @@ digit-most c = low (decLt c 48)
     high : 97 ≤ c → Dec (c ≤ 102) → digitOf c ≤ 16
     high h (yes g) = omega (arith, digit-letter c h g)
     high h (no g) = let more : 102 < c = omega arith in omega (arith, digit-high c more)
+
     between : 57 < c → Dec (c < 97) → digitOf c ≤ 16
     between h (yes g) = omega (arith, digit-between c h g)
     between h (no g) = high (omega arith) (decLe c 102)
+
     number : 48 ≤ c → Dec (c ≤ 57) → digitOf c ≤ 16
     number h (yes g) = omega (arith, digit-number c h g)
     number h (no g) = between (omega arith) (decLt c 97)
+
     low : Dec (c < 48) → digitOf c ≤ 16
     low (yes h) = omega (arith, digit-low c h)
     low (no h) = number (omega arith) (decLe c 57)

@@ -52,7 +52,7 @@ module _ (line : List ℕ) (yes : HeadYes line) where
   pub blocks-is : blocksOf p (length (symbolsIn line)) ≡ blocksIn line
   blocks-is =
       let blocks : length (symbolsIn line) / p .n ≡ blocksIn line + p .m =
-          ap (λ (t : ℕ). t / p .n) symbols-long ∙ whole-frame (blocksIn line) (p .m) (p .n) (sizes .symbols) .1 in
+      ap (λ (t : ℕ). t / p .n) symbols-long ∙ whole-frame (blocksIn line) (p .m) (p .n) (sizes .symbols) .1 in
       omega arith
 
   -- Questions 1 to 3 of decoding get "yes".
@@ -82,7 +82,7 @@ module _ (line : List ℕ) (yes : HeadYes line) where
       (symbolQuestion (p .q) (symbolsIn line) ∷ ask 5 (leb (T * p .k) messageRoom) ∷ transmissionQuestion p T transmissionRoom ∷ []) tt
       (ap (λ (a : Answer). a .number) frame-asked)
       ∙ last (symbolQuestion (p .q) (symbolsIn line)) (leb (T * p .k) messageRoom) (leb ((T + p .m) * p .n) transmissionRoom) (le-leb (T * p .k) messageRoom message)
-        (le-leb ((T + p .m) * p .n) transmissionRoom sent)
+      (le-leb ((T + p .m) * p .n) transmissionRoom sent)
     where
       last : (x : Question) (a b : Bool) → a ≡ true → b ≡ true → firstNo (x ∷ ask 5 a ∷ ask 6 b ∷ []) ≡ firstNo (x ∷ [])
       last x a b ea eb = simp (ea, eb)
@@ -110,13 +110,13 @@ module _ (line : List ℕ) (asked : firstNo (characterQuestions line ++ headQues
       → area ≡ x ++ rest → FrameAnswered line r area
   found-answered x rest area r h f e a =
       let front : messageIn line area ≡ x =
-          ap (messageIn line) a ∙ take-at x rest (blocksIn line * setting .k) (f .message-of .long) in
+      ap (messageIn line) a ∙ take-at x rest (blocksIn line * setting .k) (f .message-of .long) in
       let small : Symbols 16 x =
-          record { below = λ i l. lt-of-lt-of-le (f .message-of .symbols .below i l) (le-trans (smallOf (settingIn line) (yes-of .setting) .elements) (lit≤ tt)) } in
+      record { below = λ i l. lt-of-lt-of-le (f .message-of .symbols .below i l) (le-trans (smallOf (settingIn line) (yes-of .setting) .elements) (lit≤ tt)) } in
       record {
         refusal-is = λ z. absurd (z (ap (λ (a : Answer). a .number) e));
         success-is = λ z. found h x f (ap₂ (λ (a : Answer) (y : List ℕ). success (a .altered) (settingIn line) (blocksIn line) y) e front);
-        symbols = λ z. subst (Symbols 16) (sym front) small
+        symbols = λ z. subst (Symbols 16) (sym front) small;
       }
 
   decoded-answered : (message transmitted : List ℕ) (r : Answer) (message' transmitted' : List ℕ) → 1536 ≤ length message → 3598 ≤ length transmitted
@@ -127,7 +127,7 @@ module _ (line : List ℕ) (asked : firstNo (characterQuestions line ++ headQues
       record {
         refusal-is = λ z. refused (λ z. h (ap (λ (a : Answer). a .number) same ∙ z)) (ap refusal (e ∙ same));
         success-is = λ z. absurd (never z);
-        symbols = λ z. absurd (never z)
+        symbols = λ z. absurd (never z);
       }
   decoded-answered message transmitted r message' transmitted' m t (decoding-found h x f e a b) =
       let same = same-answer (length message) (length transmitted) m t in
@@ -139,7 +139,7 @@ module _ (line : List ℕ) (asked : firstNo (characterQuestions line ++ headQues
       record {
         refusal-is = λ z. none-fits (ap (λ (a : Answer). a .number) (sym same) ∙ h) (λ x f. none x (fits-there x f)) (ap refusal e);
         success-is = λ z. absurd (never z);
-        symbols = λ z. absurd (never z)
+        symbols = λ z. absurd (never z);
       }
     where
       seven : _≡_ {A = ℕ} 7 0 → ⊥
@@ -174,12 +174,12 @@ answers-most line text (refused h e) = omega (arith, ap length e, six (firstNo (
 answers-most line text (found h x f e) =
     let all = all-yes (lineQuestions line) tt h in
     let few : blocksIn line ≤ mostBlocks = leb→le (blocksIn line) mostBlocks (all .1 .1 .1 .0) in
-    omega
-    ( arith
-    , ap length e
-    , success-long (alteredIn line x) (settingIn line) (blocksIn line) x
-    , f .message-of .long
-    , message-small (settingOf (settingIn line)) (blocksIn line) (sizesOf (settingIn line) (all .1 .1 .0)) few
+    omega (
+      arith,
+      ap length e,
+      success-long (alteredIn line x) (settingIn line) (blocksIn line) x,
+      f .message-of .long,
+      message-small (settingOf (settingIn line)) (blocksIn line) (sizesOf (settingIn line) (all .1 .1 .0)) few,
     )
 answers-most line text (none-fits h none e) = omega (arith, ap length e, six 7 0)
 

@@ -32,15 +32,19 @@ placed-part done part before area from to start long order room w =
   where
     front : take from area ≡ done
     front = ap (take from) (w .is) ∙ take-at done (drop (length done) before) from start
+
     place : to ≡ length done + length part
     place = omega arith
+
     both : length (done ++ part) ≡ to
     both = omega (arith, length-append done part)
+
     rest : drop to area ≡ drop (length (done ++ part)) before
     rest =
         ap₂ (λ (t : ℕ) (l : List ℕ). drop t l) place (w .is)
         ∙ (drop-append-add done (drop (length done) before) (length part)
         ∙ (drop-drop (length part) (length done) before ∙ ap (λ (t : ℕ). drop t before) (sym (length-append done part))))
+
     whole : putMid from (to - from) area part ≡ (done ++ part) ++ drop (length (done ++ part)) before
     whole =
         ap₂ (λ (a b : List ℕ). a ++ (part ++ b)) front (post-is from to area order ∙ rest)
@@ -78,7 +82,7 @@ shown-whole text before area r e w =
     let room : leb (length text) (length before) ≡ true = le-leb (length text) (length before) (w .room) in
     record {
       long = sym (ap (λ (t : Bool). pick t (length text) 0) room ∙ e);
-      area = w .is ∙ sym (ap (λ (t : Bool). pick t (text ++ drop (length text) before) before) room)
+      area = w .is ∙ sym (ap (λ (t : Bool). pick t (text ++ drop (length text) before) before) room);
     }
 
 pub shown-none : (text before : List ℕ) → length before < length text → Shown text before 0 before
@@ -86,7 +90,7 @@ shown-none text before h =
     let none : leb (length text) (length before) ≡ false = lt-leb (length text) (length before) h in
     record {
       long = sym (ap (λ (t : Bool). pick t (length text) 0) none);
-      area = sym (ap (λ (t : Bool). pick t (text ++ drop (length text) before) before) none)
+      area = sym (ap (λ (t : Bool). pick t (text ++ drop (length text) before) before) none);
     }
 
 -- A success line: its length, and its message written behind the opening.

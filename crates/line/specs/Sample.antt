@@ -1,7 +1,8 @@
--- 01's sample of refused lines ("The desk program's input"), computed.
+-- 01's sample of refused lines ("The desk program's input"), computed; and three more: a line one character too long, a wrong character, a short line.
 use mathlib.Core.Path.{_≡_, refl}
 use mathlib.Core.List.{List, [], _∷_, map}
 use Prim.Native.Nat.{ℕ}
+use lib.ListN.{replicate}
 use Rattle.link.specs.Questions.{firstNo, symbolsTo}
 use Rattle.line.specs.Characters.{digitOf, characterOf, hex}
 use Rattle.line.specs.Questions.{lineQuestions}
@@ -30,3 +31,17 @@ sample-blocks = refl
 pub sample-length : Refused (1 ∷ 0 ∷ 0 ∷ 1 ∷ 2 ∷ 4 ∷ 3 ∷ []) (0 ∷ 10 ∷ 0 ∷ 0 ∷ 0 ∷ 0 ∷ [])
 unfolding digitOf characterOf hex symbolsTo
 sample-length = refl
+
+-- All letters z: question 11 comes before 9.
+pub sample-long : refusal (firstNo (lineQuestions (replicate 3603 122))) ≡ map characterOf (0 ∷ 11 ∷ 0 ∷ 0 ∷ 0 ∷ 0 ∷ [])
+unfolding digitOf characterOf hex symbolsTo
+sample-long = refl
+
+-- "12g" and "12": the first wrong character, else the length.
+pub sample-wrong : refusal (firstNo (lineQuestions (49 ∷ 50 ∷ 103 ∷ []))) ≡ map characterOf (0 ∷ 9 ∷ 0 ∷ 0 ∷ 0 ∷ 2 ∷ [])
+unfolding digitOf characterOf hex symbolsTo
+sample-wrong = refl
+
+pub sample-short : Refused (1 ∷ 2 ∷ []) (0 ∷ 9 ∷ 0 ∷ 0 ∷ 0 ∷ 2 ∷ [])
+unfolding digitOf characterOf hex symbolsTo
+sample-short = refl

@@ -6,7 +6,6 @@ ghost use lib.ListN.{length};
 ghost use Rattle.link.specs.Questions.{answer, firstNo};
 ghost use Rattle.line.specs.Characters.{digitOf};
 ghost use Rattle.line.specs.Questions.{settingIn, blocksIn, characterQuestions, headQuestions};
-
 use super::characters;
 use link::Answer;
 

@@ -6,7 +6,6 @@ ghost use lib.ListN.{length};
 ghost use Rattle.field.specs.Symbols.{Symbols};
 ghost use Rattle.line.specs.Characters.{characterOf, hex};
 ghost use Rattle.line.specs.Answering.{refusal, opening, success, Placed, Shown};
-
 use super::characters;
 use link::Answer;
 

@@ -26,7 +26,7 @@ returns c =
     record {
       text = _;
       answers = head-refused (now (c .before .before .before .before .before .before .before .before .before .args .line)) (c .before .before .before .before .before .before .frame-questions .result) (c .before .before .before .before .before .before .frame-questions .ensures) (c .before .before .before .before .if1 .taken);
-      shown = c .before .before .write-refusal .ensures
+      shown = c .before .before .write-refusal .ensures;
     }
 
 -- Questions 11, 9, 1, 3 and 10 got "yes".

@@ -65,9 +65,9 @@ slice-aggregate-write-success c = sym (long (c .before))
 
 write-success-requires : tie.Need-write-success-requires
 write-success-requires c κs =
-    let entry = c .before .before .before .before .before .before .before .before .before .before .before in
-    ( subst (λ (t : ℕ). Symbols 16 (take t (now (entry .args .message)))) (sym (short-is (c .before .before .before))) (entry .pre .1 .symbols (c .before .before .before .before .before .before .if1 .left))
-    , omega (arith, long (c .before .before), few (c .before .before .before))
+    let entry = c .before .before .before .before .before .before .before .before .before .before .before in (
+      subst (λ (t : ℕ). Symbols 16 (take t (now (entry .args .message)))) (sym (short-is (c .before .before .before))) (entry .pre .1 .symbols (c .before .before .before .before .before .before .if1 .left)),
+      omega (arith, long (c .before .before), few (c .before .before .before)),
     )
 
 same-length-2 : tie.Need-same-length-2
@@ -80,9 +80,9 @@ returns-2 c =
     let area = now (entry .args .message) in
     let altered = entry .args .answer .altered in
     let same : success altered (settingIn line) (blocksIn line) (messageIn line area)
-        ≡ success altered (c .before .before .before .before .before .before .before .before .setting-in .result) (c .before .before .before .before .before .before .before .blocks-in .result) (take (c .before .before .before .before .before .before .before .blocks-in .result * c .before .before .before .before .before .before .setting .result .k) area) =
-        sym (ap₂ (λ (s t : ℕ). success altered s t (take (c .before .before .before .before .before .before .before .blocks-in .result * c .before .before .before .before .before .before .setting .result .k) area)) (c .before .before .before .before .before .before .before .before .setting-in .ensures) (c .before .before .before .before .before .before .before .blocks-in .ensures)
-        ∙ ap (λ (t : ℕ). success altered (settingIn line) (blocksIn line) (take t area)) (short-is (c .before .before .before .before .before .before))) in
+    ≡ success altered (c .before .before .before .before .before .before .before .before .setting-in .result) (c .before .before .before .before .before .before .before .blocks-in .result) (take (c .before .before .before .before .before .before .before .blocks-in .result * c .before .before .before .before .before .before .setting .result .k) area) =
+    sym (ap₂ (λ (s t : ℕ). success altered s t (take (c .before .before .before .before .before .before .before .blocks-in .result * c .before .before .before .before .before .before .setting .result .k) area)) (c .before .before .before .before .before .before .before .before .setting-in .ensures) (c .before .before .before .before .before .before .before .blocks-in .ensures)
+    ∙ ap (λ (t : ℕ). success altered (settingIn line) (blocksIn line) (take t area)) (short-is (c .before .before .before .before .before .before))) in
     record { text = _; answers = subst (Answers line) same (entry .pre .1 .success-is (c .before .before .before .before .before .before .before .before .before .if1 .left)); shown = c .before .before .write-success .ensures }
 
 pub write-answer-spec : {M : Type 1} → statement M

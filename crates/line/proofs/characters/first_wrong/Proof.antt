@@ -33,7 +33,7 @@ returns c =
     let line = now (c .before .before .before .before .before .before .args .line) in
     let inside : loop .loop .i < length (map digitOf line) = omega (arith, length-map line digitOf, c .before .before .before .loop-test .taken) in
     let stop : 16 ≤ getD (map digitOf line) (loop .loop .i) 0 =
-        omega (arith, c .before .digit .ensures, c .if1 .taken, getD-map digitOf line (loop .loop .i) (c .before .before .before .loop-test .taken)) in
+    omega (arith, c .before .digit .ensures, c .if1 .taken, getD-map digitOf line (loop .loop .i) (c .before .before .before .loop-test .taken)) in
     sym (loop .loop .inv .1 ∙ symbols-stop 16 (map digitOf line) (loop .loop .i) inside stop)
 
 add-i : tie.Need-add-i Inv-loop μ-loop
@@ -48,7 +48,7 @@ loop-again c =
     let line = now (c .before .before .before .before .before .before .args .line) in
     let inside : loop .loop .i < length (map digitOf line) = omega (arith, length-map line digitOf, c .before .before .before .loop-test .taken) in
     let below : getD (map digitOf line) (loop .loop .i) 0 < 16 =
-        omega (arith, c .before .digit .ensures, c .if1 .left, getD-map digitOf line (loop .loop .i) (c .before .before .before .loop-test .taken)) in
+    omega (arith, c .before .digit .ensures, c .if1 .left, getD-map digitOf line (loop .loop .i) (c .before .before .before .loop-test .taken)) in
     (omega arith, loop .loop .inv .1 ∙ symbols-next 16 (map digitOf line) (loop .loop .i) inside below)
 
 returns-2 : tie.Need-returns-2 Inv-loop μ-loop

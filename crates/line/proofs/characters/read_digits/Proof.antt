@@ -39,10 +39,10 @@ loop-again c =
     let loop = c .before .before .before in
     let entry = c .before .before .before .before .before .before in
     let inside : loop .loop .i < length (now (entry .args .characters)) = c .before .before .loop-test .taken in
-    let room : loop .loop .i < length (loop .loop .area) = omega (arith, entry .pre, loop .loop .inv .1) in
-    ( omega arith
-    , length-set (loop .loop .area) (loop .loop .i) (c .digit .result) ∙ loop .loop .inv .1
-    , mapped-more digitOf (now (entry .args .characters)) (loop .loop .area) (loop .loop .i) (c .digit .result) inside room (c .digit .ensures) (loop .loop .inv .2)
+    let room : loop .loop .i < length (loop .loop .area) = omega (arith, entry .pre, loop .loop .inv .1) in (
+      omega arith,
+      length-set (loop .loop .area) (loop .loop .i) (c .digit .result) ∙ loop .loop .inv .1,
+      mapped-more digitOf (now (entry .args .characters)) (loop .loop .area) (loop .loop .i) (c .digit .result) inside room (c .digit .ensures) (loop .loop .inv .2),
     )
 
 same-length : tie.Need-same-length Inv-loop μ-loop

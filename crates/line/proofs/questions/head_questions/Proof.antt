@@ -33,8 +33,8 @@ returns c =
     let number = c .before .before .before .setting-in .result in
     c .answered .ensures
     ∙ sym (head-of line number (blocksIn line) (c .before .before .before .setting-in .ensures) refl
-      ∙ first-no (ask 1 (isSetting number)) (headLater (blocksIn line) (length line - 4) (settingOf number))
-        (sym (c .before .before .is-setting .ensures) ∙ not-true _ (c .before .if1 .taken)))
+    ∙ first-no (ask 1 (isSetting number)) (headLater (blocksIn line) (length line - 4) (settingOf number))
+    (sym (c .before .before .is-setting .ensures) ∙ not-true _ (c .before .if1 .taken)))
 
 blocks-in-requires : tie.Need-blocks-in-requires
 blocks-in-requires c κs = search needs
@@ -49,7 +49,7 @@ known c = sym (c .before .is-setting .ensures) ∙ not-false _ (c .if1 .left)
 -- What is left of the questions, over the setting p.
 later : (c : tie.After-blocks-in) (p : Setting) → p ≡ settingOf (c .before .before .before .setting-in .result)
     → firstNo (headQuestions (now (c .before .before .before .before .before .args .line)))
-      ≡ firstNo (headLater (c .blocks-in .result) (length (now (c .before .before .before .before .before .args .line)) - 4) p)
+    ≡ firstNo (headLater (c .blocks-in .result) (length (now (c .before .before .before .before .before .args .line)) - 4) p)
 later c p e =
     after-setting (now (c .before .before .before .before .before .args .line)) (c .before .before .before .setting-in .result) (c .blocks-in .result) p
     (c .before .before .before .setting-in .ensures) (c .blocks-in .ensures) (known (c .before)) e
@@ -90,7 +90,7 @@ returns-4 : tie.Need-returns-4
 returns-4 c =
     c .answered4 .ensures
     ∙ sym (later (c .before .before .before .before .before) (c .before .before .setting .result) (c .before .before .setting .ensures)
-      ∙ simp (le-leb _ _ (c .before .before .before .before .if2 .left), le-leb _ _ (c .before .before .before .if3 .left), ne-eqb _ _ (c .before .if4 .taken)))
+    ∙ simp (le-leb _ _ (c .before .before .before .before .if2 .left), le-leb _ _ (c .before .before .before .if3 .left), ne-eqb _ _ (c .before .if4 .taken)))
 
 answered-requires-5 : tie.Need-answered-requires-5
 answered-requires-5 c κs = search needs
@@ -99,7 +99,7 @@ returns-5 : tie.Need-returns-5
 returns-5 c =
     c .answered5 .ensures
     ∙ sym (later (c .before .before .before .before .before) (c .before .before .setting .result) (c .before .before .setting .ensures)
-      ∙ simp (le-leb _ _ (c .before .before .before .before .if2 .left), le-leb _ _ (c .before .before .before .if3 .left), eq-eqb _ _ (c .before .if4 .left)))
+    ∙ simp (le-leb _ _ (c .before .before .before .before .if2 .left), le-leb _ _ (c .before .before .before .if3 .left), eq-eqb _ _ (c .before .if4 .left)))
 
 pub head-questions-spec : {M : Type 1} → statement M
 head-questions-spec =

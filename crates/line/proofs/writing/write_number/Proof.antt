@@ -35,11 +35,11 @@ loop-less c = omega arith
 loop-again : tie.Need-loop-again Inv-loop μ-loop
 loop-again c =
     let loop = c .before .before in
-    let entry = c .before .before .before .before in
-    ( simp length-set (omega arith)
-    , length-set (loop .loop .area) (loop .loop .i - 1) (c .last-digit .result) ∙ loop .loop .inv .1
-    , hex-back (loop .loop .i) (loop .loop .left) (c .last-digit .result) (hex (length (now (entry .args .area))) (entry .args .number)) (loop .loop .area)
-      (c .before .loop-test .taken) (loop .loop .inv .0) (c .last-digit .ensures) (loop .loop .inv .2)
+    let entry = c .before .before .before .before in (
+      simp length-set (omega arith),
+      length-set (loop .loop .area) (loop .loop .i - 1) (c .last-digit .result) ∙ loop .loop .inv .1,
+      hex-back (loop .loop .i) (loop .loop .left) (c .last-digit .result) (hex (length (now (entry .args .area))) (entry .args .number)) (loop .loop .area)
+          (c .before .loop-test .taken) (loop .loop .inv .0) (c .last-digit .ensures) (loop .loop .inv .2),
     )
 
 same-length : tie.Need-same-length Inv-loop μ-loop

@@ -21,7 +21,7 @@ returns c =
     let message = now (args .message) in
     let before = now (args .output) in
     let small : length before < length (success (args .count) (args .number) (args .blocks) message) =
-        omega (arith, c .if1 .taken, success-long (args .count) (args .number) (args .blocks) message) in
+    omega (arith, c .if1 .taken, success-long (args .count) (args .number) (args .blocks) message) in
     shown-none (success (args .count) (args .number) (args .blocks) message) before small
 
 write-opening-requires : tie.Need-write-opening-requires

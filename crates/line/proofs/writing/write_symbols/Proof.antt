@@ -41,10 +41,10 @@ loop-again c =
     let loop = c .before .before .before in
     let entry = c .before .before .before .before .before .before in
     let inside : loop .loop .i < length (now (entry .args .symbols)) = c .before .before .loop-test .taken in
-    let room : loop .loop .i < length (loop .loop .area) = omega (arith, entry .pre .1, loop .loop .inv .1) in
-    ( omega arith
-    , length-set (loop .loop .area) (loop .loop .i) (c .character .result) ∙ loop .loop .inv .1
-    , mapped-more characterOf (now (entry .args .symbols)) (loop .loop .area) (loop .loop .i) (c .character .result) inside room (c .character .ensures) (loop .loop .inv .2)
+    let room : loop .loop .i < length (loop .loop .area) = omega (arith, entry .pre .1, loop .loop .inv .1) in (
+      omega arith,
+      length-set (loop .loop .area) (loop .loop .i) (c .character .result) ∙ loop .loop .inv .1,
+      mapped-more characterOf (now (entry .args .symbols)) (loop .loop .area) (loop .loop .i) (c .character .result) inside room (c .character .ensures) (loop .loop .inv .2),
     )
 
 same-length : tie.Need-same-length Inv-loop μ-loop
