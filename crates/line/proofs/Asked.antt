@@ -1,10 +1,9 @@
 -- What the questions of a line say. Holds: `head-of`, `after-setting` (questions 1, 3 and 10 over the numbers in hand); `characters-yes`, `HeadYes`,
 -- `head-yes` (a line whose questions got "yes"); `after-head`, `in-head` (question 4 is the last).
-use mathlib.Core.Path.{_≡_, refl, sym, ap, ap₂, subst, _∙_}
-use mathlib.Core.Bool.{Bool, true, false, _&&_}
+use mathlib.Core.Path.{_≡_, sym, ap₂, _∙_}
+use mathlib.Core.Bool.{true}
 use mathlib.Core.List.{List, [], _∷_, _++_}
-use Prim.Native.Nat.{ℕ, _+_, _-_, _*_, _≤_, _<_}
-use native.Mathlib.Omega.{arith}
+use Prim.Native.Nat.{ℕ, _+_, _-_, _*_, _≤_}
 use lib.Dec.{T, eqb, leb, leb→le, eqb→eq}
 use lib.ListN.{length}
 use Rattle.algebra.proofs.Tests.{and-left, and-right}

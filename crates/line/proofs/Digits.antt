@@ -1,15 +1,13 @@
 -- Digits: values of characters, and runs of them that loops read and write.
 -- Holds: `digit-low`, `digit-number`, `digit-between`, `digit-letter`, `digit-high`, `digit-most`; `character-number`, `character-letter`;
 -- `map-append`, `getD-map`; `mapped-none`, `mapped-more`, `mapped-all` (a map, as a loop fills it).
-use mathlib.Core.Path.{_≡_, refl, sym, ap, ap₂, subst, _∙_}
-use mathlib.Core.Bool.{Bool, true, false, _&&_}
+use mathlib.Core.Path.{_≡_, refl, sym, ap, ap₂, _∙_}
 use mathlib.Core.List.{List, [], _∷_, _++_, map}
 use Prim.Native.Nat.{ℕ, zero, suc, _+_, _-_, _≤_, _<_}
 use native.Mathlib.Nat.{not-suc-le-zero, le-of-suc-le-suc}
 use native.Mathlib.Numerals.{add-one}
 use native.Mathlib.Omega.{arith}
 use native.Mathlib.Decide.{decLt, decLe}
-use lib.Dec.{leb, ltb}
 use lib.ListN.{length, getD, take, set}
 use lib.Seq.{take-suc, take-suc-set, take-length}
 use borrow.Author.Tests.{le-leb, lt-leb, lt-ltb, le-ltb}

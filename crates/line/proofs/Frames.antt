@@ -10,7 +10,7 @@ use native.Mathlib.Nat.{mul-le-mul-right, le-trans, lt-of-lt-of-le}
 use native.Mathlib.Omega.{arith}
 use lib.Arith.{digits-div, digits-mod}
 use lib.Dec.{T, eqb, leb, lit≤, leb→le}
-use lib.ListN.{length, getD, take, drop, length-map, length-drop}
+use lib.ListN.{length, take, drop, length-map, length-drop}
 use lib.Seq.{take-at, take-all}
 use borrow.Author.Tests.{eq-eqb, le-leb}
 use Rattle.algebra.specs.Ops.{pick}
@@ -18,10 +18,9 @@ use Rattle.field.specs.Symbols.{Symbols}
 use Rattle.code.specs.declared.Setting.{Setting}
 use Rattle.code.specs.Settings.{isSetting, settingOf}
 use Rattle.code.specs.Windows.{windowLength, transmission, altered, Fits}
-use Rattle.tables.specs.Tables.{Small}
 use Rattle.tables.proofs.Small.{Sizes, sizesOf, smallOf}
 use Rattle.link.specs.declared.Answer.{Answer}
-use Rattle.link.specs.Questions.{Question, ask, answer, firstNo, mostBlocks, blocksOf, symbolsTo, symbolQuestion, transmissionQuestion, frameQuestions, decodingQuestions}
+use Rattle.link.specs.Questions.{Question, ask, answer, firstNo, mostBlocks, blocksOf, symbolQuestion, transmissionQuestion, frameQuestions, decodingQuestions}
 use Rattle.link.specs.Decoding.{Decoded, refused as decoding-refused, found as decoding-found, none-fits as decoding-none}
 use Rattle.link.proofs.Answers.{all-yes, append-yes, message-small, transmission-small}
 use Rattle.line.specs.Characters.{digitOf}

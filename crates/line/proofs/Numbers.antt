@@ -1,9 +1,9 @@
 -- Numbers in digits, as a loop writes them from the last place back. Holds: `length-hex`, `hex-step`, `hex-back`, `hex-all`.
 use mathlib.Core.Path.{_≡_, refl, sym, ap, ap₂, subst, _∙_}
 use mathlib.Core.List.{List, [], _∷_, _++_, append-assoc, append-nil}
-use Prim.Native.Nat.{ℕ, zero, suc, _+_, _-_, _/_, _%_, _≤_, _<_}
+use Prim.Native.Nat.{ℕ, zero, suc, _-_, _/_, _%_, _≤_, _<_}
 use native.Mathlib.Omega.{arith}
-use lib.ListN.{length, getD, drop, set, length-append, length-set}
+use lib.ListN.{length, drop, set, length-append, length-set}
 use lib.Seq.{drop-cons, drop-set-lt, drop-length, getD-set-same}
 use Rattle.line.specs.Characters.{characterOf, hex}
 

@@ -2,8 +2,8 @@
 -- Holds: `placed-none`, `placed-part`, `placed-number`, `placed-long`; `shown-whole`, `shown-none`, `shown-success`; `two`, `six`, `seven`, `opening-long`, `success-long` (lengths of what is written).
 use mathlib.Core.Path.{_≡_, refl, sym, ap, ap₂, subst, _∙_}
 use mathlib.Core.Bool.{Bool, true, false}
-use mathlib.Core.List.{List, [], _∷_, _++_, map, append-assoc}
-use Prim.Native.Nat.{ℕ, zero, suc, _+_, _-_, _≤_, _<_}
+use mathlib.Core.List.{List, [], _++_, map, append-assoc}
+use Prim.Native.Nat.{ℕ, _+_, _-_, _≤_, _<_}
 use native.Mathlib.Omega.{arith}
 use lib.Dec.{leb}
 use lib.ListN.{length, take, drop, length-append, length-map, length-take, length-drop}

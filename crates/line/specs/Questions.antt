@@ -1,6 +1,6 @@
 -- The frame in a line, and the questions of a line (01, "Lines at the planning desk" and "Questions, asked in this order").
 -- Holds: `settingIn`, `blocksIn`, `symbolsIn`; `digitsTo`; `characterQuestions`, `headQuestions`, `lineQuestions`.
-use mathlib.Core.Bool.{Bool, _&&_}
+use mathlib.Core.Bool.{_&&_}
 use mathlib.Core.List.{List, [], _∷_, _++_, map}
 use Prim.Native.Nat.{ℕ, _+_, _-_, _*_}
 use lib.Dec.{eqb, leb}

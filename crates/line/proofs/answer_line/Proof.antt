@@ -1,11 +1,9 @@
 -- `line::answer_line`: a "no" before the symbols, or what decoding the frame says.
 use mathlib.Core.Path.{_≡_, sym, ap, _∙_}
 use mathlib.Core.List.{_++_}
-use Prim.Native.Nat.{_≤_}
 use native.Mathlib.Omega.{arith}
 use borrow.Author.Needs.{needs}
 use denote.Ref.{now}
-use lib.ListN.{length, length-replicate}
 use Rattle.link.specs.Questions.{firstNo}
 use Rattle.line.specs.Questions.{characterQuestions, headQuestions}
 use Rattle.line.proofs.Frames.{head-refused}

@@ -1,8 +1,7 @@
 -- `desk::lines::lines_in`: each step reads on.
 use mathlib.Core.Path.{_≡_}
-use Prim.Native.Nat.{_-_, _≤_}
+use Prim.Native.Nat.{_-_}
 use native.Mathlib.Omega.{arith}
-use denote.Ref.{now}
 use lib.ListN.{length}
 use Rattle.desk.specs.Reading.{Kept}
 use Rattle.desk.proofs.lines.lines_in.Statement.{statement}

@@ -1,9 +1,7 @@
 -- `desk::lines::put`: an answer has at most 1,546 characters.
-use Prim.Native.Nat.{_+_, _-_, _≤_, _<_}
+use Prim.Native.Nat.{_≤_}
 use native.Mathlib.Omega.{arith}
 use borrow.Author.Needs.{needs}
-use denote.Ref.{now}
-use lib.ListN.{length}
 use Rattle.line.proofs.Frames.{answered-most}
 use Rattle.desk.proofs.lines.put.Statement.{statement}
 use Rattle.desk.proofs.lines.put.Tie as tie

@@ -1,5 +1,5 @@
 -- `line::questions::character_questions` asks 11, then 9.
-use mathlib.Core.Path.{_≡_, sym, _∙_}
+use mathlib.Core.Path.{sym, _∙_}
 use borrow.Author.Needs.{needs}
 use borrow.Author.Tests.{le-leb, lt-leb, eq-eqb, ne-eqb}
 use Rattle.line.proofs.questions.character_questions.Statement.{statement}

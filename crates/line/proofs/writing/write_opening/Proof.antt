@@ -1,5 +1,5 @@
 -- `line::writing::write_opening`: four numbers, one after the other.
-use mathlib.Core.Path.{_≡_, refl}
+use mathlib.Core.Path.{refl}
 use mathlib.Core.List.{[], _++_}
 use Prim.Native.Nat.{_≤_}
 use native.Mathlib.Omega.{arith}

@@ -1,12 +1,9 @@
 -- `line::writing::write_success`: the opening, then the message.
-use mathlib.Core.Path.{_≡_, refl, ap, _∙_}
-use Prim.Native.Nat.{_+_, _-_, _≤_, _<_}
+use Prim.Native.Nat.{_<_}
 use native.Mathlib.Omega.{arith}
 use denote.Ref.{now}
-use lib.ListN.{length, length-append, length-map}
-use mathlib.Core.List.{List, _++_, map}
-use Rattle.line.specs.Characters.{characterOf}
-use Rattle.line.specs.Answering.{opening, success}
+use lib.ListN.{length}
+use Rattle.line.specs.Answering.{success}
 use Rattle.line.proofs.Placed.{shown-success, shown-none, success-long}
 use borrow.Author.Needs.{needs}
 use Rattle.line.proofs.writing.write_success.Statement.{statement}
