@@ -14,4 +14,5 @@ pub mod ResidualSteps
 pub mod Messages
 pub mod Demand3
 pub mod Search
+pub mod AlteredBound
 pub mod Orders

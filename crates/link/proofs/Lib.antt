@@ -7,4 +7,5 @@ pub mod Bits
 pub mod Windows
 pub mod Samples
 pub mod Decoding
+pub mod CountBound
 pub mod Demand3
