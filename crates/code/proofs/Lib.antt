@@ -15,4 +15,3 @@ pub mod Messages
 pub mod Demand3
 pub mod Search
 pub mod AlteredBound
-pub mod Orders

@@ -8,4 +8,6 @@ pub mod Windows
 pub mod Samples
 pub mod Decoding
 pub mod CountBound
+pub mod OrderKinds
+pub mod Orders
 pub mod Demand3
