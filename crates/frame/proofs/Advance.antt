@@ -38,26 +38,26 @@ module _ (p : Setting) (S : Sound p) (T : ℕ) (reception : List ℕ) (R : Symbo
       → Advanced p T reception (j + 1) (putMid (j * p .k) (p .k) message block') (putMid (j * p .n) (windowLength p) left window') r
   advance-exact (clean first same-window same-block) =
       subst (λ (m : List ℕ). Advanced p T reception (j + 1) m (putMid (j * p .n) (windowLength p) left window') true)
-      (sym (ap (putMid (j * p .k) (p .k) message) same-block ∙ put-same (j * p .k) (p .k) message))
+        (sym (ap (putMid (j * p .k) (p .k) message) same-block ∙ put-same (j * p .k) (p .k) message))
       (subst (λ (w : List ℕ). Advanced p T reception (j + 1) message w true)
-      (sym (ap (putMid (j * p .n) (windowLength p) left) same-window ∙ put-same (j * p .n) (windowLength p) left))
+        (sym (ap (putMid (j * p .n) (windowLength p) left) same-window ∙ put-same (j * p .n) (windowLength p) left))
       (advanced (progress-clean p S T reception R long j message left P l first)))
   advance-exact (found first block-long symbols less) =
       advanced (progress-found p S T reception R long j message left P l window' block'
-      (block-long ∙ length-take-le (p .k) (drop (j * p .k) message) (omega (arith, length-drop (j * p .k) message, block-inside))) symbols less first)
+        (block-long ∙ length-take-le (p .k) (drop (j * p .k) message) (omega (arith, length-drop (j * p .k) message, block-inside))) symbols less first)
   advance-exact (none far) = stopped (progress-none p S T reception R long j message left P l far)
 
   pub advance : {r : Bool}
       → WindowRead p (take (j * p .n + windowLength p - j * p .n) (drop (j * p .n) left)) (take (j * p .k + p .k - j * p .k) (drop (j * p .k) message)) window' block' r
       → Advanced p T reception (j + 1) (putMid (j * p .k) (j * p .k + p .k - j * p .k) message block')
-      (putMid (j * p .n) (j * p .n + windowLength p - j * p .n) left window') r
+          (putMid (j * p .n) (j * p .n + windowLength p - j * p .n) left window') r
   advance {r} =
       let wide : j * p .n + windowLength p - j * p .n ≡ windowLength p = omega arith in
       let deep : j * p .k + p .k - j * p .k ≡ p .k = omega arith in
       subst (λ (t : ℕ). WindowRead p (take t (drop (j * p .n) left)) (take (j * p .k + p .k - j * p .k) (drop (j * p .k) message)) window' block' r
-      → Advanced p T reception (j + 1) (putMid (j * p .k) (j * p .k + p .k - j * p .k) message block') (putMid (j * p .n) t left window') r) (sym wide)
+          → Advanced p T reception (j + 1) (putMid (j * p .k) (j * p .k + p .k - j * p .k) message block') (putMid (j * p .n) t left window') r) (sym wide)
       (subst (λ (t : ℕ). WindowRead p (take (windowLength p) (drop (j * p .n) left)) (take t (drop (j * p .k) message)) window' block' r
-      → Advanced p T reception (j + 1) (putMid (j * p .k) t message block') (putMid (j * p .n) (windowLength p) left window') r) (sym deep)
+          → Advanced p T reception (j + 1) (putMid (j * p .k) t message block') (putMid (j * p .n) (windowLength p) left window') r) (sym deep)
       advance-exact)
 
 module _ (p : Setting) (T : ℕ) (reception : List ℕ) (j : ℕ) (message left : List ℕ) where

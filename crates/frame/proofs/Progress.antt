@@ -49,13 +49,12 @@ module _ (p : Setting) (S : Sound p) (T : ℕ) (reception : List ℕ) (R : Symbo
         left-long = long;
         left-symbols = R;
         residual = residual-start p S T reception message received zeros;
-        begins = λ x f i l. absurd (omega arith);
+        begins = λ x f i l. absurd (omega arith)
       }
     where
       at : (i : ℕ) → Dec (i < T * p .k) → _≡_ {A = ℕ} (getD (replicate (T * p .k) 0) i 0) 0
       at i (yes l) = getD-replicate (T * p .k) i 0 0 l
       at i (no d) = List·getD-eq-default (replicate (T * p .k) 0) 0 (omega (arith, length-replicate {A = ℕ} (T * p .k) 0))
-
       zeros : (i : ℕ) → getD message i 0 ≡ 0
       zeros i = ap (λ (l : List ℕ). getD l i 0) e ∙ at i (decLt i (T * p .k))
 
@@ -70,7 +69,7 @@ module _ (p : Setting) (S : Sound p) (T : ℕ) (reception : List ℕ) (R : Symbo
     pub near-of-fits : (x : List ℕ) → Fits p T reception x → Near p (windowAt p left j) (p .m) (ahead p x message j)
     near-of-fits x F =
         subst (λ (t : ℕ). 2 * t < distancesTo (p .n) (p .k) (p .m))
-        (sym (residual-window p S T reception message left received found-below left-below (P .residual) x (F .message-of) j l (P .begins x F)))
+          (sym (residual-window p S T reception message left received found-below left-below (P .residual) x (F .message-of) j l (P .begins x F)))
         (within (windowDistance p reception (transmission p x) j) (distancesTo (p .n) (p .k) (p .m)) (distances-positive (p .n) (p .k) (p .m)) (F .near j l))
       where
         within : (a d : ℕ) → 1 ≤ d → a ≤ (d - 1) / 2 → 2 * a < d
@@ -115,8 +114,8 @@ module _ (p : Setting) (S : Sound p) (T : ℕ) (reception : List ℕ) (R : Symbo
           left-symbols = P .left-symbols;
           residual = P .residual;
           begins = begins-more message (λ i u. refl) (λ x F r h.
-              let past : j * p .k ≤ j * p .k + r = omega arith in
-              sym (ahead-first x F r h) ∙ (zero-first (ahead p x message j) (fits-below x F) (near-of-fits x F) r h ∙ sym (P .empty (j * p .k + r) past)));
+            let past : j * p .k ≤ j * p .k + r = omega arith in
+            sym (ahead-first x F r h) ∙ (zero-first (ahead p x message j) (fits-below x F) (near-of-fits x F) r h ∙ sym (P .empty (j * p .k + r) past)))
         }
 
     module _ (window' block' : List ℕ) (block-long : length block' ≡ p .k) (block-symbols : Symbols (p .q) block')
@@ -164,7 +163,6 @@ module _ (p : Setting) (S : Sound p) (T : ℕ) (reception : List ℕ) (R : Symbo
         where
           x : ℕ → ℕ
           x r = getD block' r 0
-
           at : Dec (j ≤ s) → Dec (s - j ≤ p .m) → view (p .n) (putMid (j * p .n) (windowLength p) left window') s i ≡ lessened p S left x j s i
           at (yes a) (yes b) =
               let top : s - j < p .m + 1 = omega arith in
@@ -175,7 +173,7 @@ module _ (p : Setting) (S : Sound p) (T : ℕ) (reception : List ℕ) (R : Symbo
               ∙ L .inside (s - j) i top v
               ∙ ap (λ (t : ℕ). sub (opsOf (p .q)) t (timesG (codeOf p) x (s - j) i)) (window-view (p .n) (p .m) left j (s - j) i b v ∙ ap (λ (t : ℕ). view (p .n) left t i) back)
               ∙ sym (ap₂ (λ (e f : Bool). pick e (pick f (sub (opsOf (p .q)) (view (p .n) left s i) (timesG (codeOf p) x (s - j) i)) (view (p .n) left s i)) (view (p .n) left s i))
-              (le-leb j s a) (le-leb (s - j) (p .m) b))
+                  (le-leb j s a) (le-leb (s - j) (p .m) b))
             where
               scaled : (s j n : ℕ) → j ≤ s → s * n ≡ j * n + (s - j) * n
               scaled s j n q = let same : s ≡ j + (s - j) = omega arith in ap (λ (t : ℕ). t * n) same ∙ omega arith
@@ -184,12 +182,12 @@ module _ (p : Setting) (S : Sound p) (T : ℕ) (reception : List ℕ) (R : Symbo
               let past : j + (p .m + 1) ≤ s = omega arith in
               put-after (j * p .n) (windowLength p) left window' left-room window-long (s * p .n + i) (omega (arith, mul-le-mul-right (p .n) past))
               ∙ sym (ap₂ (λ (e f : Bool). pick e (pick f (sub (opsOf (p .q)) (view (p .n) left s i) (timesG (codeOf p) x (s - j) i)) (view (p .n) left s i)) (view (p .n) left s i))
-              (le-leb j s a) (lt-leb (s - j) (p .m) far))
+                  (le-leb j s a) (lt-leb (s - j) (p .m) far))
           at (no a) b =
               let past : s < j = omega arith in
               put-before (j * p .n) (windowLength p) left window' left-room window-long (s * p .n + i) (digits-lt past v)
               ∙ sym (ap (λ (e : Bool). pick e (pick (leb (s - j) (p .m)) (sub (opsOf (p .q)) (view (p .n) left s i) (timesG (codeOf p) x (s - j) i)) (view (p .n) left s i)) (view (p .n) left s i))
-              (lt-leb j s past))
+                  (lt-leb j s past))
 
       -- Block j was found: it goes into the message, and its contribution out of what is left.
       pub progress-found : ((y : ℕ → ℕ → ℕ) → Below (p .q) y → Near p (windowAt p left j) (p .m) y → (r : ℕ) → r < p .k → y 0 r ≡ getD block' r 0)
@@ -203,8 +201,8 @@ module _ (p : Setting) (S : Sound p) (T : ℕ) (reception : List ℕ) (R : Symbo
             left-long = put-length (j * p .n) (windowLength p) left window' left-room window-long ∙ P .left-long;
             left-symbols = put-symbols (j * p .n) (windowLength p) left window' left-room window-long (p .q) (P .left-symbols) (L .symbols);
             residual = residual-step p S T reception message left h left' received found-below (symbol-below (p .q) h h-symbols (positive p S)) (P .residual)
-                (λ r. getD block' r 0) (symbol-below (p .q) block' block-symbols (positive p S)) j
-                (λ r u. P .empty (j * p .k + r) (omega arith)) placed others changed;
+              (λ r. getD block' r 0) (symbol-below (p .q) block' block-symbols (positive p S)) j
+              (λ r u. P .empty (j * p .k + r) (omega arith)) placed others changed;
             begins = begins-more h (λ i u. put-before (j * p .k) (p .k) message block' message-room block-long i u) (λ x F r u.
-                sym (ahead-first x F r u) ∙ (first (ahead p x message j) (fits-below x F) (near-of-fits x F) r u ∙ sym (placed r u)));
+              sym (ahead-first x F r u) ∙ (first (ahead p x message j) (fits-below x F) (near-of-fits x F) r u ∙ sym (placed r u)))
           }

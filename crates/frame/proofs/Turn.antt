@@ -38,8 +38,8 @@ module _ (p : Setting) (S : Sound p) (window block : List ℕ) (symbols : Symbol
       → 2 * weight < distancesTo (p .n) (p .k) (p .m) → WindowRead p window block window block true
   turn-clean weight long counted few =
       clean (λ y Y near r l. first-zero p S window (symbol-below (p .q) window symbols (positive p S)) y Y near
-      (subst (λ (t : ℕ). 2 * t < distancesTo (p .n) (p .k) (p .m)) (counted ∙ ap (λ (t : ℕ). countOf t (λ i. not (eqb (getD window i 0) 0))) long) few) r l)
-      refl refl
+        (subst (λ (t : ℕ). 2 * t < distancesTo (p .n) (p .k) (p .m)) (counted ∙ ap (λ (t : ℕ). countOf t (λ i. not (eqb (getD window i 0) 0))) long) few) r l)
+        refl refl
 
   pub turn-none : (information : List ℕ) {r : Bool} → Levels p window information r → not r ≡ true → WindowRead p window block window block false
   turn-none information (served area same) h = absurd (absurd-bool h)
@@ -56,7 +56,7 @@ module _ (p : Setting) (S : Sound p) (window block : List ℕ) (symbols : Symbol
         let inside : r < length (take (p .k) information) = omega (arith, first-long) in
         ap (λ (t : List ℕ). getD t r 0) copied
         ∙ (List·getD-append (take (length (take (p .k) information)) (take (p .k) information)) (drop (length (take (p .k) information)) block) 0 r
-        (omega (arith, length-take (length (take (p .k) information)) (take (p .k) information)))
+            (omega (arith, length-take (length (take (p .k) information)) (take (p .k) information)))
         ∙ (getD-take (length (take (p .k) information)) (take (p .k) information) r 0 inside ∙ getD-take (p .k) information r 0 l))
 
     copied-long : length block' ≡ p .k
@@ -75,10 +75,10 @@ module _ (p : Setting) (S : Sound p) (window block : List ℕ) (symbols : Symbol
     turn-found (none-serves far) h L = absurd (absurd-bool (sym h))
     turn-found (served a same) h L =
         found (λ y Y near r l. same y Y near r l ∙ sym (copied-symbol r l)) (copied-long ∙ sym long)
-        (record { below = λ i l. subst (λ (t : ℕ). t < p .q) (sym (copied-symbol i (omega (arith, copied-long)))) (area .below i) })
-        (record {
-          long = L .long;
-          symbols = L .symbols;
-          inside = λ s i u v. L .inside s i u v ∙ ap (sub (opsOf (p .q)) (view (p .n) window s i)) (same-product s i);
-          outside = L .outside;
-        })
+          (record { below = λ i l. subst (λ (t : ℕ). t < p .q) (sym (copied-symbol i (omega (arith, copied-long)))) (area .below i) })
+          (record {
+            long = L .long;
+            symbols = L .symbols;
+            inside = λ s i u v. L .inside s i u v ∙ ap (sub (opsOf (p .q)) (view (p .n) window s i)) (same-product s i);
+            outside = L .outside
+          })

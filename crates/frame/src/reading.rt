@@ -7,10 +7,10 @@ ghost use Rattle.code.specs.Code as distances;
 ghost use Rattle.code.specs.Settings.{Sound};
 ghost use Rattle.tables.specs.Tables.{Ready, Small, MatrixOf};
 ghost use Rattle.frame.specs.Frame.{Progress, Advanced, Compared, FrameRead};
+
 use code::Setting;
 use field::Tables;
-use tables::Matrix;
-use tables::Rows;
+use tables::{Matrix, Rows};
 
 // One turn: window j of what is left is read, and message block j found.
 fn turn(
@@ -60,17 +60,7 @@ fn read_windows(
 {
     let mut j: usize = 0;
     while j < blocks {
-        if !turn(
-            p,
-            products,
-            rows,
-            matrix,
-            blocks,
-            reception,
-            j,
-            message,
-            left,
-        ) {
+        if !turn(p, products, rows, matrix, blocks, reception, j, message, left) {
             return false;
         }
         j += 1;

@@ -11,11 +11,11 @@ ghost use Rattle.code.specs.Reading.{rebuiltDistance};
 ghost use Rattle.tables.specs.Tables.{Ready, Small, MatrixOf};
 ghost use Rattle.block.specs.Area.{Area};
 ghost use Rattle.frame.specs.Window.{Tried, Levels, Lessened, LessenedTo, WindowRead};
-use block::Series;
+
 use code::Setting;
 use field::Tables;
-use tables::Matrix;
-use tables::Rows;
+use tables::{Matrix, Rows};
+use block::Series;
 
 // d_0 + .. + d_l
 pub fn distances_to(p: Setting, l: usize) -> usize
@@ -53,14 +53,7 @@ fn rebuilt_distance(
     let mut s: usize = 0;
     while s <= l {
         let end = start + n;
-        count += block::information::differing(
-            p,
-            products,
-            rows,
-            information,
-            s,
-            &window[start..end],
-        );
+        count += block::information::differing(p, products, rows, information, s, &window[start..end]);
         start = end;
         s += 1;
     }
@@ -83,15 +76,7 @@ fn try_level(
     let n = p.n;
     let start = l * n;
     let end = start + n;
-    let near = block::repair(
-        p,
-        products,
-        rows,
-        matrix,
-        &window[start..end],
-        l,
-        information,
-    );
+    let near = block::repair(p, products, rows, matrix, &window[start..end], l, information);
     if !near {
         return false;
     }

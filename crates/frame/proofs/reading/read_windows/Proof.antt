@@ -44,12 +44,12 @@ loop-less c = omega arith
 
 loop-again : tie.Need-loop-again Inv-loop μ-loop
 loop-again c =
-    let entry = c .before .before .before .before .before .before .before .before .before .before .before .before .before in (
-      omega arith,
-      c .before .before .before .before .before .turn .kept .1 .1 .1 .1 .1 .1 .1 .0 ∙ c .before .before .before .before .before .before .before .before .before .loop .inv .1,
-      c .before .before .before .before .before .turn .kept .1 .1 .1 .1 .1 .1 .1 .1 .0 ∙ c .before .before .before .before .before .before .before .before .before .loop .inv .2,
-      advance-more (entry .args .p) (entry .args .blocks) (now (entry .args .reception)) (c .before .before .before .before .before .before .before .before .before .loop .j + 1) (c .before .before .before .before .before .turn .last .1 .1 .1 .1 .1 .1 .1 .0) (c .before .before .before .before .before .turn .last .1 .1 .1 .1 .1 .1 .1 .1 .0)
-          (c .before .before .before .before .before .turn .ensures) (c .if1 .left),
+    let entry = c .before .before .before .before .before .before .before .before .before .before .before .before .before in
+    ( omega arith
+    , c .before .before .before .before .before .turn .kept .1 .1 .1 .1 .1 .1 .1 .0 ∙ c .before .before .before .before .before .before .before .before .before .loop .inv .1
+    , c .before .before .before .before .before .turn .kept .1 .1 .1 .1 .1 .1 .1 .1 .0 ∙ c .before .before .before .before .before .before .before .before .before .loop .inv .2
+    , advance-more (entry .args .p) (entry .args .blocks) (now (entry .args .reception)) (c .before .before .before .before .before .before .before .before .before .loop .j + 1) (c .before .before .before .before .before .turn .last .1 .1 .1 .1 .1 .1 .1 .0) (c .before .before .before .before .before .turn .last .1 .1 .1 .1 .1 .1 .1 .1 .0)
+      (c .before .before .before .before .before .turn .ensures) (c .if1 .left)
     )
 
 same-length-3 : tie.Need-same-length-3 Inv-loop μ-loop

@@ -61,12 +61,12 @@ part-read-window-end-2 c = block-room (c .before .before .before .before .before
 read-window-requires : tie.Need-read-window-requires
 read-window-requires c κs =
     let entry = c .before .before .before .before .before .before in
-    let a = entry .args in (
-      entry .pre .0,
-      entry .pre .1,
-      part-length (windowLength (a .p)) (a .j * a .p .n) (now (a .left)) (window-room entry),
-      symbols-part (a .p .q) (windowLength (a .p)) (a .j * a .p .n) (now (a .left)) (entry .pre .5 .left-symbols) (positive (a .p) (entry .pre .0 .sound)),
-      part-length (a .p .k) (a .j * a .p .k) (now (a .message)) (block-room entry),
+    let a = entry .args in
+    ( entry .pre .0
+    , entry .pre .1
+    , part-length (windowLength (a .p)) (a .j * a .p .n) (now (a .left)) (window-room entry)
+    , symbols-part (a .p .q) (windowLength (a .p)) (a .j * a .p .n) (now (a .left)) (entry .pre .5 .left-symbols) (positive (a .p) (entry .pre .0 .sound))
+    , part-length (a .p .k) (a .j * a .p .k) (now (a .message)) (block-room entry)
     )
 
 same-length : tie.Need-same-length

@@ -35,10 +35,10 @@ slice-read-subtract c = omega (arith, c .before .before .before .loop .inv .1 .l
 subtract-requires : tie.Need-subtract-requires Inv-loop μ-loop
 subtract-requires c κs =
     let entry = c .before .before .before .before .before .before in
-    let l = c .before .before .before .loop in (
-      entry .pre .0 .sound .good,
-      symbol-below (entry .args .p .q) (l .block) (l .inv .1 .symbols) (positive (entry .args .p) (entry .pre .0 .sound)) (l .i),
-      c .before .times-g .ensures .below,
+    let l = c .before .before .before .loop in
+    ( entry .pre .0 .sound .good
+    , symbol-below (entry .args .p .q) (l .block) (l .inv .1 .symbols) (positive (entry .args .p) (entry .pre .0 .sound)) (l .i)
+    , c .before .times-g .ensures .below
     )
 
 slice-write-block : tie.Need-slice-write-block Inv-loop μ-loop
@@ -54,12 +54,12 @@ loop-again : tie.Need-loop-again Inv-loop μ-loop
 loop-again c =
     let entry = c .before .before .before .before .before .before .before in
     let a = entry .args in
-    let l = c .before .before .before .before .loop in (
-      omega arith,
-      lessened-more (a .p) (λ r. getD (now (a .information)) r 0) (a .j) (now (a .block)) (l .i) (l .block) (c .subtract .result) (l .inv .1) (omega (arith, entry .pre .4))
-          (c .subtract .ensures .same
-          ∙ ap (sub (opsOf (a .p .q)) (getD (l .block) (l .i) 0)) (c .before .before .times-g .ensures .same ∙ from-start (a .p) (now (a .information)) (a .j) (l .i)))
-          (c .subtract .ensures .below),
+    let l = c .before .before .before .before .loop in
+    ( omega arith
+    , lessened-more (a .p) (λ r. getD (now (a .information)) r 0) (a .j) (now (a .block)) (l .i) (l .block) (c .subtract .result) (l .inv .1) (omega (arith, entry .pre .4))
+      (c .subtract .ensures .same
+      ∙ ap (sub (opsOf (a .p .q)) (getD (l .block) (l .i) 0)) (c .before .before .times-g .ensures .same ∙ from-start (a .p) (now (a .information)) (a .j) (l .i)))
+      (c .subtract .ensures .below)
     )
 
 same-length : tie.Need-same-length Inv-loop μ-loop

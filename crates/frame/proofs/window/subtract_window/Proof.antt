@@ -47,13 +47,13 @@ subtract-block-requires : tie.Need-subtract-block-requires Inv-loop μ-loop
 subtract-block-requires c κs =
     let entry = c .before .before .before .before .before in
     let l = c .before .before .loop in
-    let a = entry .args in (
-      entry .pre .0,
-      entry .pre .1,
-      entry .pre .2,
-      omega arith,
-      part-length (a .p .n) (l .start) (l .window) (inside (c .before)),
-      symbols-part (a .p .q) (a .p .n) (l .start) (l .window) (l .inv .2 .symbols) (positive (a .p) (entry .pre .0 .sound)),
+    let a = entry .args in
+    ( entry .pre .0
+    , entry .pre .1
+    , entry .pre .2
+    , omega arith
+    , part-length (a .p .n) (l .start) (l .window) (inside (c .before))
+    , symbols-part (a .p .q) (a .p .n) (l .start) (l .window) (l .inv .2 .symbols) (positive (a .p) (entry .pre .0 .sound))
     )
 
 add-s : tie.Need-add-s Inv-loop μ-loop
@@ -66,11 +66,11 @@ loop-again : tie.Need-loop-again Inv-loop μ-loop
 loop-again c =
     let entry = c .before .before .before .before .before .before .before .before in
     let l = c .before .before .before .before .before .loop in
-    let a = entry .args in (
-      omega arith,
-      omega (arith, l .inv .1),
-      lessenedTo-more (a .p) (λ r. getD (now (a .information)) r 0) (now (a .window)) (l .s) (l .start) (l .window) (c .before .before .subtract-block .last .1 .1 .1 .1 .1 .0)
-          (l .inv .1) (inside (c .before .before .before .before)) (l .inv .2) (c .before .before .subtract-block .ensures),
+    let a = entry .args in
+    ( omega arith
+    , omega (arith, l .inv .1)
+    , lessenedTo-more (a .p) (λ r. getD (now (a .information)) r 0) (now (a .window)) (l .s) (l .start) (l .window) (c .before .before .subtract-block .last .1 .1 .1 .1 .1 .0)
+      (l .inv .1) (inside (c .before .before .before .before)) (l .inv .2) (c .before .before .subtract-block .ensures)
     )
 
 same-length : tie.Need-same-length Inv-loop μ-loop
