@@ -1,0 +1,61 @@
+-- `desk::desk` is safe and ends: the turns left fall.
+use mathlib.Core.Path.{_≡_}
+use Prim.Native.Nat.{_≤_}
+use native.Mathlib.Omega.{arith}
+use lib.ListN.{length}
+use Rattle.desk.proofs.desk.Statement.{statement}
+use Rattle.desk.proofs.desk.Tie as tie
+
+abbrev Inv-loop : tie.InvT-loop
+Inv-loop input₀ line₀ output₀ held₀ turns₀ input line output held turns =
+    (length input ≡ length input₀) × (length line ≡ length line₀) × (length output ≡ length output₀) × (held ≤ length line₀)
+
+abbrev μ-loop : tie.MeasureT-loop
+μ-loop input₀ line₀ output₀ held₀ turns₀ input line output held turns = turns
+
+loop-holds : tie.Need-loop-holds Inv-loop μ-loop
+loop-holds c = omega arith
+
+turn-requires : tie.Need-turn-requires Inv-loop μ-loop
+turn-requires c κs = omega arith
+
+left-after-requires : tie.Need-left-after-requires Inv-loop μ-loop
+left-after-requires c κs = omega arith
+
+loop-less : tie.Need-loop-less Inv-loop μ-loop
+loop-less c = omega arith
+
+loop-again : tie.Need-loop-again Inv-loop μ-loop
+loop-again c = omega arith
+
+finish-requires : tie.Need-finish-requires Inv-loop μ-loop
+finish-requires c κs = omega arith
+
+same-length : tie.Need-same-length Inv-loop μ-loop
+same-length c = omega arith
+
+same-length-2 : tie.Need-same-length-2 Inv-loop μ-loop
+same-length-2 c = omega arith
+
+same-length-3 : tie.Need-same-length-3 Inv-loop μ-loop
+same-length-3 c = omega arith
+
+returns : tie.Need-returns Inv-loop μ-loop
+returns c = tt
+
+pub desk-spec : {M : Type 1} → statement M
+desk-spec =
+    tie.close
+    (tie.spec
+    Inv-loop
+    μ-loop
+    loop-holds
+    turn-requires
+    left-after-requires
+    loop-less
+    loop-again
+    finish-requires
+    same-length
+    same-length-2
+    same-length-3
+    returns)

@@ -1,0 +1,2 @@
+-- What the desk's functions require of one another.
+pub mod Reading

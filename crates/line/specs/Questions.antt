@@ -1,0 +1,52 @@
+-- The frame in a line, and the questions of a line (01, "Lines at the planning desk" and "Questions, asked in this order").
+-- Holds: `settingIn`, `blocksIn`, `symbolsIn`; `digitsTo`; `characterQuestions`, `headQuestions`, `lineQuestions`.
+use mathlib.Core.Bool.{Bool, _&&_}
+use mathlib.Core.List.{List, [], _∷_, _++_, map}
+use Prim.Native.Nat.{ℕ, _+_, _-_, _*_}
+use lib.Dec.{eqb, leb}
+use lib.ListN.{length, getD, drop}
+use Rattle.code.specs.declared.Setting.{Setting}
+use Rattle.code.specs.Settings.{isSetting, settingOf}
+use Rattle.link.specs.Questions.{Question, ask, askAt, mostBlocks, symbolsTo, symbolQuestion}
+use Rattle.line.specs.Characters.{digitOf}
+
+-- "one digit for the setting, three for T, then one a symbol for T+m blocks"
+abbrev pub settingIn : List ℕ → ℕ
+settingIn line = digitOf (getD line 0 0)
+
+abbrev pub blocksIn : List ℕ → ℕ
+blocksIn line = (digitOf (getD line 1 0) * 16 + digitOf (getD line 2 0)) * 16 + digitOf (getD line 3 0)
+
+abbrev pub symbolsIn : List ℕ → List ℕ
+symbolsIn line = map digitOf (drop 4 line)
+
+-- How many characters stand before the first that is none of 0-9 and a-f.
+abbrev pub digitsTo : List ℕ → ℕ
+digitsTo line = symbolsTo 16 (map digitOf line)
+
+-- 4 + (512 + 2) × 7, the longest frame with its head.
+abbrev pub mostCharacters : ℕ
+mostCharacters = 3602
+
+-- 11: "At most 3,602 characters?" 9: "At least four, all 0-9 or a-f? (place: the first wrong character, else the length)".
+abbrev pub characterQuestions : List ℕ → List Question
+characterQuestions line =
+    ask 11 (leb (length line) mostCharacters)
+    ∷ askAt 9 (digitsTo line) (leb 4 (length line) && eqb (digitsTo line) (length line))
+    ∷ []
+
+-- 10: "Is T at least 1 and are exactly (T+m) × n digits left?"
+abbrev pub lengthQuestion : Setting → ℕ → ℕ → Question
+lengthQuestion p T left = ask 10 (leb 1 T && eqb left ((T + p .m) * p .n))
+
+-- 1: "Is the setting 1, 2 or 3?" 3: "Is T at most 512?" Then 10.
+abbrev pub headQuestions : List ℕ → List Question
+headQuestions line =
+    ask 1 (isSetting (settingIn line))
+    ∷ ask 3 (leb (blocksIn line) mostBlocks)
+    ∷ lengthQuestion (settingOf (settingIn line)) (blocksIn line) (length line - 4)
+    ∷ []
+
+-- "A line: 11 .. 9 .. 1; 3; 10 .. 4; 7." 4 counts its place in symbols. (7 is asked of the frame: see `Answers`.)
+abbrev pub lineQuestions : List ℕ → List Question
+lineQuestions line = characterQuestions line ++ headQuestions line ++ symbolQuestion (settingOf (settingIn line) .q) (symbolsIn line) ∷ []

@@ -1,0 +1,32 @@
+-- 01's sample of refused lines ("The desk program's input"), computed.
+use mathlib.Core.Path.{_≡_, refl}
+use mathlib.Core.List.{List, [], _∷_, map}
+use Prim.Native.Nat.{ℕ}
+use Rattle.link.specs.Questions.{firstNo, symbolsTo}
+use Rattle.line.specs.Characters.{digitOf, characterOf, hex}
+use Rattle.line.specs.Questions.{lineQuestions}
+use Rattle.line.specs.Answering.{refusal}
+
+-- The first "no" of a line of these digits is answered by a line of those.
+abbrev Refused : List ℕ → List ℕ → Type 0
+Refused line text = refusal (firstNo (lineQuestions (map characterOf line))) ≡ map characterOf text
+
+pub sample-symbol : Refused (1 ∷ 0 ∷ 0 ∷ 1 ∷ 2 ∷ 4 ∷ 3 ∷ 5 ∷ 2 ∷ 3 ∷ 2 ∷ 3 ∷ 0 ∷ 0 ∷ 0 ∷ 0 ∷ []) (0 ∷ 4 ∷ 0 ∷ 0 ∷ 0 ∷ 3 ∷ [])
+unfolding digitOf characterOf hex symbolsTo
+sample-symbol = refl
+
+pub sample-empty : Refused [] (0 ∷ 9 ∷ 0 ∷ 0 ∷ 0 ∷ 0 ∷ [])
+unfolding digitOf characterOf hex symbolsTo
+sample-empty = refl
+
+pub sample-setting : Refused (4 ∷ 0 ∷ 0 ∷ 1 ∷ []) (0 ∷ 1 ∷ 0 ∷ 0 ∷ 0 ∷ 0 ∷ [])
+unfolding digitOf characterOf hex symbolsTo
+sample-setting = refl
+
+pub sample-blocks : Refused (1 ∷ 2 ∷ 0 ∷ 1 ∷ []) (0 ∷ 3 ∷ 0 ∷ 0 ∷ 0 ∷ 0 ∷ [])
+unfolding digitOf characterOf hex symbolsTo
+sample-blocks = refl
+
+pub sample-length : Refused (1 ∷ 0 ∷ 0 ∷ 1 ∷ 2 ∷ 4 ∷ 3 ∷ []) (0 ∷ 10 ∷ 0 ∷ 0 ∷ 0 ∷ 0 ∷ [])
+unfolding digitOf characterOf hex symbolsTo
+sample-length = refl

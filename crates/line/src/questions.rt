@@ -1,0 +1,100 @@
+// The questions of a line before its symbols are read: 11, 9, 1, 3 and 10.
+ghost use mathlib.Core.Path.{_≡_};
+ghost use mathlib.Core.List.{_++_};
+ghost use Prim.Native.Nat.{_≤_};
+ghost use lib.ListN.{length};
+ghost use Rattle.link.specs.Questions.{answer, firstNo};
+ghost use Rattle.line.specs.Characters.{digitOf};
+ghost use Rattle.line.specs.Questions.{settingIn, blocksIn, characterQuestions, headQuestions};
+
+use super::characters;
+use link::Answer;
+
+// "A "no" gives the number .. the count is 0." Number and place 0 say that every answer is "yes".
+fn answered(number: u32, place: usize) -> Answer
+    ensures { λ r. ⌜ r ≡ answer number place 0 ⌝ }
+{
+    Answer {
+        number: number,
+        altered: 0,
+        place: place as u64,
+    }
+}
+
+fn value(character: u8) -> u32
+    ensures { λ r. ⌜ r ≡ digitOf character ⌝ }
+{
+    characters::digit(character) as u32
+}
+
+// The setting's digit.
+pub fn setting_in(line: &[u8]) -> u32
+    requires { ⌜ 4 ≤ length (now line) ⌝ }
+    ensures { λ r. ⌜ r ≡ settingIn (now (line .entry)) ⌝ }
+{
+    value(line[0])
+}
+
+// T, by its three digits.
+pub fn blocks_in(line: &[u8]) -> u32
+    requires { ⌜ 4 ≤ length (now line) ⌝ }
+    ensures { λ r. ⌜ r ≡ blocksIn (now (line .entry)) ⌝ }
+{
+    let high = value(line[1]);
+    let middle = value(line[2]);
+    let low = value(line[3]);
+    (high * 16 + middle) * 16 + low
+}
+
+// Questions 11 and 9.
+fn character_questions(line: &[u8]) -> Answer
+    ensures { λ r. ⌜ r ≡ firstNo (characterQuestions (now (line .entry))) ⌝ }
+{
+    if 3602 < line.len() {
+        return answered(11, 0);
+    }
+    let right = characters::first_wrong(line);
+    if line.len() < 4 {
+        return answered(9, right);
+    }
+    if right != line.len() {
+        return answered(9, right);
+    }
+    answered(0, 0)
+}
+
+// Questions 1, 3 and 10.
+fn head_questions(line: &[u8]) -> Answer
+    requires { ⌜ 4 ≤ length (now line) ⌝ }
+    ensures { λ r. ⌜ r ≡ firstNo (headQuestions (now (line .entry))) ⌝ }
+{
+    let number = setting_in(line);
+    if !tables::is_setting(number) {
+        return answered(1, 0);
+    }
+    let blocks = blocks_in(line);
+    if 512 < blocks {
+        return answered(3, 0);
+    }
+    if blocks < 1 {
+        return answered(10, 0);
+    }
+    let p = tables::setting(number);
+    let n = p.n;
+    let m = p.m;
+    if line.len() - 4 != (blocks as usize + m) * n {
+        return answered(10, 0);
+    }
+    answered(0, 0)
+}
+
+// Questions 11, 9, 1, 3 and 10.
+pub fn frame_questions(line: &[u8]) -> Answer
+    ensures { λ r. ⌜ r ≡ firstNo (characterQuestions (now (line .entry)) ++ headQuestions (now (line .entry))) ⌝ }
+{
+    let first = character_questions(line);
+    if first.number != 0 {
+        return first;
+    }
+    head_questions(line)
+}

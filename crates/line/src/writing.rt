@@ -1,0 +1,88 @@
+// Output lines.
+ghost use mathlib.Core.Path.{_≡_};
+ghost use mathlib.Core.List.{map};
+ghost use Prim.Native.Nat.{_≤_, _<_, _%_};
+ghost use lib.ListN.{length};
+ghost use Rattle.field.specs.Symbols.{Symbols};
+ghost use Rattle.line.specs.Characters.{characterOf, hex};
+ghost use Rattle.line.specs.Answering.{refusal, opening, success, Placed, Shown};
+
+use super::characters;
+use link::Answer;
+
+// The last digit of a number.
+fn last_digit(number: u64) -> u8
+    ensures { λ r. ⌜ r ≡ characterOf (number % 16) ⌝ }
+{
+    characters::character((number % 16) as u8)
+}
+
+// A number in as many digits as the area has places: from the last place back.
+fn write_number(number: u64, area: &mut [u8])
+    ensures { λ _. ⌜ now (area .exit) ≡ hex (length (now (area .entry))) number ⌝ }
+{
+    let mut left = number;
+    let mut i = area.len();
+    while 0 < i {
+        i -= 1;
+        let character = last_digit(left);
+        area[i] = character;
+        left = left / 16;
+    }
+}
+
+// The symbols of a message, one digit each.
+fn write_symbols(symbols: &[u8], area: &mut [u8])
+    requires { ⌜ Symbols 16 (now symbols) × (length (now symbols) ≡ length (now area)) ⌝ }
+    ensures { λ _. ⌜ now (area .exit) ≡ map characterOf (now (symbols .entry)) ⌝ }
+{
+    let mut i: usize = 0;
+    while i < symbols.len() {
+        let character = characters::character(symbols[i]);
+        area[i] = character;
+        i += 1;
+    }
+}
+
+// "two digits of the question's number and four of the place"
+pub fn write_refusal(answer: Answer, output: &mut [u8]) -> usize
+    ensures { λ r. ⌜ Shown (refusal answer) (now (output .entry)) r (now (output .exit)) ⌝ }
+{
+    if output.len() < 6 {
+        return 0;
+    }
+    write_number(answer.number as u64, &mut output[0..2]);
+    write_number(answer.place, &mut output[2..6]);
+    6
+}
+
+// "`00`, four digits of altered count, the setting digit, three of T"
+fn write_opening(count: u32, number: u32, blocks: u32, output: &mut [u8])
+    requires { ⌜ 10 ≤ length (now output) ⌝ }
+    ensures { λ _. ⌜ Placed (opening count number blocks) (now (output .entry)) (now (output .exit)) ⌝ }
+{
+    write_number(0, &mut output[0..2]);
+    write_number(count as u64, &mut output[2..6]);
+    write_number(number as u64, &mut output[6..7]);
+    write_number(blocks as u64, &mut output[7..10]);
+}
+
+// The opening "and the message symbols".
+pub fn write_success(
+    count: u32,
+    number: u32,
+    blocks: u32,
+    message: &[u8],
+    output: &mut [u8],
+) -> usize
+    requires { ⌜ Symbols 16 (now message) × (length (now message) ≤ 1536) ⌝ }
+    ensures { λ r. ⌜ Shown (success count number blocks (now (message .entry))) (now (output .entry)) r (now (output .exit)) ⌝ }
+{
+    let long = 10 + message.len();
+    if output.len() < long {
+        return 0;
+    }
+    write_opening(count, number, blocks, output);
+    write_symbols(message, &mut output[10..long]);
+    long
+}
