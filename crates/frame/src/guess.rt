@@ -140,8 +140,56 @@ pub fn add_found(
     }
 }
 
-// Guesses block i of the message, if it has such a block, from the first k symbols of what is left of its block: any guess will do, and this one
-// is right where they were not altered. Row r of G_0 is zero before place r and has the symbol 1/scale there.
+// Guesses block i of the message from the first k symbols of what is left of its block: any guess will do, and this one is right where they
+// were not altered. Row r of G_0 is zero before place r and has the symbol 1/scale there.
+fn guess_from_start(
+    p: Setting,
+    products: &Tables,
+    rows: &Rows,
+    scale: u8,
+    blocks: usize,
+    i: usize,
+    message: &mut [u8],
+    left: &mut [u8],
+)
+    requires { ⌜ Ready p (now products) (now rows) × (scale < p .q) × (i < blocks) × Areas p blocks (now message) (now left) ⌝ }
+    ensures { λ _. ⌜ Revised p blocks i (now (message .entry)) (now (left .entry)) (now (message .exit)) (now (left .exit)) ⌝ }
+{
+    let q = p.q;
+    let k = p.k;
+    let start = i * p.n;
+    let mut r: usize = 0;
+    while r < k {
+        let v = field::multiply(q, products, scale, left[start + r]);
+        adjust(p, products, rows, blocks, i, r, v, message, left);
+        r += 1;
+    }
+}
+
+// The same from the last k symbols: row r of G_0 is zero after place n - k + r and has the symbol 1 there.
+fn guess_from_end(
+    p: Setting,
+    products: &Tables,
+    rows: &Rows,
+    blocks: usize,
+    i: usize,
+    message: &mut [u8],
+    left: &mut [u8],
+)
+    requires { ⌜ Ready p (now products) (now rows) × (i < blocks) × Areas p blocks (now message) (now left) ⌝ }
+    ensures { λ _. ⌜ Revised p blocks i (now (message .entry)) (now (left .entry)) (now (message .exit)) (now (left .exit)) ⌝ }
+{
+    let last = i * p.n + (p.n - p.k);
+    let mut r = p.k;
+    while 0 < r {
+        r -= 1;
+        let v = left[last + r];
+        adjust(p, products, rows, blocks, i, r, v, message, left);
+    }
+}
+
+// Guesses block i of the message, if it has such a block: from the first symbols, or from the last ones if more is left of its block than half
+// of d_0.
 pub fn guess_block(
     p: Setting,
     products: &Tables,
@@ -158,15 +206,14 @@ pub fn guess_block(
     if blocks <= i {
         return;
     }
-    let q = p.q;
-    let k = p.k;
+    guess_from_start(p, products, rows, scale, blocks, i, message, left);
     let start = i * p.n;
-    let mut r: usize = 0;
-    while r < k {
-        let v = field::multiply(q, products, scale, left[start + r]);
-        adjust(p, products, rows, blocks, i, r, v, message, left);
-        r += 1;
+    let end = start + p.n;
+    let distance = p.n - p.k + 1;
+    if 2 * super::area::weight(&left[start..end]) <= distance {
+        return;
     }
+    guess_from_end(p, products, rows, blocks, i, message, left);
 }
 
 // Guesses the blocks of the message before block m.

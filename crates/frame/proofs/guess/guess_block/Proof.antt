@@ -1,115 +1,104 @@
--- `frame::guess::guess_block`: whatever is guessed, what is left stays the residual.
+-- `frame::guess::guess_block`: one guess, or two after each other.
 use mathlib.Core.Path.{_≡_}
 use Prim.Native.Nat.{ℕ, _+_, _-_, _*_, _≤_, _<_}
 use native.Mathlib.Omega.{arith}
+use borrow.Author.Needs.{needs}
 use denote.Ref.{now}
-use lib.ListN.{length, getD}
-use Rattle.code.specs.Windows.{windowLength}
-use Rattle.code.proofs.Lists.{symbol-below}
-use Rattle.code.proofs.Numbers.{positive}
-use Rattle.frame.specs.Frame.{Revised}
-use Rattle.frame.proofs.Guesses.{revised-none, revised-then, revised-lengths, window-room, first-room}
+use lib.ListN.{length, take, drop}
+use Rattle.block.specs.Area.{at}
+use Rattle.frame.proofs.Levels.{few, part-length}
+use Rattle.frame.proofs.Guesses.{revised-none, revised-then, block-room, information-short}
 use Rattle.frame.proofs.guess.guess_block.Statement.{statement}
 use Rattle.frame.proofs.guess.guess_block.Tie as tie
 
-abbrev Inv-loop : tie.InvT-loop
-Inv-loop p products rows scale blocks i message₀ left₀ q k start r₀ message left r = (r ≤ p .k) × Revised p blocks i message₀ left₀ message left
+returns : tie.Need-returns
+returns c = search needs
 
-abbrev μ-loop : tie.MeasureT-loop
-μ-loop p products rows scale blocks i message₀ left₀ q k start r₀ message left r = p .k - r
+guess-from-start-requires : tie.Need-guess-from-start-requires
+guess-from-start-requires c κs = search needs
 
-returns : tie.Need-returns Inv-loop μ-loop
-returns c =
-    let a = c .before .before .before .args in
-    revised-none (a .p) (a .blocks) (a .i) (now (a .message)) (now (a .left)) (c .before .before .before .pre .2)
-
-mul-start : tie.Need-mul-start Inv-loop μ-loop
-mul-start c =
-    let a = c .before .before .before .before .args in
-    let some : a .i < a .blocks = omega (arith, c .before .if1 .left) in
-    omega (arith, window-room (a .p) (a .blocks) (a .i) (now (a .message)) (now (a .left)) (c .before .before .before .before .pre .2) some)
-
-loop-holds : tie.Need-loop-holds Inv-loop μ-loop
-loop-holds c =
-    let a = c .before .before .before .before .args in
-    (omega arith, revised-none (a .p) (a .blocks) (a .i) (now (a .message)) (now (a .left)) (c .before .before .before .before .pre .2))
-
--- The first k symbols of block i are there.
-inside : (c : tie.In-loop Inv-loop μ-loop) → c .before .before .before .before .before .before .args .i * c .before .before .before .before .before .before .args .p .n + c .before .loop .r < length (c .before .loop .left)
-inside c =
-    let entry = c .before .before .before .before .before .before in
-    let a = entry .args in
+-- Block i lies within what is left after the first guess.
+room : (c : tie.After-guess-from-start) → c .before .before .before .before .before .before .args .i * c .before .before .before .before .before .before .args .p .n + c .before .before .before .before .before .before .args .p .n ≤ length (c .guess-from-start .last .1 .1 .1 .1 .1 .1 .1 .0)
+room c =
+    let a = c .before .before .before .before .before .before .args in
     let some : a .i < a .blocks = omega (arith, c .before .before .before .if1 .left) in
-    first-room (a .p) (entry .pre .0 .sound) (a .blocks) (a .i) (c .before .loop .r) (c .before .loop .message) (c .before .loop .left) (c .before .loop .inv .1 .areas) some (c .loop-test .taken)
+    block-room (a .p) (a .blocks) (a .i) (c .guess-from-start .last .1 .1 .1 .1 .1 .1 .0) (c .guess-from-start .last .1 .1 .1 .1 .1 .1 .1 .0) (c .guess-from-start .ensures .areas) some
 
-add-multiply : tie.Need-add-multiply Inv-loop μ-loop
-add-multiply c =
-    let entry = c .before .before .before .before .before .before in
-    omega (arith, inside c, revised-lengths (entry .args .p) (entry .args .blocks) (now (entry .args .message)) (now (entry .args .left)) (c .before .loop .message) (c .before .loop .left) (entry .pre .2) (c .before .loop .inv .1 .areas) .1)
+mul-start : tie.Need-mul-start
+mul-start c = omega (arith, room (c .before .before .before .before .before))
 
-slice-read-multiply : tie.Need-slice-read-multiply Inv-loop μ-loop
-slice-read-multiply c = inside (c .before)
+add-end : tie.Need-add-end
+add-end c = omega (arith, room (c .before .before .before .before .before .before))
 
-multiply-requires : tie.Need-multiply-requires Inv-loop μ-loop
-multiply-requires c κs =
-    let entry = c .before .before .before .before .before .before .before in
+sub-distance : tie.Need-sub-distance
+sub-distance c = search needs
+
+add-distance : tie.Need-add-distance
+add-distance c = search needs
+
+sub-weight : tie.Need-sub-weight
+sub-weight c = search needs
+
+part-weight-start : tie.Need-part-weight-start
+part-weight-start c = search needs
+
+part-weight-end : tie.Need-part-weight-end
+part-weight-end c = room (c .before .before .before .before .before .before .before .before)
+
+weight-requires : tie.Need-weight-requires
+weight-requires c κs = search needs
+
+mul-if2 : tie.Need-mul-if2
+mul-if2 c =
+    let entry = c .before .before .before .before .before .before .before .before .before .before .before .before .before .before .before .before in
     let a = entry .args in
-    let l = c .before .before .loop in
-    ( entry .pre .0 .sound .good
-    , entry .pre .0 .products
-    , entry .pre .1
-    , symbol-below (a .p .q) (l .left) (l .inv .1 .areas .left-symbols) (positive (a .p) (entry .pre .0 .sound)) (a .i * a .p .n + l .r)
-    )
+    let part = take (a .i * a .p .n + a .p .n - a .i * a .p .n) (drop (a .i * a .p .n) (c .before .before .before .before .before .before .before .before .before .before .guess-from-start .last .1 .1 .1 .1 .1 .1 .1 .0)) in
+    omega (arith, few (length part) (at part) (λ _. 0) (c .weight .ensures), part-length (a .p .n) (a .i * a .p .n) (c .before .before .before .before .before .before .before .before .before .before .guess-from-start .last .1 .1 .1 .1 .1 .1 .1 .0) (room (c .before .before .before .before .before .before .before .before .before .before)),
+      entry .pre .0 .sound .block, entry .pre .0 .small .elements)
 
-adjust-requires : tie.Need-adjust-requires Inv-loop μ-loop
-adjust-requires c κs =
-    let entry = c .before .before .before .before .before .before .before .before .before .before in
-    (entry .pre .0, omega (arith, c .before .before .before .before .before .before .before .if1 .left), c .before .before .before .before .loop-test .taken, c .before .before .multiply .ensures .below, c .before .before .before .before .before .loop .inv .1 .areas)
+same-length : tie.Need-same-length
+same-length c = search needs
 
-add-r : tie.Need-add-r Inv-loop μ-loop
-add-r c = omega (arith, c .before .before .before .before .before .before .before .before .before .before .before .before .before .before .before .pre .0 .small .information)
+same-length-2 : tie.Need-same-length-2
+same-length-2 c = search needs
 
-loop-less : tie.Need-loop-less Inv-loop μ-loop
-loop-less c = omega arith
+returns-2 : tie.Need-returns-2
+returns-2 c = search needs
 
-loop-again : tie.Need-loop-again Inv-loop μ-loop
-loop-again c =
-    let a = c .before .before .before .before .before .before .before .before .before .before .before .before .before .before .before .args in
-    let l = c .before .before .before .before .before .before .before .before .before .before .loop in
-    ( omega arith
-    , revised-then (a .p) (a .blocks) (a .i) (a .i) (now (a .message)) (now (a .left)) (l .message) (l .left) (c .before .before .before .before .adjust .last .1 .1 .1 .1 .1 .1 .1 .0) (c .before .before .before .before .adjust .last .1 .1 .1 .1 .1 .1 .1 .1 .0)
-      (omega arith) (l .inv .1) (c .before .before .before .before .adjust .ensures .revised)
-    )
+guess-from-end-requires : tie.Need-guess-from-end-requires
+guess-from-end-requires c κs = search needs
 
-same-length : tie.Need-same-length Inv-loop μ-loop
-same-length c =
-    let entry = c .before .before .before .before .before .before in
-    revised-lengths (entry .args .p) (entry .args .blocks) (now (entry .args .message)) (now (entry .args .left)) (c .before .loop .message) (c .before .loop .left) (entry .pre .2) (c .before .loop .inv .1 .areas) .0
+same-length-3 : tie.Need-same-length-3
+same-length-3 c = search needs
 
-same-length-2 : tie.Need-same-length-2 Inv-loop μ-loop
-same-length-2 c =
-    let entry = c .before .before .before .before .before .before in
-    revised-lengths (entry .args .p) (entry .args .blocks) (now (entry .args .message)) (now (entry .args .left)) (c .before .loop .message) (c .before .loop .left) (entry .pre .2) (c .before .loop .inv .1 .areas) .1
+same-length-4 : tie.Need-same-length-4
+same-length-4 c = search needs
 
-returns-2 : tie.Need-returns-2 Inv-loop μ-loop
-returns-2 c = c .before .loop .inv .1
+returns-3 : tie.Need-returns-3
+returns-3 c =
+    let a = c .before .before .before .before .before .before .before .before .before .before .before .before .before .before .before .before .before .before .before .before .before .before .before .before .args in
+    revised-then (a .p) (a .blocks) (a .i) (a .i) (now (a .message)) (now (a .left)) (c .before .before .before .before .before .before .before .before .before .before .before .before .before .before .before .before .before .before .guess-from-start .last .1 .1 .1 .1 .1 .1 .0) (c .before .before .before .before .before .before .before .before .before .before .before .before .before .before .before .before .before .before .guess-from-start .last .1 .1 .1 .1 .1 .1 .1 .0)
+    (c .before .before .before .before .guess-from-end .last .1 .1 .1 .1 .1 .0) (c .before .before .before .before .guess-from-end .last .1 .1 .1 .1 .1 .1 .0) (omega arith) (c .before .before .before .before .before .before .before .before .before .before .before .before .before .before .before .before .before .before .guess-from-start .ensures) (c .before .before .before .before .guess-from-end .ensures)
 
 pub guess-block-spec : {M : Type 1} → statement M
 guess-block-spec =
     tie.close
     (tie.spec
-    Inv-loop
-    μ-loop
     returns
+    guess-from-start-requires
     mul-start
-    loop-holds
-    add-multiply
-    slice-read-multiply
-    multiply-requires
-    adjust-requires
-    add-r
-    loop-less
-    loop-again
+    add-end
+    sub-distance
+    add-distance
+    sub-weight
+    part-weight-start
+    part-weight-end
+    weight-requires
+    mul-if2
     same-length
     same-length-2
-    returns-2)
+    returns-2
+    guess-from-end-requires
+    same-length-3
+    same-length-4
+    returns-3)
