@@ -3,9 +3,10 @@ ghost use mathlib.Core.Path.{_≡_};
 ghost use Prim.Native.Nat.{_+_, _*_, _≤_, _<_};
 ghost use lib.ListN.{length, getD};
 ghost use Rattle.field.specs.Symbols.{Symbols};
+ghost use Rattle.code.specs.Settings.{Sound};
 ghost use Rattle.code.specs.Windows.{windowLength};
 ghost use Rattle.code.specs.Reading.{only};
-ghost use Rattle.tables.specs.Tables.{Ready};
+ghost use Rattle.tables.specs.Tables.{Ready, Small};
 ghost use Rattle.frame.specs.Window.{Lessened, LessenedTo};
 ghost use Rattle.frame.specs.Frame.{Areas, Revised, Adjusted, Added};
 
@@ -188,9 +189,18 @@ fn guess_from_end(
     }
 }
 
-// Guesses block i of the message, if it has such a block: from the first symbols, or from the last ones if more is left of its block than half
-// of d_0.
-pub fn guess_block(
+// Whether at most half of d_0 symbols are left of block i.
+fn is_light(p: Setting, i: usize, left: &[u8]) -> bool
+    requires { ⌜ Sound p × Small p × (i * p .n + p .n ≤ length (now left)) ⌝ }
+{
+    let start = i * p.n;
+    let end = start + p.n;
+    let distance = p.n - p.k + 1;
+    2 * super::area::weight(&left[start..end]) <= distance
+}
+
+// Guesses block i of the message again, if it has such a block and too much is left of it: from the first symbols, or else from the last ones.
+fn guess_block(
     p: Setting,
     products: &Tables,
     rows: &Rows,
@@ -206,33 +216,34 @@ pub fn guess_block(
     if blocks <= i {
         return;
     }
+    if is_light(p, i, left) {
+        return;
+    }
     guess_from_start(p, products, rows, scale, blocks, i, message, left);
-    let start = i * p.n;
-    let end = start + p.n;
-    let distance = p.n - p.k + 1;
-    if 2 * super::area::weight(&left[start..end]) <= distance {
+    if is_light(p, i, left) {
         return;
     }
     guess_from_end(p, products, rows, blocks, i, message, left);
 }
 
-// Guesses the blocks of the message before block m.
-pub fn guess_first_blocks(
+// Guesses the blocks of window j.
+pub fn guess_window(
     p: Setting,
     products: &Tables,
     rows: &Rows,
     scale: u8,
     blocks: usize,
+    j: usize,
     message: &mut [u8],
     left: &mut [u8],
 )
-    requires { ⌜ Ready p (now products) (now rows) × (scale < p .q) × Areas p blocks (now message) (now left) ⌝ }
-    ensures { λ _. ⌜ Revised p blocks 0 (now (message .entry)) (now (left .entry)) (now (message .exit)) (now (left .exit)) ⌝ }
+    requires { ⌜ Ready p (now products) (now rows) × (scale < p .q) × (j < blocks) × Areas p blocks (now message) (now left) ⌝ }
+    ensures { λ _. ⌜ Revised p blocks j (now (message .entry)) (now (left .entry)) (now (message .exit)) (now (left .exit)) ⌝ }
 {
     let m = p.m;
-    let mut i: usize = 0;
-    while i < m {
-        guess_block(p, products, rows, scale, blocks, i, message, left);
-        i += 1;
+    let mut s: usize = 0;
+    while s <= m {
+        guess_block(p, products, rows, scale, blocks, j + s, message, left);
+        s += 1;
     }
 }

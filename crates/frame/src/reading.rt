@@ -12,7 +12,7 @@ use code::Setting;
 use field::Tables;
 use tables::{Matrix, Rows};
 
-// One turn: the block that enters window j is guessed, and then block j made certain by what the window says.
+// One turn: the blocks of window j are guessed, and then block j made certain by what the window says.
 fn turn(
     p: Setting,
     products: &Tables,
@@ -31,8 +31,7 @@ fn turn(
     let size = (p.m + 1) * p.n;
     let start = j * p.n;
     let end = start + size;
-    let entering = j + p.m;
-    super::guess::guess_block(p, products, rows, scale, blocks, entering, message, left);
+    super::guess::guess_window(p, products, rows, scale, blocks, j, message, left);
     let mut information = [0u8; 16];
     let found = super::window::read_window(p, products, rows, matrix, &left[start..end], &mut information);
     if found == 0 {
@@ -57,7 +56,6 @@ fn read_windows(
     requires { ⌜ Ready p (now products) (now rows) × MatrixOf p (now matrix) × (scale < p .q) × (length (now reception) ≡ (blocks + p .m) * p .n) × Symbols (p .q) (now reception) × Progress p blocks (now reception) 0 (now message) (now left) ⌝ }
     ensures { λ r. ⌜ Advanced p blocks (now (reception .entry)) blocks (now (message .exit)) (now (left .exit)) r ⌝ }
 {
-    super::guess::guess_first_blocks(p, products, rows, scale, blocks, message, left);
     let mut j: usize = 0;
     while j < blocks {
         if !turn(p, products, rows, matrix, scale, blocks, reception, j, message, left) {

@@ -6,7 +6,6 @@ use denote.Ref.{now}
 use lib.ListN.{length}
 use Rattle.frame.specs.Frame.{Progress, Advanced, advanced}
 use Rattle.frame.proofs.Guesses.{revised-lengths}
-use Rattle.frame.proofs.Progress.{progress-revised}
 use Rattle.frame.proofs.Advance.{advance-more, advance-stopped}
 use Rattle.frame.proofs.reading.read_windows.Statement.{statement}
 use Rattle.frame.proofs.reading.read_windows.Tie as tie
@@ -17,28 +16,19 @@ Inv-loop p products rows matrix scale blocks reception message₀ left₀ j₀ m
 abbrev μ-loop : tie.MeasureT-loop
 μ-loop p products rows matrix scale blocks reception message₀ left₀ j₀ message left j = blocks - j
 
-guess-first-blocks-requires : tie.Need-guess-first-blocks-requires Inv-loop μ-loop
-guess-first-blocks-requires c κs = (c .before .before .before .before .before .pre .0, c .before .before .before .before .before .pre .2, c .before .before .before .before .before .pre .5 .areas)
-
 loop-holds : tie.Need-loop-holds Inv-loop μ-loop
-loop-holds c =
-    let entry = c .before .before .before .before .before .before .before .before .before .before in
-    let a = entry .args in
-    ( omega arith
-    , progress-revised (a .p) (entry .pre .0 .sound) (a .blocks) (now (a .reception)) (entry .pre .4) (entry .pre .3) 0 (now (a .message)) (now (a .left)) (entry .pre .5)
-      0 (c .before .before .before .before .guess-first-blocks .last .1 .1 .1 .1 .1 .0) (c .before .before .before .before .guess-first-blocks .last .1 .1 .1 .1 .1 .1 .0) (omega arith) (c .before .before .before .before .guess-first-blocks .ensures)
-    )
+loop-holds c = (omega arith, c .before .before .before .pre .5)
 
 turn-requires : tie.Need-turn-requires Inv-loop μ-loop
 turn-requires c κs =
-    let entry = c .before .before .before .before .before .before .before .before .before .before .before .before .before .before in
+    let entry = c .before .before .before .before .before .before .before in
     (entry .pre .0, entry .pre .1, entry .pre .2, entry .pre .3, entry .pre .4, c .before .before .loop-test .taken, c .before .before .before .loop .inv .1)
 
 -- The areas keep their lengths.
-kept : (c : tie.At-loop Inv-loop μ-loop) → (length (c .loop .message) ≡ length (now (c .before .before .before .before .before .before .before .before .before .before .before .args .message))) × (length (c .loop .left) ≡ length (now (c .before .before .before .before .before .before .before .before .before .before .before .args .left)))
+kept : (c : tie.At-loop Inv-loop μ-loop) → (length (c .loop .message) ≡ length (now (c .before .before .before .before .args .message))) × (length (c .loop .left) ≡ length (now (c .before .before .before .before .args .left)))
 kept c =
-    let a = c .before .before .before .before .before .before .before .before .before .before .before .args in
-    revised-lengths (a .p) (a .blocks) (now (a .message)) (now (a .left)) (c .loop .message) (c .loop .left) (c .before .before .before .before .before .before .before .before .before .before .before .pre .5 .areas) (c .loop .inv .1 .areas)
+    let a = c .before .before .before .before .args in
+    revised-lengths (a .p) (a .blocks) (now (a .message)) (now (a .left)) (c .loop .message) (c .loop .left) (c .before .before .before .before .pre .5 .areas) (c .loop .inv .1 .areas)
 
 same-length : tie.Need-same-length Inv-loop μ-loop
 same-length c = c .before .before .before .before .before .turn .kept .1 .1 .1 .1 .1 .1 .1 .1 .0 ∙ kept (c .before .before .before .before .before .before .before .before .before) .0
@@ -48,7 +38,7 @@ same-length-2 c = c .before .before .before .before .before .turn .kept .1 .1 .1
 
 returns : tie.Need-returns Inv-loop μ-loop
 returns c =
-    let a = c .before .before .before .before .before .before .before .before .before .before .before .before .before .before .before .before .before .before .before .before .args in
+    let a = c .before .before .before .before .before .before .before .before .before .before .before .before .before .args in
     advance-stopped (a .p) (a .blocks) (now (a .reception)) (c .before .before .before .before .before .before .before .before .before .loop .j + 1) (c .before .before .before .before .before .turn .last .1 .1 .1 .1 .1 .1 .1 .1 .0) (c .before .before .before .before .before .turn .last .1 .1 .1 .1 .1 .1 .1 .1 .1 .0)
     (a .blocks) (c .before .before .before .before .before .turn .last .1 .1 .1 .1 .1 .1 .1 .1 .0) (c .before .before .before .before .before .turn .last .1 .1 .1 .1 .1 .1 .1 .1 .1 .0) (c .before .before .before .before .before .turn .ensures) (c .if1 .taken)
 
@@ -60,7 +50,7 @@ loop-less c = omega arith
 
 loop-again : tie.Need-loop-again Inv-loop μ-loop
 loop-again c =
-    let a = c .before .before .before .before .before .before .before .before .before .before .before .before .before .before .before .before .before .before .before .before .args in
+    let a = c .before .before .before .before .before .before .before .before .before .before .before .before .before .args in
     ( omega arith
     , advance-more (a .p) (a .blocks) (now (a .reception)) (c .before .before .before .before .before .before .before .before .before .loop .j + 1) (c .before .before .before .before .before .turn .last .1 .1 .1 .1 .1 .1 .1 .1 .0) (c .before .before .before .before .before .turn .last .1 .1 .1 .1 .1 .1 .1 .1 .1 .0) (c .before .before .before .before .before .turn .ensures) (c .if1 .left)
     )
@@ -73,7 +63,7 @@ same-length-4 c = kept (c .before) .1
 
 returns-2 : tie.Need-returns-2 Inv-loop μ-loop
 returns-2 c =
-    let a = c .before .before .before .before .before .before .before .before .before .before .before .before .args in
+    let a = c .before .before .before .before .before .args in
     let done : c .before .loop .j ≡ a .blocks = omega arith in
     advanced (subst (λ (t : ℕ). Progress (a .p) (a .blocks) (now (a .reception)) t (c .before .loop .message) (c .before .loop .left)) done (c .before .loop .inv .1))
 
@@ -83,7 +73,6 @@ read-windows-spec =
     (tie.spec
     Inv-loop
     μ-loop
-    guess-first-blocks-requires
     loop-holds
     turn-requires
     same-length

@@ -11,7 +11,7 @@ use Rattle.block.specs.Area.{Area}
 use Rattle.frame.specs.Frame.{Progress}
 use Rattle.frame.proofs.Levels.{part-length, symbols-part}
 use Rattle.frame.proofs.Turn.{levels-area, levels-few}
-use Rattle.frame.proofs.Guesses.{window-room, blocks-few}
+use Rattle.frame.proofs.Guesses.{window-room}
 use Rattle.frame.proofs.Progress.{progress-revised}
 use Rattle.frame.proofs.Advance.{advance-none, advance-found}
 use Rattle.frame.proofs.reading.turn.Statement.{statement}
@@ -34,21 +34,16 @@ mul-start c = omega (arith, room (c .before .before .before .before .before .bef
 add-end : tie.Need-add-end
 add-end c = omega (arith, room (c .before .before .before .before .before .before))
 
-add-entering : tie.Need-add-entering
-add-entering c =
-    let a = c .before .before .before .before .before .before .before .args in
-    omega (arith, blocks-few (a .p) (c .before .before .before .before .before .before .before .pre .0 .sound) (a .blocks) (now (a .message)) (now (a .left)) (c .before .before .before .before .before .before .before .pre .6 .areas), c .before .before .before .before .before .before .before .pre .5)
-
-guess-block-requires : tie.Need-guess-block-requires
-guess-block-requires c κs = (c .before .before .before .before .before .before .before .before .before .pre .0, c .before .before .before .before .before .before .before .before .before .pre .2, c .before .before .before .before .before .before .before .before .before .pre .6 .areas)
+guess-window-requires : tie.Need-guess-window-requires
+guess-window-requires c κs = (c .before .before .before .before .before .before .before .before .pre .0, c .before .before .before .before .before .before .before .before .pre .2, c .before .before .before .before .before .before .before .before .pre .5, c .before .before .before .before .before .before .before .before .pre .6 .areas)
 
 -- What was known is known of the new guess.
-known : (c : tie.After-guess-block) → Progress (c .before .before .before .before .before .before .before .before .before .before .args .p) (c .before .before .before .before .before .before .before .before .before .before .args .blocks) (now (c .before .before .before .before .before .before .before .before .before .before .args .reception)) (c .before .before .before .before .before .before .before .before .before .before .args .j) (c .guess-block .last .1 .1 .1 .1 .1 .1 .0) (c .guess-block .last .1 .1 .1 .1 .1 .1 .1 .0)
+known : (c : tie.After-guess-window) → Progress (c .before .before .before .before .before .before .before .before .before .args .p) (c .before .before .before .before .before .before .before .before .before .args .blocks) (now (c .before .before .before .before .before .before .before .before .before .args .reception)) (c .before .before .before .before .before .before .before .before .before .args .j) (c .guess-window .last .1 .1 .1 .1 .1 .1 .0) (c .guess-window .last .1 .1 .1 .1 .1 .1 .1 .0)
 known c =
-    let entry = c .before .before .before .before .before .before .before .before .before .before in
+    let entry = c .before .before .before .before .before .before .before .before .before in
     let a = entry .args in
     progress-revised (a .p) (entry .pre .0 .sound) (a .blocks) (now (a .reception)) (entry .pre .4) (entry .pre .3) (a .j) (now (a .message)) (now (a .left)) (entry .pre .6)
-    (a .j + a .p .m) (c .guess-block .last .1 .1 .1 .1 .1 .1 .0) (c .guess-block .last .1 .1 .1 .1 .1 .1 .1 .0) (omega arith) (c .guess-block .ensures)
+    (a .j) (c .guess-window .last .1 .1 .1 .1 .1 .1 .0) (c .guess-window .last .1 .1 .1 .1 .1 .1 .1 .0) (omega arith) (c .guess-window .ensures)
 
 sub-read-window : tie.Need-sub-read-window
 sub-read-window c = search needs
@@ -56,22 +51,22 @@ sub-read-window c = search needs
 part-read-window-start : tie.Need-part-read-window-start
 part-read-window-start c = search needs
 
-still-room : (c : tie.After-guess-block) → c .before .before .before .before .before .before .before .before .before .before .args .j * c .before .before .before .before .before .before .before .before .before .before .args .p .n + windowLength (c .before .before .before .before .before .before .before .before .before .before .args .p) ≤ length (c .guess-block .last .1 .1 .1 .1 .1 .1 .1 .0)
+still-room : (c : tie.After-guess-window) → c .before .before .before .before .before .before .before .before .before .args .j * c .before .before .before .before .before .before .before .before .before .args .p .n + windowLength (c .before .before .before .before .before .before .before .before .before .args .p) ≤ length (c .guess-window .last .1 .1 .1 .1 .1 .1 .1 .0)
 still-room c =
-    let a = c .before .before .before .before .before .before .before .before .before .before .args in
-    window-room (a .p) (a .blocks) (a .j) (c .guess-block .last .1 .1 .1 .1 .1 .1 .0) (c .guess-block .last .1 .1 .1 .1 .1 .1 .1 .0) (c .guess-block .ensures .areas) (c .before .before .before .before .before .before .before .before .before .before .pre .5)
+    let a = c .before .before .before .before .before .before .before .before .before .args in
+    window-room (a .p) (a .blocks) (a .j) (c .guess-window .last .1 .1 .1 .1 .1 .1 .0) (c .guess-window .last .1 .1 .1 .1 .1 .1 .1 .0) (c .guess-window .ensures .areas) (c .before .before .before .before .before .before .before .before .before .pre .5)
 
 part-read-window-end : tie.Need-part-read-window-end
 part-read-window-end c = still-room (c .before .before .before .before .before)
 
 read-window-requires : tie.Need-read-window-requires
 read-window-requires c κs =
-    let entry = c .before .before .before .before .before .before .before .before .before .before .before .before .before .before .before .before .before in
+    let entry = c .before .before .before .before .before .before .before .before .before .before .before .before .before .before .before .before in
     let a = entry .args in
     ( entry .pre .0
     , entry .pre .1
-    , part-length (windowLength (a .p)) (a .j * a .p .n) (c .before .before .before .before .before .before .before .guess-block .last .1 .1 .1 .1 .1 .1 .1 .0) (still-room (c .before .before .before .before .before .before .before))
-    , symbols-part (a .p .q) (windowLength (a .p)) (a .j * a .p .n) (c .before .before .before .before .before .before .before .guess-block .last .1 .1 .1 .1 .1 .1 .1 .0) (c .before .before .before .before .before .before .before .guess-block .ensures .areas .left-symbols) (positive (a .p) (entry .pre .0 .sound))
+    , part-length (windowLength (a .p)) (a .j * a .p .n) (c .before .before .before .before .before .before .before .guess-window .last .1 .1 .1 .1 .1 .1 .1 .0) (still-room (c .before .before .before .before .before .before .before))
+    , symbols-part (a .p .q) (windowLength (a .p)) (a .j * a .p .n) (c .before .before .before .before .before .before .before .guess-window .last .1 .1 .1 .1 .1 .1 .1 .0) (c .before .before .before .before .before .before .before .guess-window .ensures .areas .left-symbols) (positive (a .p) (entry .pre .0 .sound))
     )
 
 same-length : tie.Need-same-length
@@ -82,28 +77,28 @@ same-length-2 c = search needs
 
 returns : tie.Need-returns
 returns c =
-    let entry = c .before .before .before .before .before .before .before .before .before .before .before .before .before .before .before .before .before .before .before in
+    let entry = c .before .before .before .before .before .before .before .before .before .before .before .before .before .before .before .before .before .before in
     let a = entry .args in
-    advance-none (a .p) (entry .pre .0 .sound) (a .blocks) (now (a .reception)) (entry .pre .4) (entry .pre .3) (a .j) (c .before .before .before .before .before .before .before .before .before .guess-block .last .1 .1 .1 .1 .1 .1 .0) (c .before .before .before .before .before .before .before .before .before .guess-block .last .1 .1 .1 .1 .1 .1 .1 .0)
-    (known (c .before .before .before .before .before .before .before .before .before)) (entry .pre .5) (c .before .read-window .last .1 .1 .1 .1 .1 .0) (a .j + 1) (c .before .before .before .before .before .before .before .before .before .guess-block .last .1 .1 .1 .1 .1 .1 .0) (c .before .before .before .before .before .before .before .before .before .guess-block .last .1 .1 .1 .1 .1 .1 .1 .0) (c .before .read-window .ensures) (c .if1 .taken)
+    advance-none (a .p) (entry .pre .0 .sound) (a .blocks) (now (a .reception)) (entry .pre .4) (entry .pre .3) (a .j) (c .before .before .before .before .before .before .before .before .before .guess-window .last .1 .1 .1 .1 .1 .1 .0) (c .before .before .before .before .before .before .before .before .before .guess-window .last .1 .1 .1 .1 .1 .1 .1 .0)
+    (known (c .before .before .before .before .before .before .before .before .before)) (entry .pre .5) (c .before .read-window .last .1 .1 .1 .1 .1 .0) (a .j + 1) (c .before .before .before .before .before .before .before .before .before .guess-window .last .1 .1 .1 .1 .1 .1 .0) (c .before .before .before .before .before .before .before .before .before .guess-window .last .1 .1 .1 .1 .1 .1 .1 .0) (c .before .read-window .ensures) (c .if1 .taken)
 
 -- The information found, an area of symbols.
-found-area : (c : tie.After-information2) → Area (c .before .before .before .before .before .before .before .before .before .before .before .before .before .before .before .before .before .before .before .before .args .p .q) (c .before .before .read-window .last .1 .1 .1 .1 .1 .0)
-found-area c = levels-area (c .before .before .before .before .before .before .before .before .before .before .before .before .before .before .before .before .before .before .before .before .args .p) _ (c .before .before .read-window .last .1 .1 .1 .1 .1 .0) (c .before .before .read-window .ensures) (c .before .if1 .left)
+found-area : (c : tie.After-information2) → Area (c .before .before .before .before .before .before .before .before .before .before .before .before .before .before .before .before .before .before .before .args .p .q) (c .before .before .read-window .last .1 .1 .1 .1 .1 .0)
+found-area c = levels-area (c .before .before .before .before .before .before .before .before .before .before .before .before .before .before .before .before .before .before .before .args .p) _ (c .before .before .read-window .last .1 .1 .1 .1 .1 .0) (c .before .before .read-window .ensures) (c .before .if1 .left)
 
 slice-aggregate-add-found : tie.Need-slice-aggregate-add-found
 slice-aggregate-add-found c = sym (found-area c .size)
 
 add-found-requires : tie.Need-add-found-requires
 add-found-requires c κs =
-    let entry = c .before .before .before .before .before .before .before .before .before .before .before .before .before .before .before .before .before .before .before .before .before .before in
+    let entry = c .before .before .before .before .before .before .before .before .before .before .before .before .before .before .before .before .before .before .before .before .before in
     let a = entry .args in
     ( entry .pre .0
     , record { below = λ i l. found-area (c .before .before) .below i }
     , levels-few (a .p) _ (c .before .before .before .before .read-window .last .1 .1 .1 .1 .1 .0) (c .before .before .before .before .read-window .ensures)
     , omega (arith, entry .pre .0 .sound .room, entry .pre .0 .sound .block, entry .pre .0 .small .elements, found-area (c .before .before) .size)
     , entry .pre .5
-    , c .before .before .before .before .before .before .before .before .before .before .before .before .guess-block .ensures .areas
+    , c .before .before .before .before .before .before .before .before .before .before .before .before .guess-window .ensures .areas
     )
 
 same-length-3 : tie.Need-same-length-3
@@ -114,9 +109,9 @@ same-length-4 c = search needs
 
 returns-2 : tie.Need-returns-2
 returns-2 c =
-    let entry = c .before .before .before .before .before .before .before .before .before .before .before .before .before .before .before .before .before .before .before .before .before .before .before .before .before .before .before in
+    let entry = c .before .before .before .before .before .before .before .before .before .before .before .before .before .before .before .before .before .before .before .before .before .before .before .before .before .before in
     let a = entry .args in
-    advance-found (a .p) (entry .pre .0 .sound) (a .blocks) (now (a .reception)) (entry .pre .4) (entry .pre .3) (a .j) (c .before .before .before .before .before .before .before .before .before .before .before .before .before .before .before .before .before .guess-block .last .1 .1 .1 .1 .1 .1 .0) (c .before .before .before .before .before .before .before .before .before .before .before .before .before .before .before .before .before .guess-block .last .1 .1 .1 .1 .1 .1 .1 .0)
+    advance-found (a .p) (entry .pre .0 .sound) (a .blocks) (now (a .reception)) (entry .pre .4) (entry .pre .3) (a .j) (c .before .before .before .before .before .before .before .before .before .before .before .before .before .before .before .before .before .guess-window .last .1 .1 .1 .1 .1 .1 .0) (c .before .before .before .before .before .before .before .before .before .before .before .before .before .before .before .before .before .guess-window .last .1 .1 .1 .1 .1 .1 .1 .0)
     (known (c .before .before .before .before .before .before .before .before .before .before .before .before .before .before .before .before .before)) (entry .pre .5) (c .before .before .before .before .before .before .before .before .before .read-window .last .1 .1 .1 .1 .1 .0) (c .before .before .before .before .add-found .last .1 .1 .1 .1 .1 .1 .1 .0) (c .before .before .before .before .add-found .last .1 .1 .1 .1 .1 .1 .1 .1 .0) (c .before .before .before .before .before .before .before .before .before .read-window .ensures) (c .before .before .before .before .before .before .before .before .if1 .left) (c .before .before .before .before .add-found .ensures)
 
 pub turn-spec : {M : Type 1} → statement M
@@ -127,8 +122,7 @@ turn-spec =
     mul-size
     mul-start
     add-end
-    add-entering
-    guess-block-requires
+    guess-window-requires
     sub-read-window
     part-read-window-start
     part-read-window-end
