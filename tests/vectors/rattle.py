@@ -1,10 +1,12 @@
 #!/usr/bin/env python3
-"""Makes crates/link_test/stdin and stdout from base/calls.jsonl: the calls' arguments, and what the program must write.
+"""Makes crates/link_test/stdin and stdout: the calls of base/calls.jsonl and of examples.py, and what the program must write.
 
 A line of stdin: the call's letter, the setting, j, the lengths of three areas and the areas, all in hexadecimal (crates/link_test/src/main.rt).
 A line of stdout: number, place and count of the answer in decimal, then what the call returned and what it left in the areas.
 Run it where it stands; `--check` only says whether the files are up to date."""
-import json, os, sys
+import itertools, json, os, sys
+
+from examples import examples
 
 here = os.path.dirname(os.path.abspath(__file__))
 crate = os.path.join(here, "..", "..", "crates", "link_test")
@@ -12,15 +14,18 @@ crate = os.path.join(here, "..", "..", "crates", "link_test")
 # The call's letter, its areas, and what it writes after the answer.
 CALLS = {
     "encode": ("E", lambda a: (a["message"], "", a["tarea"]), lambda r: [r["transmission"]]),
+    "decode": (
+        "D",
+        lambda a: (a["reception"], a["marea"], a["tarea"]),
+        lambda r: [r["message"], r["transmission"]],
+    ),
     "window": ("W", lambda a: (a["reception"], "", ""), lambda r: [r["part"]]),
     "marks": ("M", lambda a: (a["reception"], a["transmission"], ""), lambda r: [str(r["marks"]), str(r["ones"])]),
 }
 
 given, expected = [], []
 with open(os.path.join(here, "base", "calls.jsonl")) as lines:
-    for call in map(json.loads, lines):
-        if call["call"] not in CALLS:
-            continue
+    for call in itertools.chain(map(json.loads, lines), examples()):
         letter, areas, returned = CALLS[call["call"]]
         arguments, result = call["args"], call["result"]
         held = areas(arguments)

@@ -71,7 +71,7 @@ module _ (q : ℕ) (o : Ops ℕ) (B : FieldBelow q o) where
         neg = λ a. (o .neg (a .0), B .neg-below (a .0) (a .1));
         mul = λ a b. (o .mul (a .0) (b .0), B .mul-below (a .0) (b .0) (a .1) (b .1));
         inv = λ a. (o .inv (a .0), B .inv-below (a .0) (a .1));
-        isZero = λ a. o .isZero (a .0)
+        isZero = λ a. o .isZero (a .0);
       }
 
   test-below : (a : Below q) → Tested (opsBelow .zero) a (opsBelow .isZero a)
@@ -102,7 +102,7 @@ module _ (q : ℕ) (o : Ops ℕ) (B : FieldBelow q o) where
         distributes = λ a b c. number-injective _ _ (B .distributes (a .0) (b .0) (c .0) (a .1) (b .1) (c .1));
         inverse = λ a h. number-injective _ _ (B .inverse (a .0) (a .1) (λ e. h (number-injective _ _ (e ∙ sym (B .zero-is)))) ∙ sym (B .one-is));
         one-nonzero = λ e. omega (arith, sym (B .one-is) ∙ ap number e ∙ B .zero-is);
-        tested = test-below
+        tested = test-below;
       }
 
   pub number-keeps : Homomorphism (fieldBelow .ops) o number
@@ -115,7 +115,7 @@ module _ (q : ℕ) (o : Ops ℕ) (B : FieldBelow q o) where
         on-neg = λ a. refl;
         on-mul = λ a b. refl;
         on-inv = λ a. refl;
-        on-test = λ a. refl
+        on-test = λ a. refl;
       }
 
   -- The order of a number is that of its element.
@@ -123,7 +123,7 @@ module _ (q : ℕ) (o : Ops ℕ) (B : FieldBelow q o) where
   orderBelow n α h A =
       record {
         distinct = λ i j l s e. A .distinct i j l s (sym (at i) ∙ ap number e ∙ at j);
-        full = number-injective _ _ (at n ∙ A .full ∙ sym (number-keeps .on-one ∙ B .one-is))
+        full = number-injective _ _ (at n ∙ A .full ∙ sym (number-keeps .on-one ∙ B .one-is));
       }
     where
       at : (i : ℕ) → number (power (fieldBelow .ops) (element q h α) i) ≡ power o α i

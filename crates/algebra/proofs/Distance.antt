@@ -48,6 +48,7 @@ module _ {F : Type 0} (o : Ops F) (α : F) (test : ℕ → Bool) where
       keep : (b : Bool) → In (power o α i) (powersWhere o α test n) → In (power o α i) (pick b (power o α n ∷ powersWhere o α test n) (powersWhere o α test n))
       keep true h = there h
       keep false h = h
+
       at : Dec (i < n) → (i < n → In (power o α i) (powersWhere o α test n))
           → In (power o α i) (pick (test n) (power o α n ∷ powersWhere o α test n) (powersWhere o α test n))
       at (yes s) rest = keep (test n) (rest s)
@@ -63,11 +64,13 @@ module _ {F : Type 0} (o : Ops F) (α : F) (test : ℕ → Bool) where
     where
       more : (i : ℕ) × (i < n) × (test i ≡ true) × (x ≡ power o α i) → (i : ℕ) × (i < suc n) × (test i ≡ true) × (x ≡ power o α i)
       more w = (w .0, omega (arith, w .1), w .2, w .3)
+
       first : test n ≡ true → In x (power o α n ∷ powersWhere o α test n)
           → (In x (powersWhere o α test n) → (i : ℕ) × (i < n) × (test i ≡ true) × (x ≡ power o α i))
           → (i : ℕ) × (i < suc n) × (test i ≡ true) × (x ≡ power o α i)
       first e (here s) rest = (n, omega arith, e, s)
       first e (there s) rest = more (rest s)
+
       at : (b : Bool) → test n ≡ b → In x (pick b (power o α n ∷ powersWhere o α test n) (powersWhere o α test n))
           → (In x (powersWhere o α test n) → (i : ℕ) × (i < n) × (test i ≡ true) × (x ≡ power o α i))
           → (i : ℕ) × (i < suc n) × (test i ≡ true) × (x ≡ power o α i)
@@ -98,7 +101,7 @@ module _ {F : Type 0} (K : Field F) (n : ℕ) (α : F) (order : Order (K .ops) n
       at (is-zero z) e = ap (λ (t : F). t ⊗ value (K .ops) (locator b p) (power (K .ops) α i)) z ∙ zero-mul K (value (K .ops) (locator b p) (power (K .ops) α i))
       at (non-zero h) e =
           ap (λ (t : F). b i ⊗ t) (value-at-root K (in-powersWhere (K .ops) α (elsewhere b p) n i l
-            (ap₂ (λ (s t : Bool). not s && not t) e (ne-eqb i p d))))
+          (ap₂ (λ (s t : Bool). not s && not t) e (ne-eqb i p d))))
           ∙ mul-zero K (b i)
 
   locator-at-place : (b : ℕ → F) (p : ℕ) → p < n → value (K .ops) (locator b p) (power (K .ops) α p) ≡ 𝟘 → ⊥
@@ -124,6 +127,7 @@ module _ {F : Type 0} (K : Field F) (n : ℕ) (α : F) (order : Order (K .ops) n
           length-fromRoots (K .ops) (powersWhere (K .ops) α (elsewhere b p) n)
           ∙ (ap suc (length-powersWhere (K .ops) α (elsewhere b p) n)
           ∙ sym (countOf-without n p (λ i. not (K .ops .isZero (b i))) l (ap not e)))
+
       at : {t : Bool} → Tested 𝟘 (b p) t → K .ops .isZero (b p) ≡ t → b p ≡ 𝟘
       at (is-zero z) e = z
       at (non-zero h) e =
@@ -133,7 +137,7 @@ module _ {F : Type 0} (K : Field F) (n : ℕ) (α : F) (order : Order (K .ops) n
           (sym (sum-single K n p (λ i. b i ⊗ value (K .ops) (locator b p) (power (K .ops) α i)) l (locator-at-other b p))
           ∙ pairing K α n (locator b p) b
           ∙ sum-zeros K (length (locator b p)) (λ s. getD (locator b p) s 𝟘 ⊗ valueOf (K .ops) n b (power (K .ops) α s))
-            (λ s u. ap (λ (t : F). getD (locator b p) s 𝟘 ⊗ t) (vanishes s (omega arith)) ∙ mul-zero K (getD (locator b p) s 𝟘)))))
+          (λ s u. ap (λ (t : F). getD (locator b p) s 𝟘 ⊗ t) (vanishes s (omega arith)) ∙ mul-zero K (getD (locator b p) s 𝟘)))))
 
   -- The distance lemma: a block that vanishes at α^c .. α^(c+r-1) and has at most r nonzero symbols is zero.
   pub zero-of-vanishing : (c r : ℕ) (b : ℕ → F) → ((s : ℕ) → s < r → valueOf (K .ops) n b (power (K .ops) α (c + s)) ≡ 𝟘)
@@ -144,12 +148,15 @@ module _ {F : Type 0} (K : Field F) (n : ℕ) (α : F) (order : Order (K .ops) n
     where
       unit : (i : ℕ) → power (K .ops) (power (K .ops) α c) i ≡ 𝟘 → ⊥
       unit = power-nonzero K (power (K .ops) α c) (power-nonzero K α (root-nonzero K n α order (omega arith)) c)
+
       twisted : ℕ → F
       twisted i = b i ⊗ power (K .ops) (power (K .ops) α c) i
+
       vanishes-twisted : (s : ℕ) → s < r → valueOf (K .ops) n twisted (power (K .ops) α s) ≡ 𝟘
       vanishes-twisted s h =
           valueOf-twist K n b (power (K .ops) α c) (power (K .ops) α s)
           ∙ ap (valueOf (K .ops) n b) (sym (power-add K α c s)) ∙ vanishes s h
+
       same-test : (i : ℕ) → K .ops .isZero (twisted i) ≡ K .ops .isZero (b i)
       same-test i = at (K .tested (b i)) refl
         where
@@ -157,6 +164,7 @@ module _ {F : Type 0} (K : Field F) (n : ℕ) (α : F) (order : Order (K .ops) n
           at (is-zero z) e =
               zero-test K (twisted i) (ap (λ (t : F). t ⊗ power (K .ops) (power (K .ops) α c) i) z ∙ zero-mul K (power (K .ops) (power (K .ops) α c) i)) ∙ sym e
           at (non-zero h) e = nonzero-test K (twisted i) (λ z. unit i (mul-eq-zero K (b i) (power (K .ops) (power (K .ops) α c) i) h z)) ∙ sym e
+
       light-twisted : weight (K .ops) n twisted ≤ r
       light-twisted =
           subst (λ (w : ℕ). w ≤ r)
@@ -179,10 +187,13 @@ module _ {F : Type 0} (K : Field F) (n : ℕ) (α : F) (order : Order (K .ops) n
     where
       padded : ℕ → F
       padded j = pick (ltb j r) (x j) 𝟘
+
       inside : (j : ℕ) → j < r → padded j ≡ x j
       inside j h = ap (λ (t : Bool). pick t (x j) 𝟘) (lt-ltb j r h)
+
       outside : (j : ℕ) → r ≤ j → padded j ≡ 𝟘
       outside j h = ap (λ (t : Bool). pick t (x j) 𝟘) (le-ltb j r h)
+
       short : (y : F) → valueOf (K .ops) n padded y ≡ valueOf (K .ops) r x y
       short y = valueOf-short K r n padded y fits (λ j u v. outside j u) ∙ valueOf-ext (K .ops) r padded x y inside
 
@@ -193,7 +204,7 @@ module _ {F : Type 0} (K : Field F) (n : ℕ) (α : F) (order : Order (K .ops) n
       eq-of-sub K (a i) (b i)
       (zero-of-vanishing 0 n (λ j. sub (K .ops) (a j) (b j))
       (λ s h. valueOf-sub K n a b (power (K .ops) α (0 + s))
-        ∙ ap (λ (t : F). sub (K .ops) (valueOf (K .ops) n a (power (K .ops) α (0 + s))) t)
-          (ap (λ (t : ℕ). valueOf (K .ops) n b (power (K .ops) α t)) (nat-zero-add s) ∙ sym (same s h) ∙ ap (λ (t : ℕ). valueOf (K .ops) n a (power (K .ops) α t)) (sym (nat-zero-add s)))
-        ∙ add-neg K (valueOf (K .ops) n a (power (K .ops) α (0 + s))))
+      ∙ ap (λ (t : F). sub (K .ops) (valueOf (K .ops) n a (power (K .ops) α (0 + s))) t)
+      (ap (λ (t : ℕ). valueOf (K .ops) n b (power (K .ops) α t)) (nat-zero-add s) ∙ sym (same s h) ∙ ap (λ (t : ℕ). valueOf (K .ops) n a (power (K .ops) α t)) (sym (nat-zero-add s)))
+      ∙ add-neg K (valueOf (K .ops) n a (power (K .ops) α (0 + s))))
       (countOf-le n (λ j. not (K .ops .isZero (sub (K .ops) (a j) (b j))))) i l)

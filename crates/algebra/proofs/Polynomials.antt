@@ -89,8 +89,8 @@ module _ {F : Type 0} (K : Field F) where
       ap (λ (t : F). c 0 ⊕ x ⊗ t) (valueOf-is-sum n (λ i. c (suc i)) x)
       ∙ sym (sum-step (c 0) x (sum (K .ops) n (λ i. c (suc i) ⊗ power (K .ops) x i)))
       ∙ ap (λ (t : F). c 0 ⊗ 𝟙 ⊕ t)
-        (sym (sum-scale K n x (λ i. c (suc i) ⊗ power (K .ops) x i))
-        ∙ sum-ext (K .ops) n (λ i. x ⊗ (c (suc i) ⊗ power (K .ops) x i)) (λ i. c (suc i) ⊗ (x ⊗ power (K .ops) x i)) (λ i l. simp ring))
+      (sym (sum-scale K n x (λ i. c (suc i) ⊗ power (K .ops) x i))
+      ∙ sum-ext (K .ops) n (λ i. x ⊗ (c (suc i) ⊗ power (K .ops) x i)) (λ i. c (suc i) ⊗ (x ⊗ power (K .ops) x i)) (λ i l. simp ring))
       ∙ sym (sum-first K n (λ i. c i ⊗ power (K .ops) x i))
 
   pub valueOf-at-one : (n : ℕ) (c : ℕ → F) → valueOf (K .ops) n c 𝟙 ≡ sum (K .ops) n c
@@ -115,9 +115,9 @@ module _ {F : Type 0} (K : Field F) where
   valueOf-twist zero c a y = refl
   valueOf-twist (suc n) c a y =
       ap (λ (t : F). c 0 ⊗ 𝟙 ⊕ y ⊗ t)
-        (valueOf-ext (K .ops) n (λ i. c (suc i) ⊗ (a ⊗ power (K .ops) a i)) (λ i. a ⊗ (c (suc i) ⊗ power (K .ops) a i)) y (λ i l. simp ring)
-        ∙ valueOf-scale n a (λ i. c (suc i) ⊗ power (K .ops) a i) y
-        ∙ ap (λ (t : F). a ⊗ t) (valueOf-twist n (λ i. c (suc i)) a y))
+      (valueOf-ext (K .ops) n (λ i. c (suc i) ⊗ (a ⊗ power (K .ops) a i)) (λ i. a ⊗ (c (suc i) ⊗ power (K .ops) a i)) y (λ i l. simp ring)
+      ∙ valueOf-scale n a (λ i. c (suc i) ⊗ power (K .ops) a i) y
+      ∙ ap (λ (t : F). a ⊗ t) (valueOf-twist n (λ i. c (suc i)) a y))
       ∙ twist-step (c 0) a y (valueOf (K .ops) n (λ i. c (suc i)) (a ⊗ y))
 
   after-nil : (b x a : F) → b ⊕ x ⊗ 𝟘 ≡ b ⊕ (x ⊕ ⊖ a) ⊗ 𝟘

@@ -84,17 +84,20 @@ countOf-without (suc n) p f l e = at (ℕ-discrete n p) (λ d. countOf-without n
     and-true : (b : Bool) → (b && true) ≡ b
     and-true true = refl
     and-true false = refl
+
     and-false : (b : Bool) → (b && false) ≡ false
     and-false true = refl
     and-false false = refl
+
     same : (i : ℕ) → (i ≡ p → ⊥) → f i ≡ (f i && not (eqb i p))
     same i d = sym (ap (λ (b : Bool). f i && not b) (ne-eqb i p d) ∙ and-true (f i))
+
     at : Dec (n ≡ p) → (p < n → countOf n f ≡ suc (countOf n (λ i. f i && not (eqb i p))))
         → countOf n f + pick (f n) 1 0 ≡ suc (countOf n (λ i. f i && not (eqb i p)) + pick (f n && not (eqb n p)) 1 0)
     at (yes s) rest =
         let here : _≡_ {A = ℕ} (pick (f n) 1 0) 1 = ap {B = ℕ} (λ (b : Bool). pick b 1 0) (ap f s ∙ e) in
         let gone : _≡_ {A = ℕ} (pick (f n && not (eqb n p)) 1 0) 0 =
-            ap {B = ℕ} (λ (b : Bool). pick b 1 0) (ap (λ (b : Bool). f n && not b) (eq-eqb n p s) ∙ and-false (f n)) in
+        ap {B = ℕ} (λ (b : Bool). pick b 1 0) (ap (λ (b : Bool). f n && not b) (eq-eqb n p s) ∙ and-false (f n)) in
         omega (arith, countOf-ext n f (λ i. f i && not (eqb i p)) (λ i h. same i (omega arith)))
     at (no d) rest = omega (arith, rest (omega arith), ap {B = ℕ} (λ (b : Bool). pick b 1 0) (same n d))
 

@@ -1,5 +1,5 @@
 -- The two answers of the block step, from what its parts promise (the chain: distance lemma, locator, spectrum of the error, information).
--- Holds: `Parts`, what they promise; `step-near`, `step-far`.
+-- Holds: `Known`, what they promise up to the locator; `step-long`; `Parts`, what all of them promise; `step-near`, `step-far`.
 use mathlib.Core.Path.{_≡_, ap, subst, _∙_}
 use mathlib.Core.Bool.{true, false, not}
 use mathlib.Core.List.{List}
@@ -24,26 +24,41 @@ use Rattle.block.specs.Progress.{Found}
 use Rattle.block.specs.Spectrum.{SpectrumOf, Continued}
 use Rattle.block.specs.Information.{Read}
 use Rattle.block.specs.Step.{blockCost, Information, Step, near, far}
-use Rattle.block.proofs.CandidateBelow.{combination-same, read-of-near}
+use Rattle.block.proofs.Spectra.{found-longer}
+use Rattle.block.proofs.CandidateBelow.{combination-same, length-of-near, read-of-near}
 
--- What the parts of the block step have promised once the symbols that differ are counted.
-pub record Parts (p : Setting) (l : ℕ) (block found : List ℕ) (count : ℕ) : Type 0 where
+-- What the parts of the block step have promised once the locator is found: only the known part of the spectrum is there.
+pub record Known (p : Setting) (l : ℕ) (block : List ℕ) (length-found : ℕ) : Type 0 where
   pub sound : Sound p
   pub level : l ≤ p .m
   pub long : length block ≡ p .n
   pub symbols : Symbols (p .q) block
+  pub series : List ℕ
+  pub spectral : SpectrumOf (p .q) block (p .n - (l + 1) * p .k) series
+  pub locator : List ℕ
+  pub located : Found (p .q) series (p .n - (l + 1) * p .k + 1) length-found locator
+
+-- A locator too long: every information is far.
+pub step-long : (p : Setting) (l : ℕ) (block found : List ℕ) (L : ℕ) → Known p l block L → levelDistance (p .n) (p .k) l ≤ 2 * L → Step p l block found false
+step-long p l block found L P h = far (λ x information. by-cost x information (decLt (blockCost p l block x) (levelDistance (p .n) (p .k) l)))
+  where
+    by-cost : (x : ℕ → ℕ → ℕ) → Information p l x → Dec (blockCost p l block x < levelDistance (p .n) (p .k) l) → levelDistance (p .n) (p .k) l ≤ blockCost p l block x
+    by-cost x information (yes close) =
+        let short = length-of-near p (P .sound) l (P .level) block (P .long) (P .symbols) x information (P .series) (P .locator) L close (P .located) (P .spectral) in
+        absurd (omega (arith, short))
+    by-cost x information (no d) = omega arith
+
+-- What the parts of the block step have promised once the symbols that differ are counted.
+pub record Parts (p : Setting) (l : ℕ) (block found : List ℕ) (count : ℕ) : Type 0 where
+  pub length-found : ℕ
+  pub begun : Known p l block length-found
   pub matrix : List ℕ
   pub inverse : MatrixOf p matrix
   pub series : List ℕ
-  pub spectral : SpectrumOf (p .q) block (length block) series
-  pub known : ℕ
-  pub length-found : ℕ
-  pub locator : List ℕ
-  pub located : Found (p .q) series known length-found locator
-  pub all-known : known ≡ p .n - (l + 1) * p .k + 1
+  pub spectral : SpectrumOf (p .q) block (p .n) series
   pub after : List ℕ
   pub values : List ℕ
-  pub continued : Continued (p .q) length-found (p .n - (l + 1) * p .k) ((l + 1) * p .k) locator series after values
+  pub continued : Continued (p .q) length-found (p .n - (l + 1) * p .k) ((l + 1) * p .k) (begun .locator) series after values
   pub reads : Read (p .q) (p .k) (l + 1) matrix values found
   pub counted : count ≡ distance (p .n) (at block) (combination (codeOf p) l (view (p .k) found))
 
@@ -61,12 +76,11 @@ module _ (p : Setting) (l : ℕ) (block found : List ℕ) (count : ℕ) (P : Par
     where
       read : (b r : ℕ) → b ≤ l → r < p .k → view (p .k) found b r ≡ x b r
       read =
-          read-of-near p (P .sound) l (P .level) block (P .long) (P .symbols) x information
-          (P .series) (P .after) (P .values) (P .locator) (P .matrix) found (P .length-found) close
-          (subst (λ (t : ℕ). SpectrumOf (p .q) block t (P .series)) (P .long) (P .spectral))
-          (subst (λ (t : ℕ). Found (p .q) (P .series) t (P .length-found) (P .locator)) (P .all-known) (P .located))
-          (P .continued)
-          (symbol-below (p .q) (P .matrix) (P .inverse .symbols) (positive p (P .sound)))
+          read-of-near p (P .begun .sound) l (P .begun .level) block (P .begun .long) (P .begun .symbols) x information
+          (P .series) (P .begun .locator) (P .length-found) close
+          (found-longer (p .q) block (p .n - (l + 1) * p .k) (p .n) (P .begun .series) (P .series) (omega arith) (P .begun .spectral) (P .spectral) (P .begun .located))
+          (P .after) (P .values) (P .matrix) found (P .spectral) (P .continued)
+          (symbol-below (p .q) (P .matrix) (P .inverse .symbols) (positive p (P .begun .sound)))
           (P .inverse .inverses) (P .reads)
 
   pub step-far : levelDistance (p .n) (p .k) l ≤ 2 * count → Step p l block found false

@@ -1,5 +1,5 @@
 -- The same on the numbers below q, as the code has it: if the information x is near, it is the information that was read.
--- Holds: `combination-same`, `read-of-near`.
+-- Holds: `combination-same`, `length-of-near`, `read-of-near`.
 use mathlib.Core.Path.{_≡_, refl, sym, ap, subst, _∙_}
 use mathlib.Core.Bool.{Bool, true, false, not}
 use mathlib.Core.List.{List}
@@ -42,7 +42,7 @@ use Rattle.block.proofs.Accumulated.{alpha-below}
 use Rattle.block.proofs.Levels.{level-fits}
 use Rattle.block.proofs.LocatorBelow.{K, positive, el, up, down, raise, fall, zero-down, one-down, add-down, mul-down, neg-down, sum-down, tail-down, located-up}
 use Rattle.block.proofs.ErrorSpectrum.{spectrum}
-use Rattle.block.proofs.Candidate.{information-of-near}
+use Rattle.block.proofs.Candidate.{length-of-near as length-of-near-field, information-of-near}
 
 -- A combination looks only at the symbols of its information blocks, over any operations.
 pub combination-same : {F : Type 0} (c : Code F) (l : ℕ) (x y : ℕ → ℕ → F) (i : ℕ) → ((b r : ℕ) → b ≤ l → r < c .k → x b r ≡ y b r)
@@ -169,33 +169,49 @@ module _ (p : Setting) (S : Sound p) where
               (zero-test (K q o B) _ (ap (λ (t : Below q). sub (K q o B .ops) t (combination over l lifted i)) same ∙ add-neg (K q o B) (combination over l lifted i))) e)
           by-test i e false s = refl
 
-      pub read-of-near : (series after values locator matrix found : List ℕ) (L : ℕ)
-          → blockCost p l block x < levelDistance (p .n) (p .k) l
-          → SpectrumOf q block (p .n) series → Found q series (p .n - (l + 1) * p .k + 1) L locator
-          → Continued q L (p .n - (l + 1) * p .k) ((l + 1) * p .k) locator series after values
-          → ((i : ℕ) → at matrix i < q) → Inverses (codeOf p) (view (p .k) matrix)
-          → Read q (p .k) (l + 1) matrix values found
-          → (b a : ℕ) → b ≤ l → a < p .k → at found (b * p .k + a) ≡ x b a
-      unfolding lifted
-      read-of-near series after values locator matrix found L close spectral located continued matrix-below inverses reads b a below inside =
-          reads .symbols b a (omega arith) inside
-          ∙ fall q o B
-          (sum-down q o B (p .k) _ (λ e. o .mul (at matrix (a * p .k + e)) (at values (b * p .k + e)))
-          (λ e h. mul-down q o B _ _ (down q o B _ (matrix-below (a * p .k + e))) (down q o B _ (continued .values-area .below (b * p .k + e)))))
-          (down q o B (x b a) (information b a below inside))
-          (information-of-near (K q o B) root (p .n) (p .k) (p .m) order l fits received lifted
-          (distance (p .n) (at block) (combination (codeOf p) l x)) error-light (omega arith)
-          (up q o B (at series)) (up q o B (at after)) (up q o B (at values))
-          (λ s h. raise q o B _ _ (down q o B (at series (suc s)) (spectral .area .below (suc s))) (spectrum-down s)
-          (ap (at series) (sym (add-one s)) ∙ spectral .values s h))
-          L (located .place) (el q o B (located .scale)) (up q o B (at locator)) (up q o B (at (located .former)))
-          (located-up q o B (at series) (at locator) (at (located .former)) (located .scale)
-          (spectral .area .below) (located .placed .locator-area .below) (located .placed .former-area .below) (located .placed .scale-below)
-          (subst (λ (t : ℕ). Located o (at series) t L (located .place) (located .scale) (at locator) (at (located .former))) all-known (located .placed .located)))
-          (extended-up L (p .n - (l + 1) * p .k) ((l + 1) * p .k) (at locator) (at series) (at after) (at values)
-          (located .placed .locator-area .below) (spectral .area .below) (continued .area .below) (continued .values-area .below) (continued .extended))
-          (λ d e. el q o B (view (p .k) matrix d e)) (inverses-up (view (p .k) matrix) (λ d e. matrix-below (d * p .k + e)) inverses)
-          b a below inside)
-        where
-          all-known : p .n - (l + 1) * p .k + 1 - 1 ≡ p .n - (l + 1) * p .k
-          all-known = omega arith
+      all-known : p .n - (l + 1) * p .k + 1 - 1 ≡ p .n - (l + 1) * p .k
+      all-known = omega arith
+
+      module _ (series locator : List ℕ) (L : ℕ) (close : blockCost p l block x < levelDistance (p .n) (p .k) l) (located : Found q series (p .n - (l + 1) * p .k + 1) L locator) where
+        values-up : (count : ℕ) → SpectrumOf q block count series → (s : ℕ) → s < count → up q o B (at series) (suc s) ≡ spectrum (K q o B) (p .n) root order received s
+        values-up count spectral s h =
+            raise q o B _ _ (down q o B (at series (suc s)) (spectral .area .below (suc s))) (spectrum-down s) (ap (at series) (sym (add-one s)) ∙ spectral .values s h)
+
+        locator-up : ((i : ℕ) → at series i < q)
+            → Located (K q o B .ops) (up q o B (at series)) (p .n - (l + 1) * p .k) L (located .place) (el q o B (located .scale)) (up q o B (at locator)) (up q o B (at (located .former)))
+        locator-up below =
+            located-up q o B (at series) (at locator) (at (located .former)) (located .scale)
+            below (located .placed .locator-area .below) (located .placed .former-area .below) (located .placed .scale-below)
+            (subst (λ (t : ℕ). Located o (at series) t L (located .place) (located .scale) (at locator) (at (located .former))) all-known (located .placed .located))
+
+        pub length-of-near : SpectrumOf q block (p .n - (l + 1) * p .k) series → 2 * L < levelDistance (p .n) (p .k) l
+        length-of-near spectral =
+            let short = length-of-near-field (K q o B) root (p .n) (p .k) (p .m) order l fits received lifted
+                (distance (p .n) (at block) (combination (codeOf p) l x)) error-light (omega arith)
+                (up q o B (at series)) (values-up (p .n - (l + 1) * p .k) spectral)
+                L (located .place) (el q o B (located .scale)) (up q o B (at locator)) (up q o B (at (located .former))) (locator-up (spectral .area .below)) in
+            omega (arith, short)
+
+        pub read-of-near : (after values matrix found : List ℕ)
+            → SpectrumOf q block (p .n) series
+            → Continued q L (p .n - (l + 1) * p .k) ((l + 1) * p .k) locator series after values
+            → ((i : ℕ) → at matrix i < q) → Inverses (codeOf p) (view (p .k) matrix)
+            → Read q (p .k) (l + 1) matrix values found
+            → (b a : ℕ) → b ≤ l → a < p .k → at found (b * p .k + a) ≡ x b a
+        unfolding lifted
+        read-of-near after values matrix found spectral continued matrix-below inverses reads b a below inside =
+            reads .symbols b a (omega arith) inside
+            ∙ fall q o B
+            (sum-down q o B (p .k) _ (λ e. o .mul (at matrix (a * p .k + e)) (at values (b * p .k + e)))
+            (λ e h. mul-down q o B _ _ (down q o B _ (matrix-below (a * p .k + e))) (down q o B _ (continued .values-area .below (b * p .k + e)))))
+            (down q o B (x b a) (information b a below inside))
+            (information-of-near (K q o B) root (p .n) (p .k) (p .m) order l fits received lifted
+            (distance (p .n) (at block) (combination (codeOf p) l x)) error-light (omega arith)
+            (up q o B (at series)) (λ s h. values-up (p .n) spectral s (omega arith))
+            L (located .place) (el q o B (located .scale)) (up q o B (at locator)) (up q o B (at (located .former))) (locator-up (spectral .area .below))
+            (values-up (p .n) spectral)
+            (up q o B (at after)) (up q o B (at values))
+            (extended-up L (p .n - (l + 1) * p .k) ((l + 1) * p .k) (at locator) (at series) (at after) (at values)
+            (located .placed .locator-area .below) (spectral .area .below) (continued .area .below) (continued .values-area .below) (continued .extended))
+            (λ d e. el q o B (view (p .k) matrix d e)) (inverses-up (view (p .k) matrix) (λ d e. matrix-below (d * p .k + e)) inverses)
+            b a below inside)

@@ -1,5 +1,5 @@
 -- Berlekamp and Massey's algorithm, one place at a time, over any field.
--- Holds: `located-start`; the three outcomes at a place: `located-kept`, `located-corrected`, `located-lengthened`; `convolution-short`, `convolution-tail`.
+-- Holds: `located-start`; the three outcomes at a place: `located-kept`, `located-corrected`, `located-lengthened`; `convolution-short`, `convolution-tail`; `located-ext`.
 use mathlib.Core.Path.{_≡_, refl, sym, ap, ap₂, _∙_}
 use Prim.Native.Nat.{ℕ, zero, suc, _+_, _-_, _≤_, _<_}
 use native.Mathlib.Nat.{add-suc as nat-add-suc}
@@ -19,6 +19,21 @@ unfolding convolution
 convolution-ext o a b c d j h k =
     sum-ext o (suc j) (λ i. o .mul (a i) (c (j - i))) (λ i. o .mul (b i) (d (j - i)))
     (λ i l. ap₂ (o .mul) (h i (omega arith)) (k (j - i) (omega arith)))
+
+-- A locator of the first terms of a series is one for every series that begins with them.
+pub located-ext : {F : Type 0} (o : Ops F) (c d : ℕ → F) {s L p : ℕ} {scale : F} {σ τ : ℕ → F} → ((i : ℕ) → i ≤ s → d i ≡ c i)
+    → Located o c s L p scale σ τ → Located o d s L p scale σ τ
+located-ext o c d {s} {L} {p} {scale} {σ} {τ} same h =
+    record {
+      grown = h .grown;
+      placed = h .placed;
+      first = h .first;
+      short = h .short;
+      annihilates = λ j l u. convolution-ext o σ σ d c j (λ i v. refl) (λ i v. same i (omega arith)) ∙ h .annihilates j l u;
+      former-short = h .former-short;
+      former-annihilates = λ j l u. convolution-ext o τ τ d c j (λ i v. refl) (λ i v. same i (omega (arith, h .placed))) ∙ h .former-annihilates j l u;
+      former-fails = ap (o .mul scale) (convolution-ext o τ τ d c p (λ i v. refl) (λ i v. same i (omega (arith, h .placed)))) ∙ h .former-fails;
+    }
 
 module _ {F : Type 0} (K : Field F) where
   infixl 60 _⊕_

@@ -1,8 +1,8 @@
 -- The loops on spectra: their promises before the first turn, and after one more.
--- Holds: `point-none`, `point-more`, `spectrum-none`, `spectrum-more`; `tail-ext`, `continued-none`, `continued-more`.
+-- Holds: `point-none`, `point-more`, `spectrum-none`, `spectrum-more`; `found-longer`; `tail-ext`, `continued-none`, `continued-more`.
 use mathlib.Core.Path.{_≡_, refl, sym, ap, subst, _∙_}
 use mathlib.Core.List.{List}
-use Prim.Native.Nat.{ℕ, _+_, _-_, _<_}
+use Prim.Native.Nat.{ℕ, zero, suc, _+_, _-_, _≤_, _<_}
 use native.Mathlib.Numerals.{add-one}
 use native.Mathlib.Omega.{arith}
 use native.Mathlib.Decide.{ℕ-discrete}
@@ -17,9 +17,10 @@ use Rattle.field.specs.Symbols.{Is}
 use Rattle.field.proofs.Laws.{lawsOf}
 use Rattle.block.specs.Area.{Area, at, capacity}
 use Rattle.block.specs.Locator.{tail}
-use Rattle.block.specs.Progress.{Unit}
+use Rattle.block.specs.Progress.{Unit, Found}
 use Rattle.block.specs.Spectrum.{SpectrumOf, Continued}
 use Rattle.block.proofs.Accumulated.{area-set, area-zeros}
+use Rattle.block.proofs.LocatorStep.{located-ext}
 use Rattle.block.proofs.Placing.{unit-area}
 
 module _ (q : ℕ) where
@@ -34,6 +35,26 @@ module _ (q : ℕ) where
 
   pub spectrum-none : (block l : List ℕ) → Good q → Unit l → SpectrumOf q block 0 l
   spectrum-none block l good u = record { area = unit-area q good l u; first = u .first; values = λ s h. absurd (omega arith) }
+
+  -- A locator for the first values of a block's spectrum, where more of them stand.
+  pub found-longer : (block : List ℕ) (known more : ℕ) (series longer : List ℕ) {L : ℕ} {locator : List ℕ} → known ≤ more
+      → SpectrumOf q block known series → SpectrumOf q block more longer → Found q series (known + 1) L locator → Found q longer (known + 1) L locator
+  found-longer block known more series longer up-to h k f =
+      record {
+        place = f .place;
+        scale = f .scale;
+        former = f .former;
+        placed = record {
+          locator-area = f .placed .locator-area;
+          former-area = f .placed .former-area;
+          scale-below = f .placed .scale-below;
+          located = located-ext (opsOf q) (at series) (at longer) same (f .placed .located);
+        };
+      }
+    where
+      same : (i : ℕ) → i ≤ known + 1 - 1 → at longer i ≡ at series i
+      same zero l = k .first ∙ sym (h .first)
+      same (suc s) l = ap (at longer) (sym (add-one s)) ∙ k .values s (omega arith) ∙ sym (h .values s (omega arith)) ∙ ap (at series) (add-one s)
 
   pub spectrum-more : (block series : List ℕ) (s point v : ℕ) → SpectrumOf q block s series → s + 1 < capacity → Is q point (power (opsOf q) alpha s)
       → Is q v (value (opsOf q) block point) → SpectrumOf q block (s + 1) (set series (s + 1) v)

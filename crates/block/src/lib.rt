@@ -44,9 +44,14 @@ pub fn repair(
     let zeros = p.n - count;
     let known = zeros + 1;
     let distance = zeros + 1;
-    let mut series = spectrum::spectrum(q, products, block);
+    let mut series = locator::unit();
+    let point = spectrum::add_values(q, products, block, 0, zeros, 1, &mut series);
     let mut locator = locator::unit();
     let length = locator::locate(q, products, &series, known, &mut locator);
+    if distance <= 2 * length {
+        return false;
+    }
+    spectrum::add_values(q, products, block, zeros, p.n, point, &mut series);
     let values = spectrum::extend(q, products, length, &locator, zeros, count, &mut series);
     let found = information::read(q, products, k, blocks, matrix, &values);
     *information = found;

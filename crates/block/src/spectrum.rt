@@ -1,8 +1,8 @@
 // The spectrum of a received block, and how the locator continues that of its error.
 ghost use Prim.Native.Nat.{_+_, _≤_, _<_};
-ghost use lib.ListN.{length};
-ghost use Rattle.field.specs.Fields.{Good, opsOf};
-ghost use Rattle.field.specs.Symbols.{Symbols};
+ghost use Rattle.algebra.specs.Sum.{power};
+ghost use Rattle.field.specs.Fields.{Good, opsOf, alpha};
+ghost use Rattle.field.specs.Symbols.{Is, Symbols};
 ghost use Rattle.field.specs.Tables.{Lent};
 ghost use Rattle.block.specs.Area.{Area, capacity};
 ghost use Rattle.block.specs.Spectrum.{SpectrumOf, Continued};
@@ -10,21 +10,28 @@ use super::CAPACITY;
 use super::locator::Series;
 use field::Tables;
 
-// 1, then the values of the block's polynomial at α^0, α^1, .., one for each symbol.
-pub fn spectrum(q: usize, products: &Tables, block: &[u8]) -> Series
-    requires { ⌜ Good q × Lent (now products) × Symbols q (now block) × (length (now block) < capacity) ⌝ }
-    ensures { λ r. ⌜ SpectrumOf q (now (block .entry)) (length (now (block .entry))) r ⌝ }
+// Writes values `from` .. `to - 1` of the block's spectrum, its values at powers of α, after those before; answers with the point of the next one.
+pub fn add_values(
+    q: usize,
+    products: &Tables,
+    block: &[u8],
+    from: usize,
+    to: usize,
+    start: u8,
+    series: &mut Series,
+) -> u8
+    requires { ⌜ Good q × Lent (now products) × Symbols q (now block) × (from ≤ to) × (to < capacity) × Is q start (power (opsOf q) alpha from) × SpectrumOf q (now block) from (now series) ⌝ }
+    ensures { λ r. ⌜ Is q r (power (opsOf q) alpha to) × SpectrumOf q (now (block .entry)) to (now (series .exit)) ⌝ }
 {
-    let mut series = super::locator::unit();
-    let mut point: u8 = 1;
-    let mut s: usize = 0;
-    while s < block.len() {
+    let mut point = start;
+    let mut s = from;
+    while s < to {
         let value = field::value(q, products, block, point);
         point = field::multiply(q, products, 2, point);
         s += 1;
         series[s] = value;
     }
-    series
+    point
 }
 
 // Continues the series from place r + 1 on by the recurrence of the locator, for `count` places; answers with what the series had besides.

@@ -13,4 +13,5 @@ pub mod Residuals
 pub mod ResidualSteps
 pub mod Messages
 pub mod Demand3
-pub mod Orders
+pub mod Search
+pub mod AlteredBound

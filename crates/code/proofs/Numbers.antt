@@ -1,5 +1,5 @@
 -- The bridge for the code: what a setting's definitions give on numbers below q is what the abstract code gives on elements.
--- Holds: `fieldOf`, `rootOf`, `orderAt`, `overField`, `lifted`; `sent-number`, `timesG-number`, `combination-number`, `rowSymbol-below`; `byteCost` and its law; `window-cost`.
+-- Holds: `fieldOf`, `rootOf`, `orderAt`, `overField`, `lifted`; `sent-number`, `timesG-number`, `combination-number`, `rowSymbol-number`, `rowSymbol-below`; `byteCost` and its law; `window-cost`.
 use mathlib.Core.Path.{_≡_, refl, sym, ap, ap₂, subst, fun-ext, _∙_}
 use mathlib.Core.Bool.{Bool, true, false, not}
 use mathlib.Core.List.{List}
@@ -96,12 +96,12 @@ module _ (p : Setting) (S : Sound p) where
       combination-natural overField (opsOf (p .q)) number keeps l (lifted u) i
       ∙ ap₂ (λ (c : Code ℕ) (x : ℕ → ℕ → ℕ). combination c l x i) mapped-code (fun-ext (λ b. fun-ext (λ r. number-lifted u b r (below b r))))
 
+  pub rowSymbol-number : (j r i : ℕ) → number (rowSymbol overField j r i) ≡ rowSymbol (codeOf p) j r i
+  rowSymbol-number j r i = rowSymbol-natural overField (opsOf (p .q)) number keeps j r i ∙ ap (λ (c : Code ℕ). rowSymbol c j r i) mapped-code
+
   -- The generator's symbols are below q.
   pub rowSymbol-below : (j r i : ℕ) → rowSymbol (codeOf p) j r i < p .q
-  rowSymbol-below j r i =
-      subst (λ (t : ℕ). t < p .q)
-      (rowSymbol-natural overField (opsOf (p .q)) number keeps j r i ∙ ap (λ (c : Code ℕ). rowSymbol c j r i) mapped-code)
-      (rowSymbol overField j r i .1)
+  rowSymbol-below j r i = subst (λ (t : ℕ). t < p .q) (rowSymbol-number j r i) (rowSymbol overField j r i .1)
 
   -- What a received byte costs where an element was sent: 2 if they differ.
   unfoldable pub byteCost : ℕ → Below (p .q) → ℕ

@@ -1,5 +1,5 @@
--- The residual of a message g in a reception, on bytes: how it changes when a block of g is found, how it begins, and what is left at the end.
--- Holds: `lessened`, `residual-step`, `residual-start`, `residual-back`, `residual-test`, `residual-distance`.
+-- The residual of a message g in a reception, on bytes: how it changes when a block of g is changed, how it begins, and what is left at the end.
+-- Holds: `timesG-only`, `lessened`, `residual-step`, `residual-start`, `residual-back`, `residual-test`, `residual-distance`.
 use mathlib.Core.Path.{_≡_, refl, sym, ap, ap₂, subst, _∙_}
 use mathlib.Core.Bool.{Bool, true, false, not}
 use mathlib.Core.List.{List}
@@ -15,25 +15,25 @@ use borrow.Author.Tests.{le-leb, lt-leb, eq-eqb, ne-eqb, eqb-true, eqb-false}
 use Rattle.algebra.specs.Ops.{Ops, sub, pick}
 use Rattle.algebra.specs.Sum.{sum}
 use Rattle.algebra.specs.Weight.{total, countOf, distance}
-use Rattle.algebra.proofs.Laws.{Field, sub-self, eq-of-sub, add-of-sub, sub-add, sub-sub, neg-zero, add-zero}
-use Rattle.algebra.proofs.Sums.{sum-ext}
+use Rattle.algebra.proofs.Laws.{Field, sub-self, eq-of-sub, add-of-sub, sub-add, sub-sub, neg-zero, add-zero, add-comm, add-assoc, add-neg, zero-mul}
+use Rattle.algebra.proofs.Sums.{sum-ext, sum-single}
 use Rattle.algebra.proofs.Weights.{total-ext, countOf-ext}
 use Rattle.algebra.proofs.Below.{Below as Element, number, number-injective, element, number-element}
 use Rattle.field.specs.Fields.{opsOf}
 use Rattle.field.specs.Symbols.{Symbols}
 use Rattle.code.specs.declared.Setting.{Setting}
 use Rattle.code.specs.Code.{Code, distancesTo}
-use Rattle.code.specs.Generator.{timesG}
+use Rattle.code.specs.Generator.{rowSymbol, timesG}
 use Rattle.code.specs.Transmission.{view, earlier, sentSymbol}
 use Rattle.code.specs.Level.{combination}
 use Rattle.code.specs.Settings.{codeOf, Sound}
 use Rattle.code.specs.Windows.{transmission, windowLength, windowDistance, Message}
-use Rattle.code.specs.Reading.{Below, rebuiltDistance, Residual}
+use Rattle.code.specs.Reading.{Below, rebuiltDistance, only, Residual}
 use Rattle.code.proofs.Certainty.{costTo, timesG-ext}
 use Rattle.code.proofs.Windows.{blockCost, rebuiltCost, sent-sub, sent-ahead, sent-zeros, combination-ext}
 use Rattle.code.proofs.Turns.{contribution, single, sent-single}
 use Rattle.code.proofs.Lists.{symbol-below, part-below}
-use Rattle.code.proofs.Numbers.{laws, positive, fieldOf, rootOf, overField, keeps, lifted, number-lifted, sent-number, timesG-number, message-below, byteCost, window-cost}
+use Rattle.code.proofs.Numbers.{laws, positive, fieldOf, rootOf, overField, keeps, lifted, number-lifted, sent-number, timesG-number, rowSymbol-number, message-below, byteCost, window-cost}
 use Rattle.code.proofs.Reading.{number-zero}
 use Rattle.code.proofs.Residuals.{number-sub}
 
@@ -50,6 +50,28 @@ module _ (p : Setting) (S : Sound p) where
       at true j r l = same (s - j) r l
       at false j r l = refl
 
+  -- One information symbol sends its multiple of a row.
+  pub timesG-only : (r v j i : ℕ) → r < p .k → v < p .q → timesG (codeOf p) (only r v) j i ≡ opsOf (p .q) .mul v (rowSymbol (codeOf p) j r i)
+  unfolding timesG
+  timesG-only r v j i l below =
+      sym (timesG-number p S (only r v) (λ a. at-below (eqb a r)) j i)
+      ∙ ap number (sum-single (fieldOf p S) (p .k) r terms l (λ a h d.
+          ap (λ (t : Bool). fieldOf p S .ops .mul (element (p .q) (positive p S) (pick t v 0)) (rowSymbol (overField p S) j a i)) (ne-eqb a r d)
+          ∙ ap (λ (t : Element (p .q)). fieldOf p S .ops .mul t (rowSymbol (overField p S) j a i)) zero-element
+          ∙ zero-mul (fieldOf p S) (rowSymbol (overField p S) j a i)))
+      ∙ keeps p S .on-mul (element (p .q) (positive p S) (only r v r)) (rowSymbol (overField p S) j r i)
+      ∙ ap₂ (opsOf (p .q) .mul)
+        (ap (λ (t : Bool). number (element (p .q) (positive p S) (pick t v 0))) (eq-eqb r r refl) ∙ number-element (p .q) (positive p S) v below)
+        (rowSymbol-number p S j r i)
+    where
+      terms : ℕ → Element (p .q)
+      terms a = fieldOf p S .ops .mul (element (p .q) (positive p S) (only r v a)) (rowSymbol (overField p S) j a i)
+      zero-element : element (p .q) (positive p S) 0 ≡ fieldOf p S .ops .zero
+      zero-element = number-injective _ _ (number-element (p .q) (positive p S) 0 (positive p S) ∙ sym (number-zero p S))
+      at-below : (t : Bool) → pick t v 0 < p .q
+      at-below true = below
+      at-below false = positive p S
+
   -- What information block x at block j of the message contributes, taken out of the residual.
   abbrev pub lessened : List ℕ → (ℕ → ℕ) → ℕ → ℕ → ℕ → ℕ
   lessened left x j s i =
@@ -57,7 +79,7 @@ module _ (p : Setting) (S : Sound p) where
 
   module _ (T : ℕ) (reception g left h left' : List ℕ) (R : (i : ℕ) → getD reception i 0 < p .q) (G : (i : ℕ) → getD g i 0 < p .q)
       (H : (i : ℕ) → getD h i 0 < p .q) (residual : Residual p T reception g left) (x : ℕ → ℕ) (X : (r : ℕ) → x r < p .q) (j : ℕ)
-      (empty : (r : ℕ) → r < p .k → view (p .k) g j r ≡ 0) (placed : (r : ℕ) → r < p .k → view (p .k) h j r ≡ x r)
+      (placed : (r : ℕ) → r < p .k → view (p .k) h j r ≡ opsOf (p .q) .add (view (p .k) g j r) (x r))
       (others : (s r : ℕ) → (s ≡ j → ⊥) → r < p .k → view (p .k) h s r ≡ view (p .k) g s r) where
 
     x' : ℕ → Element (p .q)
@@ -70,15 +92,25 @@ module _ (p : Setting) (S : Sound p) where
       where
         zero : Element (p .q)
         zero = fieldOf p S .ops .zero
-        zero-element : element (p .q) (positive p S) 0 ≡ zero
-        zero-element = number-injective _ _ (number-element (p .q) (positive p S) 0 (positive p S) ∙ sym (number-zero p S))
-        sub-zero : (a : Element (p .q)) → sub (fieldOf p S .ops) a zero ≡ a
-        sub-zero a = ap (fieldOf p S .ops .add a) (neg-zero (fieldOf p S)) ∙ add-zero (fieldOf p S) a
+        element-add : (a b : ℕ) → a < p .q → b < p .q
+            → element (p .q) (positive p S) (opsOf (p .q) .add a b) ≡ fieldOf p S .ops .add (element (p .q) (positive p S) a) (element (p .q) (positive p S) b)
+        element-add a b la lb =
+            number-injective _ _
+            (number-element (p .q) (positive p S) (opsOf (p .q) .add a b) (laws p S .add-below a b la lb)
+            ∙ sym (keeps p S .on-add (element (p .q) (positive p S) a) (element (p .q) (positive p S) b)
+              ∙ ap₂ (opsOf (p .q) .add) (number-element (p .q) (positive p S) a la) (number-element (p .q) (positive p S) b lb)))
+        take-away : (a b : Element (p .q)) → sub (fieldOf p S .ops) (fieldOf p S .ops .add a b) a ≡ b
+        take-away a b =
+            ap (λ (t : Element (p .q)). fieldOf p S .ops .add t (fieldOf p S .ops .neg a)) (add-comm (fieldOf p S) a b)
+            ∙ add-assoc (fieldOf p S) b a (fieldOf p S .ops .neg a)
+            ∙ ap (fieldOf p S .ops .add b) (add-neg (fieldOf p S) a)
+            ∙ add-zero (fieldOf p S) b
         at : Dec (s ≡ j) → sub (fieldOf p S .ops) (element (p .q) (positive p S) (view (p .k) h s r)) (element (p .q) (positive p S) (view (p .k) g s r)) ≡ pick (eqb s j) (x' r) zero
         at (yes e) =
             ap₂ (λ (a b : ℕ). sub (fieldOf p S .ops) (element (p .q) (positive p S) a) (element (p .q) (positive p S) b))
-              (ap (λ (t : ℕ). view (p .k) h t r) e ∙ placed r l) (ap (λ (t : ℕ). view (p .k) g t r) e ∙ empty r l)
-            ∙ ap (sub (fieldOf p S .ops) (x' r)) zero-element ∙ sub-zero (x' r)
+              (ap (λ (t : ℕ). view (p .k) h t r) e ∙ placed r l) (ap (λ (t : ℕ). view (p .k) g t r) e)
+            ∙ ap (λ (t : Element (p .q)). sub (fieldOf p S .ops) t (element (p .q) (positive p S) (view (p .k) g j r))) (element-add (view (p .k) g j r) (x r) (G (j * p .k + r)) (X r))
+            ∙ take-away (element (p .q) (positive p S) (view (p .k) g j r)) (x' r)
             ∙ sym (ap (λ (t : Bool). pick t (x' r) zero) (eq-eqb s j e))
         at (no d) =
             ap (λ (a : ℕ). sub (fieldOf p S .ops) (element (p .q) (positive p S) a) (element (p .q) (positive p S) (view (p .k) g s r))) (others s r d l)
@@ -93,7 +125,7 @@ module _ (p : Setting) (S : Sound p) where
         ∙ sent-ext _ (single (fieldOf p S) (rootOf p S) (p .n) (p .k) (p .m) x' j) (λ b r l. differs b r l) s i
         ∙ sent-single (fieldOf p S) (rootOf p S) (p .n) (p .k) (p .m) x' j s i
 
-    -- The residual after block j of the message was found and its contribution taken out.
+    -- The residual after x was added to block j of the message and its contribution taken out.
     pub residual-step : ((s i : ℕ) → s < T + p .m → i < p .n → view (p .n) left' s i ≡ lessened left x j s i) → Residual p T reception h left'
     unfolding contribution x'
     residual-step changed =

@@ -1,5 +1,5 @@
 -- The residual of a message g in a reception, on bytes: what one window of it says of a message that fits.
--- Holds: `window-view`, `ahead`, `sub-below`, `sub-zero`, `ahead-below`, `number-sub`, `residual-window`.
+-- Holds: `window-view`, `ahead`, `sub-below`, `add-back`, `ahead-below`, `number-sub`, `residual-window`.
 use mathlib.Core.Path.{_≡_, refl, sym, ap, ap₂, subst, _∙_}
 use mathlib.Core.Bool.{Bool, true, false, not}
 use mathlib.Core.List.{List}
@@ -14,7 +14,7 @@ use lib.Seq.{getD-take, getD-drop}
 use borrow.Author.Tests.{le-leb, lt-leb, eq-eqb, ne-eqb, eqb-true, eqb-false}
 use Rattle.algebra.specs.Ops.{Ops, sub, pick}
 use Rattle.algebra.specs.Weight.{total, countOf, distance}
-use Rattle.algebra.proofs.Laws.{Field, ring, sub-self, eq-of-sub, add-neg, neg-zero, add-zero}
+use Rattle.algebra.proofs.Laws.{Field, ring, sub-self, eq-of-sub, add-neg, add-of-sub, neg-zero, add-zero}
 use Rattle.algebra.proofs.Weights.{total-ext, countOf-ext}
 use Rattle.algebra.proofs.Below.{Below as Element, number, number-injective, element, number-element}
 use Rattle.field.specs.Fields.{opsOf}
@@ -54,13 +54,22 @@ module _ (p : Setting) (S : Sound p) where
   pub sub-below : (a b : ℕ) → a < p .q → b < p .q → sub (opsOf (p .q)) a b < p .q
   sub-below a b la lb = laws p S .add-below a (opsOf (p .q) .neg b) la (laws p S .neg-below b lb)
 
-  -- v - 0 = v
-  pub sub-zero : (v : ℕ) → v < p .q → sub (opsOf (p .q)) v 0 ≡ v
-  sub-zero v l =
-      let below : opsOf (p .q) .neg 0 < p .q = laws p S .neg-below 0 (positive p S) in
-      ap (opsOf (p .q) .add v)
-        (sym (laws p S .plus-zero (opsOf (p .q) .neg 0) below) ∙ laws p S .plus-comm (opsOf (p .q) .neg 0) 0 below (positive p S) ∙ laws p S .plus-neg 0 (positive p S))
-      ∙ laws p S .plus-zero v l
+  -- b + (a - b) = a
+  pub add-back : (a b : ℕ) → a < p .q → b < p .q → opsOf (p .q) .add b (sub (opsOf (p .q)) a b) ≡ a
+  add-back a b la lb =
+      sym (ap₂ (opsOf (p .q) .add) same-b (number-sub a' b' ∙ ap₂ (sub (opsOf (p .q))) same-a same-b))
+      ∙ sym (keeps p S .on-add b' (sub (fieldOf p S .ops) a' b'))
+      ∙ ap number (sym (add-of-sub (fieldOf p S) a' b' (sub (fieldOf p S .ops) a' b') refl))
+      ∙ same-a
+    where
+      a' : Element (p .q)
+      a' = element (p .q) (positive p S) a
+      b' : Element (p .q)
+      b' = element (p .q) (positive p S) b
+      same-a : number a' ≡ a
+      same-a = number-element (p .q) (positive p S) a la
+      same-b : number b' ≡ b
+      same-b = number-element (p .q) (positive p S) b lb
 
   pub ahead-below : (x g : List ℕ) (j : ℕ) → ((i : ℕ) → getD x i 0 < p .q) → ((i : ℕ) → getD g i 0 < p .q) → Below (p .q) (ahead p x g j)
   ahead-below x g j X G s r = sub-below _ _ (X ((j + s) * p .k + r)) (G ((j + s) * p .k + r))

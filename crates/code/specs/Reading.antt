@@ -1,12 +1,12 @@
 -- Reading a window and a reception on lists of bytes (01, "Reading a reception").
--- Holds: `Below`, `blockDistance`, `rebuiltDistance`, `windowWeight`, `Residual`.
+-- Holds: `Below`, `blockDistance`, `rebuiltDistance`, `windowWeight`, `only`, `Residual`.
 use mathlib.Core.Path.{_≡_}
 use mathlib.Core.Bool.{not}
 use mathlib.Core.List.{List}
 use Prim.Native.Nat.{ℕ, suc, _+_, _<_}
 use lib.Dec.{eqb}
 use lib.ListN.{getD}
-use Rattle.algebra.specs.Ops.{Ops, sub}
+use Rattle.algebra.specs.Ops.{Ops, sub, pick}
 use Rattle.algebra.specs.Weight.{total, countOf, distance}
 use Rattle.field.specs.Fields.{opsOf}
 use Rattle.code.specs.declared.Setting.{Setting}
@@ -30,6 +30,10 @@ rebuiltDistance p window l y = total (suc l) (λ s. blockDistance p (view (p .n)
 -- How many symbols of a window are not zero.
 abbrev pub windowWeight : Setting → List ℕ → ℕ
 windowWeight p window = countOf (windowLength p) (λ i. not (eqb (getD window i 0) 0))
+
+-- The information block with the one symbol v, at place r.
+abbrev pub only : ℕ → ℕ → ℕ → ℕ
+only r v a = pick (eqb a r) v 0
 
 -- w less the transmission of g: what is left of a reception of T+m blocks once the message g is taken out.
 pub record Residual (p : Setting) (T : ℕ) (reception message left : List ℕ) : Type 0 where

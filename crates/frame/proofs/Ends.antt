@@ -70,7 +70,7 @@ module _ (p : Setting) (S : Sound p) (T : ℕ) (reception message left : List �
 module _ (p : Setting) (S : Sound p) (T : ℕ) (reception message left : List ℕ) (R : Symbols (p .q) reception) (long : length reception ≡ (T + p .m) * p .n)
     (blocks : 1 ≤ T) (P : Progress p T reception T message left) where
   whole : Message p T message
-  whole = record { blocks = blocks; long = P .message-long; symbols = P .message-symbols }
+  whole = record { blocks = blocks; long = P .areas .message-long; symbols = P .areas .message-symbols }
 
   -- Near in every window: the message fits.
   pub frame-fits : ((j : ℕ) → j < T → windowWeight p (take (windowLength p) (drop (j * p .n) left)) ≤ limit (p .n) (p .k) (p .m)) → FrameRead p T reception message left true
@@ -81,13 +81,13 @@ module _ (p : Setting) (S : Sound p) (T : ℕ) (reception message left : List �
           long = long;
           near = λ j l. subst (λ (t : ℕ). t ≤ limit (p .n) (p .k) (p .m)) (sym (left-window p S T reception message left R whole (P .residual) j l)) (near j l)
         })
-        (P .left-symbols) (P .left-long ∙ sym long) (P .residual)
+        (P .areas .left-symbols) (P .areas .left-long ∙ sym long) (P .residual)
 
   -- Far in one window: no message fits, since it could only be this one.
   pub frame-none : (j : ℕ) → j < T → limit (p .n) (p .k) (p .m) < windowWeight p (take (windowLength p) (drop (j * p .n) left)) → NoneFits p T reception
   frame-none j l far x F =
       let same : x ≡ message =
-          ext-getD 0 x message (F .message-of .long ∙ sym (P .message-long)) (λ i u. P .begins x F i (omega (arith, F .message-of .long))) in
+          ext-getD 0 x message (F .message-of .long ∙ sym (P .areas .message-long)) (λ i u. P .begins x F i (omega (arith, F .message-of .long))) in
       let near : windowDistance p reception (transmission p message) j ≤ limit (p .n) (p .k) (p .m) =
           subst (λ (t : List ℕ). windowDistance p reception (transmission p t) j ≤ limit (p .n) (p .k) (p .m)) same (F .near j l) in
       omega (arith, left-window p S T reception message left R whole (P .residual) j l)

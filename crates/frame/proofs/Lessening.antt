@@ -1,5 +1,5 @@
 -- An information block's contribution taken out of a block and of a window, symbol by symbol and block by block.
--- Holds: `lessened-none`, `lessened-more`, `lessenedTo-none`, `lessenedTo-more`.
+-- Holds: `row-multiple`, `lessened-none`, `lessened-more`, `lessenedTo-none`, `lessenedTo-more`.
 use mathlib.Core.Path.{_≡_, refl, sym, ap, ap₂, subst, fun-ext, _∙_}
 use mathlib.Core.List.{List, _++_}
 use Prim.Native.Nat.{ℕ, zero, suc, _+_, _-_, _*_, _≤_, _<_}
@@ -16,15 +16,20 @@ use Rattle.field.specs.Symbols.{Symbols}
 use Rattle.code.specs.declared.Setting.{Setting}
 use Rattle.code.specs.Generator.{timesG}
 use Rattle.code.specs.Transmission.{view}
-use Rattle.code.specs.Settings.{codeOf}
+use Rattle.code.specs.Settings.{codeOf, Sound}
+use Rattle.code.specs.Reading.{only}
+use Rattle.code.proofs.ResidualSteps.{timesG-only}
+use Rattle.tables.specs.Tables.{RowsOf}
 use Rattle.frame.specs.Window.{Lessened, LessenedTo}
 use Rattle.frame.proofs.Levels.{part-length, part-symbol}
 use Rattle.frame.proofs.Parts.{put-length, put-before, put-inside, put-after, put-symbols}
 
--- The code's places begin at 0.
-pub from-start : (p : Setting) (information : List ℕ) (j i : ℕ)
-    → timesG (codeOf p) (λ a. getD information (0 + a) 0) j i ≡ timesG (codeOf p) (λ a. getD information a 0) j i
-from-start p information j i = ap (λ (x : ℕ → ℕ). timesG (codeOf p) x j i) (fun-ext (λ a. ap (λ (t : ℕ). getD information t 0) (zero-add a)))
+-- A multiple of a row of G_j, from the lent rows, is what one information symbol contributes.
+pub row-multiple : (p : Setting) → Sound p → (rows : List ℕ) → RowsOf p rows → (r v j i : ℕ) → r < p .k → v < p .q → j ≤ p .m → i < p .n
+    → opsOf (p .q) .mul v (getD rows ((j * p .k + r) * p .n + i) 0) ≡ timesG (codeOf p) (only r v) j i
+row-multiple p S rows R r v j i lr lv lj li =
+    let below : j < p .m + 1 = omega arith in
+    ap (opsOf (p .q) .mul v) (R .at j r i below lr li) ∙ sym (timesG-only p S r v j i lr lv)
 
 module _ (p : Setting) (x : ℕ → ℕ) (j : ℕ) (before : List ℕ) where
   pub lessened-none : Symbols (p .q) before → Lessened p x j 0 before before

@@ -5,6 +5,7 @@ pub mod Reached
 pub mod Parts
 pub mod Lessening
 pub mod Turn
+pub mod Guesses
 pub mod Progress
 pub mod Begin
 pub mod Advance

@@ -37,15 +37,15 @@ module _ (p : Setting) (S : Sound p) (window information : List ℕ) (symbols : 
   reached-next zero (fails heavy) e reached = λ y Y near. level-ends p S window y (reached y Y near) (heavy y Y (reached y Y near))
   reached-next (suc l) (fails heavy) e reached = λ y Y near. level-drops p S window y l (reached y Y near) (heavy y Y (reached y Y near))
 
-  pub reached-served : (l : ℕ) {r : Bool} → l ≤ p .m → Tried p window l information r → r ≡ true → Reached p window (suc l) → Levels p window information true
+  pub reached-served : (l : ℕ) {r : Bool} → l ≤ p .m → Tried p window l information r → r ≡ true → Reached p window (suc l) → Levels p window information (suc l)
   unfolding Reached reach
   reached-served l low (serves area good) e reached =
-      served area (λ y Y near r h.
+      served (suc l) (omega arith) (omega arith) area (λ y Y near r h.
         first-certain p S window (symbol-below (p .q) window symbols (positive p S)) y (view (p .k) information) Y (λ s t. area .below (s * p .k + t)) l low
           (reached y Y near) good r h
         ∙ (let place : 0 * p .k + r ≡ r = omega arith in ap (λ (t : ℕ). getD information t 0) place))
   reached-served l low (fails heavy) e reached = absurd (subst (λ (b : Bool). T (not b)) e tt)
 
-pub reached-none : (p : Setting) (window information : List ℕ) → Reached p window 0 → Levels p window information false
+pub reached-none : (p : Setting) (window information : List ℕ) → Reached p window 0 → Levels p window information 0
 unfolding Reached reach
 reached-none p window information reached = none-serves (λ y Y near. reached y Y near)

@@ -1,25 +1,45 @@
 -- Reading a frame: the windows in turn, then the last comparison (01, "Reading a reception").
--- Holds: `Progress`, `NoneFits`, `Advanced`, `Compared`, `FrameRead`.
+-- Holds: `Areas`, `Progress`, `Revised`, `Adjusted`, `Added`, `NoneFits`, `Advanced`, `Compared`, `FrameRead`.
 use mathlib.Core.Path.{_≡_}
 use mathlib.Core.Bool.{Bool, true, false}
 use mathlib.Core.List.{List}
 use Prim.Native.Nat.{ℕ, _+_, _*_, _≤_, _<_}
-use lib.ListN.{length, getD, take, drop}
+use lib.ListN.{length, getD, take, drop, set}
+use Rattle.field.specs.Fields.{opsOf}
 use Rattle.field.specs.Symbols.{Symbols}
 use Rattle.code.specs.declared.Setting.{Setting}
 use Rattle.code.specs.Code.{limit}
 use Rattle.code.specs.Windows.{windowLength, Fits}
 use Rattle.code.specs.Reading.{windowWeight, Residual}
 
--- The message blocks found before block j, and the residual of the reception for them; every message that fits begins with them.
-pub record Progress (p : Setting) (T : ℕ) (reception : List ℕ) (j : ℕ) (message left : List ℕ) : Type 0 where
+-- The areas of a frame: a guessed message of T blocks, and what is left of a reception for it.
+pub record Areas (p : Setting) (T : ℕ) (message left : List ℕ) : Type 0 where
   pub message-long : length message ≡ T * p .k
   pub message-symbols : Symbols (p .q) message
-  pub empty : (i : ℕ) → j * p .k ≤ i → getD message i 0 ≡ 0
   pub left-long : length left ≡ (T + p .m) * p .n
   pub left-symbols : Symbols (p .q) left
+
+-- A guessed message and the residual of the reception for it; every message that fits equals the guess before block j.
+pub record Progress (p : Setting) (T : ℕ) (reception : List ℕ) (j : ℕ) (message left : List ℕ) : Type 0 where
+  pub areas : Areas p T message left
   pub residual : Residual p T reception message left
   pub begins : (x : List ℕ) → Fits p T reception x → (i : ℕ) → i < j * p .k → getD x i 0 ≡ getD message i 0
+
+-- The guess was changed from block i on, and what is left with it.
+pub record Revised (p : Setting) (T i : ℕ) (message left message' left' : List ℕ) : Type 0 where
+  pub areas : Areas p T message' left'
+  pub before : (a : ℕ) → a < i * p .k → getD message' a 0 ≡ getD message a 0
+  pub residual : (reception : List ℕ) → Symbols (p .q) reception → Residual p T reception message left → Residual p T reception message' left'
+
+-- v was added to symbol r of block i of the guess.
+pub record Adjusted (p : Setting) (T i r v : ℕ) (message left message' left' : List ℕ) : Type 0 where
+  pub revised : Revised p T i message left message' left'
+  pub added : message' ≡ set message (i * p .k + r) (opsOf (p .q) .add (getD message (i * p .k + r) 0) v)
+
+-- The information block x was added to block i of the guess, if there is one.
+pub record Added (p : Setting) (T i : ℕ) (x : ℕ → ℕ) (message left message' left' : List ℕ) : Type 0 where
+  pub revised : Revised p T i message left message' left'
+  pub symbol : (r : ℕ) → i < T → r < p .k → getD message' (i * p .k + r) 0 ≡ opsOf (p .q) .add (getD message (i * p .k + r) 0) (x r)
 
 -- No message fits.
 abbrev pub NoneFits : Setting → ℕ → List ℕ → Type 0

@@ -1,5 +1,5 @@
 -- One turn of reading (01, "Reading a reception"), at a window by itself.
--- Holds: `Near`, `Tried` (one level), `Levels` (all levels), `Lessened` and `LessenedTo` (an information block's contribution taken out), `WindowRead`.
+-- Holds: `Near`, `Tried` (one level), `Levels` (all levels), `Lessened` and `LessenedTo` (an information block's contribution taken out).
 use mathlib.Core.Path.{_≡_}
 use mathlib.Core.Bool.{Bool, true, false}
 use mathlib.Core.List.{List}
@@ -40,18 +40,8 @@ pub record LessenedTo (p : Setting) (x : ℕ → ℕ) (j : ℕ) (before after : 
   pub inside : (s i : ℕ) → s < j → i < p .n → view (p .n) after s i ≡ sub (opsOf (p .q)) (view (p .n) before s i) (timesG (codeOf p) x s i)
   pub outside : (a : ℕ) → j * p .n ≤ a → getD after a 0 ≡ getD before a 0
 
--- A window was read: its first information block and what is left of it, or that no information is near.
-pub data WindowRead (p : Setting) (window block window' block' : List ℕ) : Bool → Type 0 where
-  -- Few symbols differ from zero: the information block is zero, and nothing changes.
-  clean : ((y : ℕ → ℕ → ℕ) → Below (p .q) y → Near p window (p .m) y → (r : ℕ) → r < p .k → y 0 r ≡ 0)
-      → window' ≡ window → block' ≡ block → WindowRead p window block window' block' true
-  found : ((y : ℕ → ℕ → ℕ) → Below (p .q) y → Near p window (p .m) y → (r : ℕ) → r < p .k → y 0 r ≡ getD block' r 0)
-      → length block' ≡ length block → Symbols (p .q) block' → LessenedTo p (λ r. getD block' r 0) (p .m + 1) window window'
-      → WindowRead p window block window' block' true
-  none : ((y : ℕ → ℕ → ℕ) → Below (p .q) y → Near p window (p .m) y → ⊥) → WindowRead p window block window' block' false
-
--- Some level served: every near y begins with the information found; or no level did, and no y is near.
-pub data Levels (p : Setting) (window information : List ℕ) : Bool → Type 0 where
-  served : Area (p .q) information
-      → ((y : ℕ → ℕ → ℕ) → Below (p .q) y → Near p window (p .m) y → (r : ℕ) → r < p .k → y 0 r ≡ getD information r 0) → Levels p window information true
-  none-serves : ((y : ℕ → ℕ → ℕ) → Below (p .q) y → Near p window (p .m) y → ⊥) → Levels p window information false
+-- The information near a window, so many blocks: every near y begins with it; or none, and no y is near.
+pub data Levels (p : Setting) (window information : List ℕ) : ℕ → Type 0 where
+  served : (blocks : ℕ) → 1 ≤ blocks → blocks ≤ p .m + 1 → Area (p .q) information
+      → ((y : ℕ → ℕ → ℕ) → Below (p .q) y → Near p window (p .m) y → (r : ℕ) → r < p .k → y 0 r ≡ getD information r 0) → Levels p window information blocks
+  none-serves : ((y : ℕ → ℕ → ℕ) → Below (p .q) y → Near p window (p .m) y → ⊥) → Levels p window information 0

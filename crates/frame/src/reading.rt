@@ -12,36 +12,33 @@ use code::Setting;
 use field::Tables;
 use tables::{Matrix, Rows};
 
-// One turn: window j of what is left is read, and message block j found.
+// One turn: the blocks of window j are guessed, and then block j made certain by what the window says.
 fn turn(
     p: Setting,
     products: &Tables,
     rows: &Rows,
     matrix: &Matrix,
+    scale: u8,
     blocks: usize,
     reception: &[u8],
     j: usize,
     message: &mut [u8],
     left: &mut [u8],
 ) -> bool
-    requires { ⌜ Ready p (now products) (now rows) × MatrixOf p (now matrix) × (length (now reception) ≡ (blocks + p .m) * p .n) × Symbols (p .q) (now reception) × (j < blocks) × Progress p blocks (now reception) j (now message) (now left) ⌝ }
+    requires { ⌜ Ready p (now products) (now rows) × MatrixOf p (now matrix) × (scale < p .q) × (length (now reception) ≡ (blocks + p .m) * p .n) × Symbols (p .q) (now reception) × (j < blocks) × Progress p blocks (now reception) j (now message) (now left) ⌝ }
     ensures { λ r. ⌜ Advanced p blocks (now (reception .entry)) (j + 1) (now (message .exit)) (now (left .exit)) r ⌝ }
 {
-    let n = p.n;
-    let k = p.k;
-    let size = (p.m + 1) * n;
-    let start = j * n;
+    let size = (p.m + 1) * p.n;
+    let start = j * p.n;
     let end = start + size;
-    let from = j * k;
-    let to = from + k;
-    super::window::read_window(
-        p,
-        products,
-        rows,
-        matrix,
-        &mut left[start..end],
-        &mut message[from..to],
-    )
+    super::guess::guess_window(p, products, rows, scale, blocks, j, message, left);
+    let mut information = [0u8; 16];
+    let found = super::window::read_window(p, products, rows, matrix, &left[start..end], &mut information);
+    if found == 0 {
+        return false;
+    }
+    super::guess::add_found(p, products, rows, blocks, j, &information, found, message, left);
+    true
 }
 
 // The windows in turn.
@@ -50,17 +47,18 @@ fn read_windows(
     products: &Tables,
     rows: &Rows,
     matrix: &Matrix,
+    scale: u8,
     blocks: usize,
     reception: &[u8],
     message: &mut [u8],
     left: &mut [u8],
 ) -> bool
-    requires { ⌜ Ready p (now products) (now rows) × MatrixOf p (now matrix) × (length (now reception) ≡ (blocks + p .m) * p .n) × Symbols (p .q) (now reception) × Progress p blocks (now reception) 0 (now message) (now left) ⌝ }
+    requires { ⌜ Ready p (now products) (now rows) × MatrixOf p (now matrix) × (scale < p .q) × (length (now reception) ≡ (blocks + p .m) * p .n) × Symbols (p .q) (now reception) × Progress p blocks (now reception) 0 (now message) (now left) ⌝ }
     ensures { λ r. ⌜ Advanced p blocks (now (reception .entry)) blocks (now (message .exit)) (now (left .exit)) r ⌝ }
 {
     let mut j: usize = 0;
     while j < blocks {
-        if !turn(p, products, rows, matrix, blocks, reception, j, message, left) {
+        if !turn(p, products, rows, matrix, scale, blocks, reception, j, message, left) {
             return false;
         }
         j += 1;
@@ -104,7 +102,8 @@ pub fn read(
 {
     super::area::clear(message);
     bytes::copy(reception, left);
-    if !read_windows(p, products, rows, matrix, blocks, reception, message, left) {
+    let scale = field::inverse(p.q, products, rows[0]);
+    if !read_windows(p, products, rows, matrix, scale, blocks, reception, message, left) {
         return false;
     }
     let m = p.m;

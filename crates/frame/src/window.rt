@@ -1,7 +1,7 @@
-// One turn of reading: the first information block of a window, and the window without its contribution.
+// One window: the information near it, found by the levels of the code.
 ghost use mathlib.Core.Path.{_≡_};
 ghost use Prim.Native.Nat.{_+_, _*_, _≤_};
-ghost use lib.ListN.{length, getD};
+ghost use lib.ListN.{length};
 ghost use Rattle.field.specs.Symbols.{Symbols};
 ghost use Rattle.code.specs.Code.{distancesTo};
 ghost use Rattle.code.specs.Transmission.{view};
@@ -10,7 +10,7 @@ ghost use Rattle.code.specs.Windows.{windowLength};
 ghost use Rattle.code.specs.Reading.{rebuiltDistance};
 ghost use Rattle.tables.specs.Tables.{Ready, Small, MatrixOf};
 ghost use Rattle.block.specs.Area.{Area};
-ghost use Rattle.frame.specs.Window.{Tried, Levels, Lessened, LessenedTo, WindowRead};
+ghost use Rattle.frame.specs.Window.{Tried, Levels};
 
 use code::Setting;
 use field::Tables;
@@ -88,7 +88,7 @@ fn try_level(
     false
 }
 
-// The levels from m down to 0, until one serves.
+// The levels from m down to 0, until one serves: how many information blocks it has.
 fn find_level(
     p: Setting,
     products: &Tables,
@@ -96,88 +96,38 @@ fn find_level(
     matrix: &Matrix,
     window: &[u8],
     information: &mut Series,
-) -> bool
+) -> usize
     requires { ⌜ Ready p (now products) (now rows) × MatrixOf p (now matrix) × (length (now window) ≡ windowLength p) × Symbols (p .q) (now window) ⌝ }
     ensures { λ r. ⌜ Levels p (now (window .entry)) (now (information .exit)) r ⌝ }
 {
-    let mut l = p.m + 1;
-    while 0 < l {
-        l -= 1;
+    let mut blocks = p.m + 1;
+    while 0 < blocks {
+        let l = blocks - 1;
         if try_level(p, products, rows, matrix, window, l, information) {
-            return true;
+            return blocks;
         }
+        blocks = l;
     }
-    false
+    0
 }
 
-// Takes out of block j of a window what the information block contributes to it.
-fn subtract_block(
-    p: Setting,
-    products: &Tables,
-    rows: &Rows,
-    information: &[u8],
-    j: usize,
-    block: &mut [u8],
-)
-    requires { ⌜ Ready p (now products) (now rows) × Symbols (p .q) (now information) × (p .k ≤ length (now information)) × (j ≤ p .m) × (length (now block) ≡ p .n) × Symbols (p .q) (now block) ⌝ }
-    ensures { λ r. ⌜ Lessened p (λ r. getD (now (information .entry)) r 0) j (p .n) (now (block .entry)) (now (block .exit)) ⌝ }
-{
-    let q = p.q;
-    let n = p.n;
-    let mut i: usize = 0;
-    while i < n {
-        let part = tables::product::times_g(p, products, rows, information, 0, j, i);
-        block[i] = field::subtract(q, block[i], part);
-        i += 1;
-    }
-}
-
-// Takes out of every block of a window what the information block contributes to it.
-fn subtract_window(
-    p: Setting,
-    products: &Tables,
-    rows: &Rows,
-    information: &[u8],
-    window: &mut [u8],
-)
-    requires { ⌜ Ready p (now products) (now rows) × Symbols (p .q) (now information) × (p .k ≤ length (now information)) × (length (now window) ≡ windowLength p) × Symbols (p .q) (now window) ⌝ }
-    ensures { λ r. ⌜ LessenedTo p (λ r. getD (now (information .entry)) r 0) (p .m + 1) (now (window .entry)) (now (window .exit)) ⌝ }
-{
-    let n = p.n;
-    let m = p.m;
-    let mut start: usize = 0;
-    let mut s: usize = 0;
-    while s <= m {
-        let end = start + n;
-        subtract_block(p, products, rows, information, s, &mut window[start..end]);
-        start = end;
-        s += 1;
-    }
-}
-
-// One turn: the first information block of the window goes into the message's block, and its contribution out of the window.
+// The information near a window: how many blocks of it were found, or 0 if none is near. A window near zero begins with a zero block.
 pub fn read_window(
     p: Setting,
     products: &Tables,
     rows: &Rows,
     matrix: &Matrix,
-    window: &mut [u8],
-    block: &mut [u8],
-) -> bool
-    requires { ⌜ Ready p (now products) (now rows) × MatrixOf p (now matrix) × (length (now window) ≡ windowLength p) × Symbols (p .q) (now window) × (length (now block) ≡ p .k) ⌝ }
-    ensures { λ r. ⌜ WindowRead p (now (window .entry)) (now (block .entry)) (now (window .exit)) (now (block .exit)) r ⌝ }
+    window: &[u8],
+    information: &mut Series,
+) -> usize
+    requires { ⌜ Ready p (now products) (now rows) × MatrixOf p (now matrix) × (length (now window) ≡ windowLength p) × Symbols (p .q) (now window) ⌝ }
+    ensures { λ r. ⌜ Levels p (now (window .entry)) (now (information .exit)) r ⌝ }
 {
     let m = p.m;
-    let k = p.k;
     let bound = distances_to(p, m);
     if 2 * super::area::weight(window) < bound {
-        return true;
+        *information = [0u8; 16];
+        return 1;
     }
-    let mut information = [0u8; 16];
-    if !find_level(p, products, rows, matrix, window, &mut information) {
-        return false;
-    }
-    subtract_window(p, products, rows, &information, window);
-    bytes::copy(&information[..k], block);
-    true
+    find_level(p, products, rows, matrix, window, information)
 }

@@ -2,8 +2,8 @@
 ghost use Rattle.link.specs.Encoding.{Encoded};
 ghost use Rattle.link.specs.Decoding.{Decoded};
 ghost use Rattle.link.specs.Marks.{Marked};
-
-use link::{Answer, Marks};
+use link::Answer;
+use link::Marks;
 
 // struct orderlink_answer orderlink_encode(uint32_t setting, const uint8_t *message, size_t message_len,
 //                                          uint8_t *transmission, size_t transmission_len);
@@ -35,7 +35,12 @@ pub extern "C" fn orderlink_decode(
 //                                        const uint8_t *transmission, size_t transmission_len, uint64_t j);
 // Marks the differences of a reception and a transmission in window j.
 #[no_mangle]
-pub extern "C" fn orderlink_marks(setting: u32, reception: &[u8], transmission: &[u8], j: u64) -> Marks
+pub extern "C" fn orderlink_marks(
+    setting: u32,
+    reception: &[u8],
+    transmission: &[u8],
+    j: u64,
+) -> Marks
     ensures { λ r. ⌜ Marked setting (now (reception .entry)) (now (transmission .entry)) j r ⌝ }
 {
     link::mark::marks(setting, reception, transmission, j)

@@ -1,5 +1,5 @@
 -- What the first "no" of a list of questions says, and what a call knows when every answer was "yes".
--- Holds: `first-yes`, `first-no` (one question), `append-yes`, `append-no` (a list of questions before others), `all-yes` (number 0 says that every
+-- Holds: `first-yes`, `first-no` (one question), `append-yes`, `append-no` (a list of questions before others), `all-yes`, `yes-all` (number 0 says that every
 -- answer was "yes"), `after-first`, `after-frame` (what is left to ask, over the setting in hand); `symbols-start`, `symbols-next`, `symbols-stop`,
 -- `symbols-end` (question 4, as a loop asks it), `symbols-all`; `Frame`; `FrameYes`, `DecodingYes`, `EncodingYes`, `WindowYes` and `frame-yes`,
 -- `decoding-yes`, `encoding-yes`, `display-yes`, `marks-yes`; `message-small`, `transmission-small`, `window-small` (the areas' sizes).
@@ -49,6 +49,15 @@ all-yes (x ∷ rest) n e = at (all-yes rest (and-right (not (eqb (x .number) 0))
     at : (firstNo rest .number ≡ 0 → AllYes rest) → (t : Bool) → pick t (firstNo rest) (answer (x .number) (x .place) 0) .number ≡ 0 → T t × AllYes rest
     at more true e = (tt, more e)
     at more false e = absurd (subst (λ (t : Bool). T (not t)) (eq-eqb (x .number) 0 e) (and-left (not (eqb (x .number) 0)) (numbered rest) n))
+
+-- The other way round; place and count are 0 too.
+pub yes-all : (l : List Question) → AllYes l → firstNo l ≡ answer 0 0 0
+yes-all [] t = refl
+yes-all (x ∷ rest) t = at (x .holds) (t .0) (yes-all rest (t .1))
+  where
+    at : (b : Bool) → T b → firstNo rest ≡ answer 0 0 0 → pick b (firstNo rest) (answer (x .number) (x .place) 0) ≡ answer 0 0 0
+    at true t e = e
+    at false t e = absurd t
 
 -- A list of questions before others: its "no" is the answer, and if it has none the others are asked.
 pub append-no : (a b : List Question) → (firstNo a .number ≡ 0 → ⊥) → firstNo (a ++ b) ≡ firstNo a

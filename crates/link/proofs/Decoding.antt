@@ -40,7 +40,7 @@ module _ (q : ℕ) (reception before : List ℕ) where
       record {
         long = length-set after i v ∙ R .long;
         inside = λ a h. at a (ℕ-discrete a i) h;
-        outside = λ a h. getD-set-other after i a v 0 (omega arith) ∙ R .outside a (omega arith)
+        outside = λ a h. getD-set-other after i a v 0 (omega arith) ∙ R .outside a (omega arith);
       }
     where
       at : (a : ℕ) → Dec (a ≡ i) → a < i + 1 → getD (set after i v) a 0 ≡ sub (opsOf q) (getD reception a 0) (getD before a 0)
@@ -82,10 +82,10 @@ module _ (p : Setting) (T : ℕ) (reception message left : List ℕ) where
   frame-decoded-found S restored weight R long (none far) h counted back = absurd (absurd-bool (sym h))
   frame-decoded-found S restored weight R long (fits F symbols same residual) h counted back =
       frame-found F
-        (ap (answer 0 0) (counted ∙ (ap (λ (t : ℕ). countOf t (λ i. not (eqb (getD left i 0) 0))) (same ∙ long)
-          ∙ sym (left-altered p S T reception message left R (F .message-of) residual))))
-        (ext-getD 0 restored (transmission p message) (back .long ∙ (same ∙ (long ∙ sym (length-transmission p S T reception message F))))
-          (λ i l. back .inside i (omega (arith, back .long)) ∙ left-back p S T reception message left R (F .message-of) residual i (omega (arith, back .long, same, long))))
+      (ap (answer 0 0) (counted ∙ (ap (λ (t : ℕ). countOf t (λ i. not (eqb (getD left i 0) 0))) (same ∙ long)
+      ∙ sym (left-altered p S T reception message left R (F .message-of) residual))))
+      (ext-getD 0 restored (transmission p message) (back .long ∙ (same ∙ (long ∙ sym (length-transmission p S T reception message F))))
+      (λ i l. back .inside i (omega (arith, back .long)) ∙ left-back p S T reception message left R (F .message-of) residual i (omega (arith, back .long, same, long))))
 
 -- What the functions of a setting are lent.
 pub ready-of : (number : ℕ) (p : Setting) → T (isSetting number) → p ≡ settingOf number → (products : List (List ℕ)) (rows : List ℕ)
@@ -116,26 +116,26 @@ module _ (number : ℕ) (reception message transmitted : List ℕ) where
         long = known .long;
         symbols = known .symbols;
         message-room = known .message-room;
-        transmission-room = known .transmission-room
+        transmission-room = known .transmission-room;
       })
 
   pub decoded-asked : (p : Setting) → p ≡ settingOf number → firstNo (decodingQuestions number reception (length message) (length transmitted)) .number ≡ 0
       → {r : Answer} {front sent : List ℕ} → FrameDecoded p (blocksOf p (length reception)) reception r front sent
       → Decoded number reception message transmitted r (front ++ drop (blocksOf p (length reception) * p .k) message)
-          (sent ++ drop ((blocksOf p (length reception) + p .m) * p .n) transmitted)
+      (sent ++ drop ((blocksOf p (length reception) + p .m) * p .n) transmitted)
   decoded-asked p e asked {r} {front} {sent} =
       subst (λ (s : Setting). FrameDecoded s (blocksOf s (length reception)) reception r front sent
-          → Decoded number reception message transmitted r (front ++ drop (blocksOf s (length reception) * s .k) message)
-              (sent ++ drop ((blocksOf s (length reception) + s .m) * s .n) transmitted)) (sym e) whole
+      → Decoded number reception message transmitted r (front ++ drop (blocksOf s (length reception) * s .k) message)
+      (sent ++ drop ((blocksOf s (length reception) + s .m) * s .n) transmitted)) (sym e) whole
     where
       whole : FrameDecoded (settingOf number) (blocksOf (settingOf number) (length reception)) reception r front sent
           → Decoded number reception message transmitted r (front ++ drop (blocksOf (settingOf number) (length reception) * settingOf number .k) message)
-              (sent ++ drop ((blocksOf (settingOf number) (length reception) + settingOf number .m) * settingOf number .n) transmitted)
+          (sent ++ drop ((blocksOf (settingOf number) (length reception) + settingOf number .m) * settingOf number .n) transmitted)
       whole (frame-found F a t) =
           found asked front F a refl (ap (λ (l : List ℕ). l ++ drop ((blocksOf (settingOf number) (length reception) + settingOf number .m) * settingOf number .n) transmitted) t)
       whole (frame-none far a f t) =
           none-fits asked far a (ap (λ (l : List ℕ). l ++ drop (blocksOf (settingOf number) (length reception) * settingOf number .k) message) f)
-            (ap (λ (l : List ℕ). l ++ drop ((blocksOf (settingOf number) (length reception) + settingOf number .m) * settingOf number .n) transmitted) t)
+          (ap (λ (l : List ℕ). l ++ drop ((blocksOf (settingOf number) (length reception) + settingOf number .m) * settingOf number .n) transmitted) t)
 
   pub decoded-refused : (r : Answer) → r ≡ firstNo (decodingQuestions number reception (length message) (length transmitted)) → (r .number ≡ 0 → ⊥)
       → Decoded number reception message transmitted r message transmitted

@@ -7,4 +7,7 @@ pub mod Bits
 pub mod Windows
 pub mod Samples
 pub mod Decoding
+pub mod CountBound
+pub mod OrderKinds
+pub mod Orders
 pub mod Demand3

@@ -37,14 +37,14 @@ pub data Decoded (number : ℕ) (reception message transmitted : List ℕ) (r : 
       → r ≡ answer 0 0 (altered (settingOf number) (blocksOf (settingOf number) (length reception)) reception (transmission (settingOf number) x))
       → message' ≡ x ++ drop (blocksOf (settingOf number) (length reception) * settingOf number .k) message
       → transmitted' ≡ transmission (settingOf number) x
-          ++ drop ((blocksOf (settingOf number) (length reception) + settingOf number .m) * settingOf number .n) transmitted
+      ++ drop ((blocksOf (settingOf number) (length reception) + settingOf number .m) * settingOf number .n) transmitted
       → Decoded number reception message transmitted r message' transmitted'
   -- No message fits: number 7, place and count 0, and zeros in those places; every byte past them as before.
   none-fits : firstNo (decodingQuestions number reception (length message) (length transmitted)) .number ≡ 0
       → ((x : List ℕ) → Fits (settingOf number) (blocksOf (settingOf number) (length reception)) reception x → ⊥)
       → r ≡ answer 7 0 0
       → message' ≡ replicate (blocksOf (settingOf number) (length reception) * settingOf number .k) 0
-          ++ drop (blocksOf (settingOf number) (length reception) * settingOf number .k) message
+      ++ drop (blocksOf (settingOf number) (length reception) * settingOf number .k) message
       → transmitted' ≡ replicate ((blocksOf (settingOf number) (length reception) + settingOf number .m) * settingOf number .n) 0
-          ++ drop ((blocksOf (settingOf number) (length reception) + settingOf number .m) * settingOf number .n) transmitted
+      ++ drop ((blocksOf (settingOf number) (length reception) + settingOf number .m) * settingOf number .n) transmitted
       → Decoded number reception message transmitted r message' transmitted'

@@ -7,10 +7,9 @@ ghost use Rattle.field.specs.Fields.{Good};
 ghost use Rattle.field.specs.Symbols.{Symbols};
 ghost use Rattle.code.specs.Settings.{isSetting, settingOf};
 ghost use Rattle.link.specs.Decoding.{Restored, FrameDecoded, Decoded};
-
-use code::Setting;
 use super::Answer;
 use super::questions;
+use code::Setting;
 
 // The reception less what is left of it: the transmission, in the place of what is left.
 fn restore(q: usize, reception: &[u8], left: &mut [u8])
@@ -41,7 +40,16 @@ fn decode_frame(
     let products = field::tables();
     let rows = tables::rows(setting);
     let matrix = tables::matrix(setting);
-    if !frame::reading::read(p, &products, &rows, &matrix, blocks, reception, message, transmission) {
+    if !frame::reading::read(
+        p,
+        &products,
+        &rows,
+        &matrix,
+        blocks,
+        reception,
+        message,
+        transmission,
+    ) {
         frame::area::clear(message);
         frame::area::clear(transmission);
         return questions::no(7, 0);
@@ -60,7 +68,12 @@ fn decode_frame(
 pub fn decode(setting: u32, reception: &[u8], message: &mut [u8], transmission: &mut [u8]) -> Answer
     ensures { λ r. ⌜ Decoded setting (now (reception .entry)) (now (message .entry)) (now (transmission .entry)) r (now (message .exit)) (now (transmission .exit)) ⌝ }
 {
-    let answer = questions::decoding_questions(setting, reception, message.len(), transmission.len());
+    let answer = questions::decoding_questions(
+        setting,
+        reception,
+        message.len(),
+        transmission.len(),
+    );
     if answer.number != 0 {
         return answer;
     }
@@ -71,5 +84,12 @@ pub fn decode(setting: u32, reception: &[u8], message: &mut [u8], transmission: 
     let blocks = reception.len() / n - m;
     let short = blocks * k;
     let long = (blocks + m) * n;
-    decode_frame(setting, p, blocks, reception, &mut message[..short], &mut transmission[..long])
+    decode_frame(
+        setting,
+        p,
+        blocks,
+        reception,
+        &mut message[..short],
+        &mut transmission[..long],
+    )
 }

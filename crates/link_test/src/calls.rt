@@ -18,6 +18,22 @@ fn encode(number: u32, message: &[u8], transmission: &mut [u8], digits: &mut [u8
     text::end_line();
 }
 
+fn decode(
+    number: u32,
+    reception: &[u8],
+    message: &mut [u8],
+    transmission: &mut [u8],
+    digits: &mut [u8],
+) {
+    let answer = link::decode::decode(number, reception, message, transmission);
+    show_answer(answer);
+    text::space();
+    text::show(message, digits);
+    text::space();
+    text::show(transmission, digits);
+    text::end_line();
+}
+
 fn window(number: u32, reception: &[u8], j: u64, digits: &mut [u8]) {
     let answer = link::display::window_answer(number, reception, j);
     show_answer(answer);
@@ -38,7 +54,7 @@ fn marks(number: u32, reception: &[u8], transmission: &[u8], j: u64) {
     text::end_line();
 }
 
-// E: encoding of the first area into the third. W: window j of the first. M: marks of the first and the second in window j.
+// E: encoding of the first area into the third. D: decoding of the first into the second and the third. W: window j of the first. M: marks of the first and the second in window j.
 pub fn run(
     call: u8,
     number: u32,
@@ -50,6 +66,10 @@ pub fn run(
 ) {
     if call == b'E' {
         encode(number, first, third, digits);
+        return;
+    }
+    if call == b'D' {
+        decode(number, first, second, third, digits);
         return;
     }
     if call == b'W' {

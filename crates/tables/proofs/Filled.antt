@@ -61,9 +61,9 @@ entry-generator : (p : Setting) (b : ℕ) → b / p .n / p .k < p .m + 1 → b /
 unfolding generatorOf
 entry-generator p b lj lr li =
     ap (λ (t : List (List ℕ)). getD (getD t (b / p .n % p .k) []) (b % p .n) 0)
-      (getD-tabulate (p .m + 1) (λ j. tabulate (p .k) (λ r. tabulate (p .n) (λ i. rowSymbol (codeOf p) j r i))) (b / p .n / p .k) [] lj)
+    (getD-tabulate (p .m + 1) (λ j. tabulate (p .k) (λ r. tabulate (p .n) (λ i. rowSymbol (codeOf p) j r i))) (b / p .n / p .k) [] lj)
     ∙ (ap (λ (t : List ℕ). getD t (b % p .n) 0)
-      (getD-tabulate (p .k) (λ r. tabulate (p .n) (λ i. rowSymbol (codeOf p) (b / p .n / p .k) r i)) (b / p .n % p .k) [] lr)
+    (getD-tabulate (p .k) (λ r. tabulate (p .n) (λ i. rowSymbol (codeOf p) (b / p .n / p .k) r i)) (b / p .n % p .k) [] lr)
     ∙ getD-tabulate (p .n) (λ i. rowSymbol (codeOf p) (b / p .n / p .k) (b / p .n % p .k) i) (b % p .n) 0 li)
 
 module _ (p : Setting) (S : Sound p) (size : ℕ) (table : List (List (List ℕ))) (rows : List ℕ) (e : table ≡ generatorOf p)
@@ -79,10 +79,10 @@ module _ (p : Setting) (S : Sound p) (size : ℕ) (table : List (List (List ℕ)
   rows-of =
       record {
         at = λ j r i lj lr li.
-          row-at ((j * p .k + r) * p .n + i) (digits-lt (digits-lt lj lr) li)
-          ∙ (ap₂ (λ (a b : ℕ). rowSymbol (codeOf p) (a / p .k) (a % p .k) b) (digits-div (j * p .k + r) li) (digits-mod (j * p .k + r) li)
-          ∙ ap₂ (λ (a b : ℕ). rowSymbol (codeOf p) a b i) (digits-div j lr) (digits-mod j lr));
-        symbols = record { below = λ b l. at b (decLt b ((p .m + 1) * p .k * p .n)) }
+            row-at ((j * p .k + r) * p .n + i) (digits-lt (digits-lt lj lr) li)
+            ∙ (ap₂ (λ (a b : ℕ). rowSymbol (codeOf p) (a / p .k) (a % p .k) b) (digits-div (j * p .k + r) li) (digits-mod (j * p .k + r) li)
+            ∙ ap₂ (λ (a b : ℕ). rowSymbol (codeOf p) a b i) (digits-div j lr) (digits-mod j lr));
+        symbols = record { below = λ b l. at b (decLt b ((p .m + 1) * p .k * p .n)) };
       }
     where
       at : (b : ℕ) → Dec (b < (p .m + 1) * p .k * p .n) → getD rows b 0 < p .q

@@ -33,16 +33,19 @@ matrix-of p matrix t =
     record {
       inverses = record {
         left = λ a b la lb. same-pairs (p .k) (leftProduct p matrix) (λ a b. identity (codeOf p .ops) a b) (and-left left rest t) a b la lb;
-        right = λ d e ld le. same-pairs (p .k) (rightProduct p matrix) (λ a b. identity (codeOf p .ops) a b) (and-left right symbols (and-right left rest t)) d e ld le
+        right = λ d e ld le. same-pairs (p .k) (rightProduct p matrix) (λ a b. identity (codeOf p .ops) a b) (and-left right symbols (and-right left rest t)) d e ld le;
       };
-      symbols = record { below = λ i l. ltb→lt (getD matrix i 0) (p .q) (all-at (length matrix) (λ i. ltb (getD matrix i 0) (p .q)) (and-right right symbols (and-right left rest t)) i l) }
+      symbols = record { below = λ i l. ltb→lt (getD matrix i 0) (p .q) (all-at (length matrix) (λ i. ltb (getD matrix i 0) (p .q)) (and-right right symbols (and-right left rest t)) i l) };
     }
   where
     left : Bool
     left = all (p .k) (λ a. all (p .k) (λ b. eqb (leftProduct p matrix a b) (identity (codeOf p .ops) a b)))
+
     right : Bool
     right = all (p .k) (λ d. all (p .k) (λ e. eqb (rightProduct p matrix d e) (identity (codeOf p .ops) d e)))
+
     symbols : Bool
     symbols = all (length matrix) (λ i. ltb (getD matrix i 0) (p .q))
+
     rest : Bool
     rest = right && symbols

@@ -24,12 +24,27 @@ pub fn setting(number: u32) -> Setting
     ensures { λ r. ⌜ r ≡ settingOf number ⌝ }
 {
     if number == 1 {
-        return Setting { q: 5, n: 4, k: 1, m: 2 };
+        return Setting {
+            q: 5,
+            n: 4,
+            k: 1,
+            m: 2,
+        };
     }
     if number == 2 {
-        return Setting { q: 8, n: 7, k: 2, m: 2 };
+        return Setting {
+            q: 8,
+            n: 7,
+            k: 2,
+            m: 2,
+        };
     }
-    Setting { q: 8, n: 7, k: 3, m: 1 }
+    Setting {
+        q: 8,
+        n: 7,
+        k: 3,
+        m: 1,
+    }
 }
 
 // "The rows of a setting are kept power of z by power of z, row by row, as one nested table": m+1 groups of k rows of n symbols.
@@ -42,8 +57,16 @@ const GENERATOR_2: [[[u8; 7]; 2]; 3] = [
 ];
 
 const GENERATOR_3: [[[u8; 7]; 3]; 2] = [
-    [[5, 7, 7, 4, 1, 0, 0], [0, 5, 7, 7, 4, 1, 0], [0, 0, 5, 7, 7, 4, 1]],
-    [[5, 2, 6, 6, 7, 0, 0], [0, 4, 6, 1, 1, 2, 0], [0, 0, 7, 1, 3, 3, 6]],
+    [
+        [5, 7, 7, 4, 1, 0, 0],
+        [0, 5, 7, 7, 4, 1, 0],
+        [0, 0, 5, 7, 7, 4, 1],
+    ],
+    [
+        [5, 2, 6, 6, 7, 0, 0],
+        [0, 4, 6, 1, 1, 2, 0],
+        [0, 0, 7, 1, 3, 3, 6],
+    ],
 ];
 
 pub fn generator_1() -> [[[u8; 4]; 1]; 3]
@@ -123,7 +146,9 @@ pub fn rows(number: u32) -> Rows
 pub type Matrix = [u8; 9];
 
 const MATRIX_1: Matrix = [2, 0, 0, 0, 0, 0, 0, 0, 0];
+
 const MATRIX_2: Matrix = [6, 6, 7, 5, 0, 0, 0, 0, 0];
+
 const MATRIX_3: Matrix = [2, 2, 2, 7, 2, 5, 6, 7, 5];
 
 pub fn matrix(number: u32) -> Matrix

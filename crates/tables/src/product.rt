@@ -7,10 +7,9 @@ ghost use Rattle.code.specs.Level as level;
 ghost use Rattle.code.specs.Transmission.{view};
 ghost use Rattle.code.specs.Settings.{codeOf};
 ghost use Rattle.tables.specs.Tables.{Ready};
-
+use super::Rows;
 use code::Setting;
 use field::Tables;
-use super::Rows;
 
 // Symbol i of (the k information symbols at `from`) × G_j.
 pub fn times_g(
@@ -31,7 +30,13 @@ pub fn times_g(
     let mut sum: u8 = 0;
     let mut r: usize = 0;
     while r < k {
-        sum = field::add_product(q, products, sum, information[from + r], rows[(j * k + r) * n + i]);
+        sum = field::add_product(
+            q,
+            products,
+            sum,
+            information[from + r],
+            rows[(j * k + r) * n + i],
+        );
         r += 1;
     }
     sum

@@ -1,4 +1,5 @@
 -- `block::repair` meets its contract: what its parts promise gives the two answers.
+use Prim.Native.Nat.{_+_, _-_, _*_, _≤_}
 use native.Mathlib.Omega.{arith}
 use Rattle.code.specs.Transmission.{view}
 use Rattle.code.specs.Level.{combination}
@@ -7,7 +8,8 @@ use Rattle.code.proofs.Lists.{symbol-below}
 use Rattle.block.specs.Area.{at}
 use Rattle.block.proofs.Accumulated.{zero-below, distance-le}
 use Rattle.block.proofs.Levels.{level-fits, block-short, matrix-small}
-use Rattle.block.proofs.Answers.{Parts, step-near, step-far}
+use Rattle.block.proofs.Answers.{Known, Parts, step-long, step-near, step-far}
+use Rattle.block.proofs.Spectra.{point-none, spectrum-none}
 use borrow.Author.Needs.{needs}
 use Rattle.block.proofs.repair.Statement.{statement}
 use Rattle.block.proofs.repair.Tie as tie
@@ -27,32 +29,85 @@ add-known c = search needs
 add-distance : tie.Need-add-distance
 add-distance c = search needs
 
-spectrum-requires : tie.Need-spectrum-requires
-spectrum-requires c κs = search needs
-
 unit-requires : tie.Need-unit-requires
 unit-requires c κs = search needs
 
+add-values-requires : tie.Need-add-values-requires
+add-values-requires c κs =
+    let p = c .before .before .before .before .pre in
+    let a = c .before .before .before .before .args in
+    let short = block-short (a .p) (p .0 .sound) (p .0 .small) in (
+      p .0 .sound .good,
+      p .0 .products,
+      p .3,
+      omega arith,
+      omega (arith, short),
+      point-none _ (p .0 .sound .good),
+      spectrum-none _ _ _ (p .0 .sound .good) (c .before .unit .ensures),
+    )
+
+unit-requires-2 : tie.Need-unit-requires-2
+unit-requires-2 c κs = search needs
+
 locate-requires : tie.Need-locate-requires
-locate-requires c κs = search needs
+locate-requires c κs =
+    let p = c .before .before .before .before .before .before .before .before .pre in
+    let a = c .before .before .before .before .before .before .before .before .args in
+    let spectral = c .before .before .before .add-values .ensures .1 in
+    let short = block-short (a .p) (p .0 .sound) (p .0 .small) in
+    (p .0 .sound .good, p .0 .products, spectral .area, spectral .first, omega arith, omega (arith, short))
+
+-- What the parts have promised where the locator is known.
+abbrev known : (c : tie.After-locate) → Known (c .before .before .before .before .before .before .before .before .before .args .p) (c .before .before .before .before .before .before .before .before .before .args .l) (c .before .before .before .before .before .before .before .before .before .args .block .now) (c .locate .result)
+known c =
+    let p = c .before .before .before .before .before .before .before .before .before .pre in
+    record {
+      sound = p .0 .sound;
+      level = p .4;
+      long = p .2;
+      symbols = p .3;
+      series = _;
+      spectral = c .before .before .before .before .add-values .ensures .1;
+      locator = _;
+      located = c .locate .ensures;
+    }
+
+-- The locator is no longer than the known part of the spectrum.
+length-known : (c : tie.After-locate) → c .locate .result ≤ c .before .before .before .before .before .before .before .before .before .args .p .n - (c .before .before .before .before .before .before .before .before .before .args .l + 1) * c .before .before .before .before .before .before .before .before .before .args .p .k
+length-known c = let located = c .locate .ensures .placed .located in omega (arith, located .grown, located .placed)
+
+mul-if1 : tie.Need-mul-if1
+mul-if1 c =
+    let p = c .before .before .before .before .before .before .before .before .before .pre in
+    omega (arith, length-known c, block-short (c .before .before .before .before .before .before .before .before .before .args .p) (p .0 .sound) (p .0 .small))
+
+returns : tie.Need-returns
+returns c = step-long _ _ _ _ _ (known (c .before)) (omega arith)
+
+add-values-requires-2 : tie.Need-add-values-requires-2
+add-values-requires-2 c κs =
+    let p = c .before .before .before .before .before .before .before .before .before .before .before .pre in
+    let a = c .before .before .before .before .before .before .before .before .before .before .before .args in
+    let first = c .before .before .before .before .before .before .add-values .ensures in
+    let short = block-short (a .p) (p .0 .sound) (p .0 .small) in
+    (p .0 .sound .good, p .0 .products, p .3, omega arith, omega (arith, short), first .0, first .1)
 
 extend-requires : tie.Need-extend-requires
 extend-requires c κs =
-    let p = c .before .before .before .before .before .before .before .before .before .pre in
-    let a = c .before .before .before .before .before .before .before .before .before .args in
-    let placed = c .before .before .locate .ensures .placed in (
+    let p = c .before .before .before .before .before .before .before .before .before .before .before .before .before .before .pre in
+    let a = c .before .before .before .before .before .before .before .before .before .before .before .before .before .before .args in (
       p .0 .sound .good,
       p .0 .products,
-      placed .locator-area,
-      c .before .before .before .before .before .before .spectrum .ensures .area,
-      omega (arith, placed .located .grown, placed .located .placed),
+      c .before .before .before .before .before .locate .ensures .placed .locator-area,
+      c .before .before .add-values2 .ensures .1 .area,
+      length-known (c .before .before .before .before .before),
       omega (arith, level-fits (a .p) (p .0 .sound) (a .l) (p .4), block-short (a .p) (p .0 .sound) (p .0 .small)),
     )
 
 read-requires : tie.Need-read-requires
 read-requires c κs =
-    let p = c .before .before .before .before .before .before .before .before .before .before .before .pre in
-    let a = c .before .before .before .before .before .before .before .before .before .before .before .args in (
+    let p = c .before .before .before .before .before .before .before .before .before .before .before .before .before .before .before .before .pre in
+    let a = c .before .before .before .before .before .before .before .before .before .before .before .before .before .before .before .before .args in (
       p .0 .sound .good,
       p .0 .products,
       p .0 .sound .information,
@@ -63,34 +118,27 @@ read-requires c κs =
     )
 
 differing-requires : tie.Need-differing-requires
-differing-requires c κs = search needs
+differing-requires c κs =
+    let p = c .before .before .before .before .before .before .before .before .before .before .before .before .before .before .before .before .before .before .pre in
+    (p .0, c .before .read .ensures .area, p .4, p .2)
 
-mul-if1 : tie.Need-mul-if1
-mul-if1 c =
-    let p = c .before .before .before .before .before .before .before .before .before .before .before .before .before .before .pre in
-    let a = c .before .before .before .before .before .before .before .before .before .before .before .before .before .before .args in
+mul-if2 : tie.Need-mul-if2
+mul-if2 c =
+    let p = c .before .before .before .before .before .before .before .before .before .before .before .before .before .before .before .before .before .before .before .pre in
+    let a = c .before .before .before .before .before .before .before .before .before .before .before .before .before .before .before .before .before .before .before .args in
     let few = distance-le (at (a .block .now)) (combination (codeOf (a .p)) (a .l) (view (a .p .k) (c .before .before .read .result))) (a .p .n) in
     omega (arith, c .differing .ensures, few, block-short (a .p) (p .0 .sound) (p .0 .small))
 
--- What the parts have promised where the count is known.
-parts : (c : tie.After-differing)
-    → Parts (c .before .before .before .before .before .before .before .before .before .before .before .before .before .before .args .p) (c .before .before .before .before .before .before .before .before .before .before .before .before .before .before .args .l) (c .before .before .before .before .before .before .before .before .before .before .before .before .before .before .args .block .now) (c .before .before .read .result) (c .differing .result)
+-- What all parts have promised where the count is known.
+parts : (c : tie.After-differing) → Parts (c .before .before .before .before .before .before .before .before .before .before .before .before .before .before .before .before .before .before .before .args .p) (c .before .before .before .before .before .before .before .before .before .before .before .before .before .before .before .before .before .before .before .args .l) (c .before .before .before .before .before .before .before .before .before .before .before .before .before .before .before .before .before .before .before .args .block .now) (c .before .before .read .result) (c .differing .result)
 parts c =
-    let p = c .before .before .before .before .before .before .before .before .before .before .before .before .before .before .pre in
     record {
-      sound = p .0 .sound;
-      level = p .4;
-      long = p .2;
-      symbols = p .3;
-      matrix = _;
-      inverse = p .1;
-      series = _;
-      spectral = c .before .before .before .before .before .before .before .before .before .before .before .spectrum .ensures;
-      known = _;
       length-found = _;
-      locator = _;
-      located = c .before .before .before .before .before .before .before .locate .ensures;
-      all-known = omega arith;
+      begun = known (c .before .before .before .before .before .before .before .before .before .before);
+      matrix = _;
+      inverse = c .before .before .before .before .before .before .before .before .before .before .before .before .before .before .before .before .before .before .before .pre .1;
+      series = _;
+      spectral = c .before .before .before .before .before .before .before .add-values2 .ensures .1;
       after = _;
       values = _;
       continued = c .before .before .before .before .extend .ensures;
@@ -98,11 +146,11 @@ parts c =
       counted = c .differing .ensures;
     }
 
-returns : tie.Need-returns
-returns c = step-near _ _ _ _ _ (parts (c .before)) (omega arith)
-
 returns-2 : tie.Need-returns-2
-returns-2 c = step-far _ _ _ _ _ (parts (c .before)) (omega arith)
+returns-2 c = step-near _ _ _ _ _ (parts (c .before)) (omega arith)
+
+returns-3 : tie.Need-returns-3
+returns-3 c = step-far _ _ _ _ _ (parts (c .before)) (omega arith)
 
 pub repair-spec : {M : Type 1} → statement M
 repair-spec =
@@ -113,12 +161,16 @@ repair-spec =
     sub-zeros
     add-known
     add-distance
-    spectrum-requires
     unit-requires
+    add-values-requires
+    unit-requires-2
     locate-requires
+    mul-if1
+    returns
+    add-values-requires-2
     extend-requires
     read-requires
     differing-requires
-    mul-if1
-    returns
-    returns-2)
+    mul-if2
+    returns-2
+    returns-3)

@@ -45,11 +45,11 @@ loop-less : tie.Need-loop-less Inv-loop μ-loop
 loop-less c = omega arith
 
 loop-again : tie.Need-loop-again Inv-loop μ-loop
-loop-again c =
-    ( omega arith
-    , filled-more 42 7 3 (c .before .before .before .generator-3 .result) (c .before .before .loop .a) (c .before .before .loop .rows)
-      (c .before .before .loop .inv .1) (omega arith)
-    )
+loop-again c = (
+  omega arith,
+  filled-more 42 7 3 (c .before .before .before .generator-3 .result) (c .before .before .loop .a) (c .before .before .loop .rows)
+      (c .before .before .loop .inv .1) (omega arith),
+)
 
 returns : tie.Need-returns Inv-loop μ-loop
 returns c =

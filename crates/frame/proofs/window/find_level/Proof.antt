@@ -3,18 +3,19 @@ use mathlib.Core.Path.{_≡_, sym, subst}
 use Prim.Native.Nat.{ℕ, suc, _+_, _-_, _≤_}
 use native.Mathlib.Omega.{arith}
 use denote.Ref.{now}
+use Rattle.frame.specs.Window.{Levels}
 use Rattle.frame.proofs.Reached.{Reached, reached-start, reached-next, reached-served, reached-none}
 use Rattle.frame.proofs.window.find_level.Statement.{statement}
 use Rattle.frame.proofs.window.find_level.Tie as tie
 
 abbrev Inv-loop : tie.InvT-loop
-Inv-loop p products rows matrix window information₀ l₀ information l = (l ≤ p .m + 1) × Reached p window l
+Inv-loop p products rows matrix window information₀ blocks₀ information blocks = (blocks ≤ p .m + 1) × Reached p window blocks
 
 abbrev μ-loop : tie.MeasureT-loop
-μ-loop p products rows matrix window information₀ l₀ information l = l
+μ-loop p products rows matrix window information₀ blocks₀ information blocks = blocks
 
-add-l : tie.Need-add-l Inv-loop μ-loop
-add-l c = omega (arith, c .before .before .pre .0 .small .memory)
+add-blocks : tie.Need-add-blocks Inv-loop μ-loop
+add-blocks c = omega (arith, c .before .before .pre .0 .small .memory)
 
 loop-holds : tie.Need-loop-holds Inv-loop μ-loop
 loop-holds c = (omega arith, reached-start (c .before .before .args .p) (now (c .before .before .args .window)))
@@ -31,9 +32,10 @@ returns : tie.Need-returns Inv-loop μ-loop
 returns c =
     let entry = c .before .before .before .before .before .before .before in
     let l = c .before .before .before .before .loop in
-    let back : l .l ≡ suc (l .l - 1) = omega arith in
-    reached-served (entry .args .p) (entry .pre .0 .sound) (now (entry .args .window)) (c .before .try-level .last .1 .1 .1 .1 .1 .1 .0) (entry .pre .3) (l .l - 1) (omega arith)
-    (c .before .try-level .ensures) (c .if1 .taken) (subst (Reached (entry .args .p) (now (entry .args .window))) back (l .inv .1))
+    let back : l .blocks ≡ suc (l .blocks - 1) = omega arith in
+    subst (Levels (entry .args .p) (now (entry .args .window)) (c .before .try-level .last .1 .1 .1 .1 .1 .1 .0)) (sym back)
+    (reached-served (entry .args .p) (entry .pre .0 .sound) (now (entry .args .window)) (c .before .try-level .last .1 .1 .1 .1 .1 .1 .0) (entry .pre .3) (l .blocks - 1) (omega arith)
+    (c .before .try-level .ensures) (c .if1 .taken) (subst (Reached (entry .args .p) (now (entry .args .window))) back (l .inv .1)))
 
 loop-less : tie.Need-loop-less Inv-loop μ-loop
 loop-less c = omega arith
@@ -42,16 +44,16 @@ loop-again : tie.Need-loop-again Inv-loop μ-loop
 loop-again c =
     let entry = c .before .before .before .before .before .before .before in
     let l = c .before .before .before .before .loop in
-    let back : l .l ≡ suc (l .l - 1) = omega arith in
+    let back : l .blocks ≡ suc (l .blocks - 1) = omega arith in
     ( omega arith
-    , reached-next (entry .args .p) (entry .pre .0 .sound) (now (entry .args .window)) (c .before .try-level .last .1 .1 .1 .1 .1 .1 .0) (entry .pre .3) (l .l - 1)
+    , reached-next (entry .args .p) (entry .pre .0 .sound) (now (entry .args .window)) (c .before .try-level .last .1 .1 .1 .1 .1 .1 .0) (entry .pre .3) (l .blocks - 1)
       (c .before .try-level .ensures) (c .if1 .left) (subst (Reached (entry .args .p) (now (entry .args .window))) back (l .inv .1))
     )
 
 returns-2 : tie.Need-returns-2 Inv-loop μ-loop
 returns-2 c =
     let entry = c .before .before .before .before in
-    let none : c .before .loop .l ≡ 0 = omega arith in
+    let none : c .before .loop .blocks ≡ 0 = omega arith in
     reached-none (entry .args .p) (now (entry .args .window)) _ (subst (Reached (entry .args .p) (now (entry .args .window))) none (c .before .loop .inv .1))
 
 pub find-level-spec : {M : Type 1} → statement M
@@ -60,7 +62,7 @@ find-level-spec =
     (tie.spec
     Inv-loop
     μ-loop
-    add-l
+    add-blocks
     loop-holds
     sub-l
     try-level-requires

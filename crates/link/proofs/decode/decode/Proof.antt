@@ -65,15 +65,15 @@ slice-aggregate-decode-frame-2 c = sym (length-take-le _ _ (known (c .before .be
 decode-frame-requires : tie.Need-decode-frame-requires
 decode-frame-requires c κs =
     let a = c .before .before .before .before .before .before .before .before .before .args in
-    let k = known (c .before .before) in
-    ( decoding-yes (a .setting) (now (a .reception)) (length (now (a .message))) (length (now (a .transmission))) (asked (c .before .before .before)) .setting
-    , c .before .before .setting .ensures
-    , k .blocks
-    , k .most
-    , k .long
-    , k .symbols
-    , length-take-le _ _ (k .message-room)
-    , length-take-le _ _ (k .transmission-room) ∙ sym (k .long)
+    let k = known (c .before .before) in (
+      decoding-yes (a .setting) (now (a .reception)) (length (now (a .message))) (length (now (a .transmission))) (asked (c .before .before .before)) .setting,
+      c .before .before .setting .ensures,
+      k .blocks,
+      k .most,
+      k .long,
+      k .symbols,
+      length-take-le _ _ (k .message-room),
+      length-take-le _ _ (k .transmission-room) ∙ sym (k .long),
     )
 
 same-length : tie.Need-same-length

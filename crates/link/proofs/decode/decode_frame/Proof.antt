@@ -29,14 +29,14 @@ matrix-requires c κs = c .before .before .before .before .before .pre .0
 read-requires : tie.Need-read-requires
 read-requires c κs =
     let entry = c .before .before .before .before .before .before .before .before .before .before .before in
-    let a = entry .args in
-    ( ready-of (a .setting) (a .p) (entry .pre .0) (entry .pre .1) (c .before .before .before .before .before .before .before .tables .result) (c .before .before .before .before .before .before .rows .result) (c .before .before .before .before .before .before .before .tables .ensures) (c .before .before .before .before .before .before .rows .ensures)
-    , subst (λ (p : Setting). MatrixOf p (c .before .before .before .before .before .matrix .result)) (sym (entry .pre .1)) (c .before .before .before .before .before .matrix .ensures)
-    , entry .pre .2
-    , entry .pre .4
-    , entry .pre .5
-    , entry .pre .6
-    , entry .pre .7
+    let a = entry .args in (
+      ready-of (a .setting) (a .p) (entry .pre .0) (entry .pre .1) (c .before .before .before .before .before .before .before .tables .result) (c .before .before .before .before .before .before .rows .result) (c .before .before .before .before .before .before .before .tables .ensures) (c .before .before .before .before .before .before .rows .ensures),
+      subst (λ (p : Setting). MatrixOf p (c .before .before .before .before .before .matrix .result)) (sym (entry .pre .1)) (c .before .before .before .before .before .matrix .ensures),
+      entry .pre .2,
+      entry .pre .4,
+      entry .pre .5,
+      entry .pre .6,
+      entry .pre .7,
     )
 
 clear-requires : tie.Need-clear-requires
@@ -75,11 +75,11 @@ restore-requires : tie.Need-restore-requires
 restore-requires c κs =
     let entry = c .before .before .before .before .before .before .before .before .before .before .before .before .before .before .before .before .before .before .before .before in
     let a = entry .args in
-    let read = c .before .before .before .before .before .before .before .before .read in
-    ( sound entry .good
-    , entry .pre .5
-    , left-symbols (a .p) (a .blocks) (now (a .reception)) (read .last .1 .1 .1 .1 .1 .1 .0) (read .last .1 .1 .1 .1 .1 .1 .1 .0) (read .ensures) (c .before .before .before .if1 .left)
-    , left-long (a .p) (a .blocks) (now (a .reception)) (read .last .1 .1 .1 .1 .1 .1 .0) (read .last .1 .1 .1 .1 .1 .1 .1 .0) (read .ensures) (c .before .before .before .if1 .left)
+    let read = c .before .before .before .before .before .before .before .before .read in (
+      sound entry .good,
+      entry .pre .5,
+      left-symbols (a .p) (a .blocks) (now (a .reception)) (read .last .1 .1 .1 .1 .1 .1 .0) (read .last .1 .1 .1 .1 .1 .1 .1 .0) (read .ensures) (c .before .before .before .if1 .left),
+      left-long (a .p) (a .blocks) (now (a .reception)) (read .last .1 .1 .1 .1 .1 .1 .0) (read .last .1 .1 .1 .1 .1 .1 .1 .0) (read .ensures) (c .before .before .before .if1 .left),
     )
 
 cast-t34 : tie.Need-cast-t34
@@ -87,10 +87,16 @@ cast-t34 c =
     let entry = c .before .before .before .before .before .before .before .before .before .before .before .before .before .before .before .before .before .before .before .before .before .before .before in
     let a = entry .args in
     let read = c .before .before .before .before .before .before .before .before .before .before .before .read in
-    omega (arith, few (length (read .last .1 .1 .1 .1 .1 .1 .1 .0)) (at (read .last .1 .1 .1 .1 .1 .1 .1 .0)) (λ _. 0) (c .before .before .before .before .weight .ensures), read .kept .1 .1 .1 .1 .1 .1 .1 .0, entry .pre .7, entry .pre .4,
+    omega (
+      arith,
+      few (length (read .last .1 .1 .1 .1 .1 .1 .1 .0)) (at (read .last .1 .1 .1 .1 .1 .1 .1 .0)) (λ _. 0) (c .before .before .before .before .weight .ensures),
+      read .kept .1 .1 .1 .1 .1 .1 .1 .0,
+      entry .pre .7,
+      entry .pre .4,
       transmission-small (a .p) (a .blocks)
-        (sizes (a .p) (sound entry) (ready-of (a .setting) (a .p) (entry .pre .0) (entry .pre .1) (c .before .before .before .before .before .before .before .before .before .before .before .before .before .before .before .before .before .before .before .tables .result) (c .before .before .before .before .before .before .before .before .before .before .before .before .before .before .before .before .before .before .rows .result) (c .before .before .before .before .before .before .before .before .before .before .before .before .before .before .before .before .before .before .before .tables .ensures) (c .before .before .before .before .before .before .before .before .before .before .before .before .before .before .before .before .before .before .rows .ensures) .small))
-        (entry .pre .3))
+          (sizes (a .p) (sound entry) (ready-of (a .setting) (a .p) (entry .pre .0) (entry .pre .1) (c .before .before .before .before .before .before .before .before .before .before .before .before .before .before .before .before .before .before .before .tables .result) (c .before .before .before .before .before .before .before .before .before .before .before .before .before .before .before .before .before .before .rows .result) (c .before .before .before .before .before .before .before .before .before .before .before .before .before .before .before .before .before .before .before .tables .ensures) (c .before .before .before .before .before .before .before .before .before .before .before .before .before .before .before .before .before .before .rows .ensures) .small))
+          (entry .pre .3),
+    )
 
 same-length-3 : tie.Need-same-length-3
 same-length-3 c = search needs

@@ -28,10 +28,10 @@ subtract-requires : tie.Need-subtract-requires Inv-loop μ-loop
 subtract-requires c κs =
     let entry = c .before .before .before .before .before .before in
     let l = c .before .before .before .loop in
-    let least : l .i ≤ l .i = omega arith in
-    ( entry .pre .0
-    , entry .pre .1 .below (l .i) (omega (arith, entry .pre .3, l .inv .1 .long))
-    , subst (λ (t : ℕ). t < entry .args .q) (sym (l .inv .1 .outside (l .i) least)) (entry .pre .2 .below (l .i) (omega (arith, l .inv .1 .long)))
+    let least : l .i ≤ l .i = omega arith in (
+      entry .pre .0,
+      entry .pre .1 .below (l .i) (omega (arith, entry .pre .3, l .inv .1 .long)),
+      subst (λ (t : ℕ). t < entry .args .q) (sym (l .inv .1 .outside (l .i) least)) (entry .pre .2 .below (l .i) (omega (arith, l .inv .1 .long))),
     )
 
 slice-write-left : tie.Need-slice-write-left Inv-loop μ-loop
@@ -46,9 +46,9 @@ loop-less c = omega (arith, c .before .before .before .before .loop .inv .1 .lon
 loop-again : tie.Need-loop-again Inv-loop μ-loop
 loop-again c =
     let a = c .before .before .before .before .before .before .before .args in
-    let l = c .before .before .before .before .loop in
-    ( omega (arith, l .inv .1 .long)
-    , restored-more (a .q) (now (a .reception)) (now (a .left)) (l .i) (l .left) (c .subtract .result) (l .inv .1) (omega (arith, l .inv .1 .long)) (c .subtract .ensures .same)
+    let l = c .before .before .before .before .loop in (
+      omega (arith, l .inv .1 .long),
+      restored-more (a .q) (now (a .reception)) (now (a .left)) (l .i) (l .left) (c .subtract .result) (l .inv .1) (omega (arith, l .inv .1 .long)) (c .subtract .ensures .same),
     )
 
 same-length : tie.Need-same-length Inv-loop μ-loop

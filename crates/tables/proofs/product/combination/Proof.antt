@@ -53,16 +53,16 @@ loop-less c = omega arith
 
 loop-again : tie.Need-loop-again Inv-loop μ-loop
 loop-again c =
-    let entry = c .before .before .before .before .before in
-    ( omega arith
-    , record {
+    let entry = c .before .before .before .before .before in (
+      omega arith,
+      record {
         same =
-          c .add .ensures .same
-          ∙ (ap₂ (opsOf (entry .args .p .q) .add) (c .before .before .before .loop .inv .1 .same) (c .before .times-g .ensures .same)
-          ∙ sum-more (entry .args .p .q) (λ b. timesG (codeOf (entry .args .p)) (view (entry .args .p .k) (now (entry .args .information)) (entry .args .l - b)) b (entry .args .i))
+            c .add .ensures .same
+            ∙ (ap₂ (opsOf (entry .args .p .q) .add) (c .before .before .before .loop .inv .1 .same) (c .before .times-g .ensures .same)
+            ∙ sum-more (entry .args .p .q) (λ b. timesG (codeOf (entry .args .p)) (view (entry .args .p .k) (now (entry .args .information)) (entry .args .l - b)) b (entry .args .i))
             (c .before .before .before .loop .j));
-        below = c .add .ensures .below
-      }
+        below = c .add .ensures .below;
+      },
     )
 
 returns : tie.Need-returns Inv-loop μ-loop
@@ -71,10 +71,10 @@ returns c =
     let all : c .before .loop .j ≡ entry .args .l + 1 = omega arith in
     record {
       same =
-        c .before .loop .inv .1 .same
-        ∙ (ap (combination-sum (entry .args .p) (now (entry .args .information)) (entry .args .l) (entry .args .i)) all
-        ∙ combination-sum-all (entry .args .p) (now (entry .args .information)) (entry .args .l) (entry .args .i));
-      below = c .before .loop .inv .1 .below
+          c .before .loop .inv .1 .same
+          ∙ (ap (combination-sum (entry .args .p) (now (entry .args .information)) (entry .args .l) (entry .args .i)) all
+          ∙ combination-sum-all (entry .args .p) (now (entry .args .information)) (entry .args .l) (entry .args .i));
+      below = c .before .loop .inv .1 .below;
     }
 
 pub combination-spec : {M : Type 1} → statement M

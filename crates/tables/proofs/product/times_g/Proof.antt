@@ -54,13 +54,13 @@ element-copy-out-add-product c = placed c .place
 add-product-requires : tie.Need-add-product-requires Inv-loop μ-loop
 add-product-requires c κs =
     let entry = c .before .before .before .before .before in
-    let positive-q = positive (entry .args .p) (entry .pre .0 .sound) in
-    ( entry .pre .0 .sound .good
-    , entry .pre .0 .products
-    , c .before .before .before .loop .inv .1 .below
-    , symbol-below (entry .args .p .q) (now (entry .args .information)) (entry .pre .1) positive-q (entry .args .from + c .before .before .before .loop .r)
-    , symbol-below (entry .args .p .q) (now (entry .args .rows)) (entry .pre .0 .rows .symbols) positive-q
-      ((entry .args .j * entry .args .p .k + c .before .before .before .loop .r) * entry .args .p .n + entry .args .i)
+    let positive-q = positive (entry .args .p) (entry .pre .0 .sound) in (
+      entry .pre .0 .sound .good,
+      entry .pre .0 .products,
+      c .before .before .before .loop .inv .1 .below,
+      symbol-below (entry .args .p .q) (now (entry .args .information)) (entry .pre .1) positive-q (entry .args .from + c .before .before .before .loop .r),
+      symbol-below (entry .args .p .q) (now (entry .args .rows)) (entry .pre .0 .rows .symbols) positive-q
+          ((entry .args .j * entry .args .p .k + c .before .before .before .loop .r) * entry .args .p .n + entry .args .i),
     )
 
 add-r : tie.Need-add-r Inv-loop μ-loop
@@ -72,18 +72,18 @@ loop-less c = omega arith
 loop-again : tie.Need-loop-again Inv-loop μ-loop
 loop-again c =
     let entry = c .before .before .before .before .before .before in
-    let r = c .before .before .before .before .loop .r in
-    ( omega arith
-    , record {
+    let r = c .before .before .before .before .loop .r in (
+      omega arith,
+      record {
         same =
-          c .add-product .ensures .same
-          ∙ (ap (λ (t : ℕ). opsOf (entry .args .p .q) .add t
-              (opsOf (entry .args .p .q) .mul (getD (now (entry .args .information)) (entry .args .from + r) 0)
-                (getD (now (entry .args .rows)) ((entry .args .j * entry .args .p .k + r) * entry .args .p .n + entry .args .i) 0)))
+            c .add-product .ensures .same
+            ∙ (ap (λ (t : ℕ). opsOf (entry .args .p .q) .add t
+            (opsOf (entry .args .p .q) .mul (getD (now (entry .args .information)) (entry .args .from + r) 0)
+            (getD (now (entry .args .rows)) ((entry .args .j * entry .args .p .k + r) * entry .args .p .n + entry .args .i) 0)))
             (c .before .before .before .before .loop .inv .1 .same)
-          ∙ sum-more (entry .args .p .q) _ r);
-        below = c .add-product .ensures .below
-      }
+            ∙ sum-more (entry .args .p .q) _ r);
+        below = c .add-product .ensures .below;
+      },
     )
 
 returns : tie.Need-returns Inv-loop μ-loop
@@ -92,11 +92,11 @@ returns c =
     let all : c .before .loop .r ≡ entry .args .p .k = omega arith in
     record {
       same =
-        c .before .loop .inv .1 .same
-        ∙ (ap (product-sum (entry .args .p .q) (now (entry .args .rows)) (now (entry .args .information)) (entry .args .from) (entry .args .p .n) (entry .args .p .k) (entry .args .j) (entry .args .i)) all
-        ∙ product-sum-all (entry .args .p) (now (entry .args .rows)) (now (entry .args .information)) (entry .args .from) (entry .args .j) (entry .args .i)
+          c .before .loop .inv .1 .same
+          ∙ (ap (product-sum (entry .args .p .q) (now (entry .args .rows)) (now (entry .args .information)) (entry .args .from) (entry .args .p .n) (entry .args .p .k) (entry .args .j) (entry .args .i)) all
+          ∙ product-sum-all (entry .args .p) (now (entry .args .rows)) (now (entry .args .information)) (entry .args .from) (entry .args .j) (entry .args .i)
           (entry .pre .0 .rows) (entry .pre .3) (entry .pre .4));
-      below = c .before .loop .inv .1 .below
+      below = c .before .loop .inv .1 .below;
     }
 
 pub times-g-spec : {M : Type 1} → statement M

@@ -1,0 +1,267 @@
+-- Changes of the guessed message, and what is left after them.
+-- Holds: `windowAt`, `window-room`, `symbol-room`, `information-short`, `block-room`, `blocks-few`; `revised-lengths`, `revised-none`, `revised-then`; `adjusted`; `Adding` (the first r symbols of a block were added) and its steps; `added-past`, `added-then`.
+use mathlib.Core.Path.{_≡_, refl, sym, ap, ap₂, subst, _∙_}
+use mathlib.Core.Bool.{Bool, true, false}
+use mathlib.Core.List.{List}
+use Prim.Native.Nat.{ℕ, _+_, _-_, _*_, _≤_, _<_}
+use native.Mathlib.Nat.{mul-le-mul, mul-le-mul-right}
+use native.Mathlib.Omega.{arith}
+use native.Mathlib.Decide.{decLt, decLe, ℕ-discrete}
+use lib.Arith.{digits-lt}
+use lib.Dec.{leb, eqb}
+use lib.ListN.{length, getD, take, drop, set, length-set, length-drop}
+use lib.Seq.{length-take-le, getD-set-same, getD-set-other}
+use borrow.Author.Tests.{le-leb, lt-leb, eq-eqb, ne-eqb}
+use borrow.Rule.Slice.PartMut.{putMid}
+use Rattle.algebra.specs.Ops.{sub, pick}
+use Rattle.field.specs.Fields.{opsOf}
+use Rattle.field.specs.Symbols.{Symbols}
+use Rattle.code.specs.declared.Setting.{Setting}
+use Rattle.code.specs.Generator.{timesG}
+use Rattle.code.specs.Transmission.{view}
+use Rattle.code.specs.Settings.{codeOf, Sound}
+use Rattle.code.specs.Windows.{windowLength}
+use Rattle.code.specs.Reading.{only, Residual}
+use Rattle.code.proofs.Lists.{symbol-below}
+use Rattle.code.proofs.Numbers.{laws, positive}
+use Rattle.code.proofs.Settings.{block-positive}
+use Rattle.code.proofs.Residuals.{window-view}
+use Rattle.code.proofs.ResidualSteps.{lessened, residual-step}
+use Rattle.frame.specs.Window.{LessenedTo}
+use Rattle.frame.specs.Frame.{Areas, Revised, Adjusted, Added}
+use Rattle.frame.proofs.Parts.{put-length, put-before, put-inside, put-after, put-symbols}
+
+-- Window j of what is left.
+abbrev pub windowAt : Setting → List ℕ → ℕ → List ℕ
+windowAt p left j = take (windowLength p) (drop (j * p .n) left)
+
+-- Window j lies within what is left, and message block j within the message.
+pub window-room : (p : Setting) (T j : ℕ) (message left : List ℕ) → Areas p T message left → j < T → j * p .n + windowLength p ≤ length left
+window-room p T j message left A l =
+    let top : j + (p .m + 1) ≤ T + p .m = omega arith in
+    omega (arith, mul-le-mul-right (p .n) top, A .left-long)
+
+pub symbol-room : (p : Setting) (T j r : ℕ) (message left : List ℕ) → Areas p T message left → j < T → r < p .k → j * p .k + r < length message
+symbol-room p T j r message left A l u =
+    subst (λ (t : ℕ). j * p .k + r < t) (sym (A .message-long)) (digits-lt l u)
+
+-- An information block is no longer than a block.
+pub information-short : (p : Setting) → Sound p → p .k ≤ p .n
+information-short p S =
+    let one : 1 ≤ p .m + 1 = omega arith in
+    omega (arith, mul-le-mul-right (p .k) one, S .room)
+
+-- Block j lies within what is left.
+pub block-room : (p : Setting) (T j : ℕ) (message left : List ℕ) → Areas p T message left → j < T → j * p .n + p .n ≤ length left
+block-room p T j message left A l =
+    let one : 1 ≤ p .m + 1 = omega arith in
+    omega (arith, window-room p T j message left A l, mul-le-mul-right (p .n) one)
+
+-- There are no more blocks than symbols left.
+pub blocks-few : (p : Setting) → Sound p → (T : ℕ) (message left : List ℕ) → Areas p T message left → T + p .m ≤ length left
+blocks-few p S T message left A =
+    let same : T + p .m ≤ T + p .m = omega arith in
+    omega (arith, mul-le-mul same (block-positive p S), A .left-long)
+
+module _ (p : Setting) (T : ℕ) where
+  -- Areas of one frame have the same lengths.
+  pub revised-lengths : (message left message' left' : List ℕ) → Areas p T message left → Areas p T message' left'
+      → (length message' ≡ length message) × (length left' ≡ length left)
+  revised-lengths message left message' left' A B = (B .message-long ∙ sym (A .message-long), B .left-long ∙ sym (A .left-long))
+
+  pub revised-none : (i : ℕ) (message left : List ℕ) → Areas p T message left → Revised p T i message left message left
+  revised-none i message left A = record { areas = A; before = λ a l. refl; residual = λ w W R. R }
+
+  -- Changes from block i on, and then from a later block on.
+  pub revised-then : (i j : ℕ) (message left message' left' message'' left'' : List ℕ) → i ≤ j
+      → Revised p T i message left message' left' → Revised p T j message' left' message'' left'' → Revised p T i message left message'' left''
+  revised-then i j message left message' left' message'' left'' low A B =
+      record {
+        areas = B .areas;
+        before = λ a l. B .before a (omega (arith, mul-le-mul-right (p .k) low)) ∙ A .before a l;
+        residual = λ w W R. B .residual w W (A .residual w W R)
+      }
+
+module _ (p : Setting) (S : Sound p) (T j r v : ℕ) (message left : List ℕ) (A : Areas p T message left) (lj : j < T) (lr : r < p .k) (lv : v < p .q)
+    (w : ℕ) (sum : w ≡ opsOf (p .q) .add (getD message (j * p .k + r) 0) v) (window' : List ℕ)
+    (L : LessenedTo p (only r v) (p .m + 1) (windowAt p left j) window') where
+  message-below : (a : ℕ) → getD message a 0 < p .q
+  message-below = symbol-below (p .q) message (A .message-symbols) (positive p S)
+
+  only-below : (a : ℕ) → only r v a < p .q
+  only-below a = at (eqb a r)
+    where
+      at : (t : Bool) → pick t v 0 < p .q
+      at true = lv
+      at false = positive p S
+
+  left-room : j * p .n + windowLength p ≤ length left
+  left-room = window-room p T j message left A lj
+
+  window-long : length window' ≡ windowLength p
+  window-long = L .long ∙ length-take-le (windowLength p) (drop (j * p .n) left) (omega (arith, length-drop (j * p .n) left, left-room))
+
+  h : List ℕ
+  h = set message (j * p .k + r) w
+
+  left' : List ℕ
+  left' = putMid (j * p .n) (windowLength p) left window'
+
+  h-symbols : Symbols (p .q) h
+  unfolding h
+  h-symbols = record { below = λ a l. at a (ℕ-discrete a (j * p .k + r)) }
+    where
+      at : (a : ℕ) → Dec (a ≡ j * p .k + r) → getD (set message (j * p .k + r) w) a 0 < p .q
+      at a (yes s) =
+          subst (λ (t : ℕ). t < p .q) (sym (ap (λ (t : ℕ). getD (set message (j * p .k + r) w) t 0) s ∙ getD-set-same message (j * p .k + r) w 0 (symbol-room p T j r message left A lj lr) ∙ sum))
+          (laws p S .add-below _ v (message-below (j * p .k + r)) lv)
+      at a (no d) = subst (λ (t : ℕ). t < p .q) (sym (getD-set-other message (j * p .k + r) a w 0 d)) (message-below a)
+
+  placed : (a : ℕ) → a < p .k → view (p .k) h j a ≡ opsOf (p .q) .add (view (p .k) message j a) (only r v a)
+  unfolding h
+  placed a l = at (ℕ-discrete a r)
+    where
+      at : Dec (a ≡ r) → getD (set message (j * p .k + r) w) (j * p .k + a) 0 ≡ opsOf (p .q) .add (getD message (j * p .k + a) 0) (pick (eqb a r) v 0)
+      at (yes s) =
+          ap (λ (t : ℕ). getD (set message (j * p .k + r) w) (j * p .k + t) 0) s
+          ∙ getD-set-same message (j * p .k + r) w 0 (symbol-room p T j r message left A lj lr)
+          ∙ sum
+          ∙ ap₂ (λ (t : ℕ) (b : Bool). opsOf (p .q) .add (getD message (j * p .k + t) 0) (pick b v 0)) (sym s) (sym (eq-eqb a r s))
+      at (no d) =
+          getD-set-other message (j * p .k + r) (j * p .k + a) w 0 (λ e. d (omega arith))
+          ∙ sym (laws p S .plus-zero (getD message (j * p .k + a) 0) (message-below (j * p .k + a)))
+          ∙ ap (λ (b : Bool). opsOf (p .q) .add (getD message (j * p .k + a) 0) (pick b v 0)) (sym (ne-eqb a r d))
+
+  others : (s a : ℕ) → (s ≡ j → ⊥) → a < p .k → view (p .k) h s a ≡ view (p .k) message s a
+  unfolding h
+  others s a d u = getD-set-other message (j * p .k + r) (s * p .k + a) w 0 (at (decLt s j))
+    where
+      at : Dec (s < j) → s * p .k + a ≡ j * p .k + r → ⊥
+      at (yes b) e = let low : s * p .k + a < j * p .k = digits-lt b u in omega arith
+      at (no b) e =
+          let past : j < s = omega arith in
+          let high : j * p .k + r < s * p .k = digits-lt past lr in
+          omega arith
+
+  changed : (s i : ℕ) → s < T + p .m → i < p .n → view (p .n) left' s i ≡ lessened p S left (only r v) j s i
+  unfolding left'
+  changed s i u e = at (decLe j s) (decLe (s - j) (p .m))
+    where
+      x : ℕ → ℕ
+      x = only r v
+      at : Dec (j ≤ s) → Dec (s - j ≤ p .m) → view (p .n) (putMid (j * p .n) (windowLength p) left window') s i ≡ lessened p S left x j s i
+      at (yes a) (yes b) =
+          let top : s - j < p .m + 1 = omega arith in
+          let place : s * p .n + i ≡ j * p .n + ((s - j) * p .n + i) = omega (arith, scaled s j (p .n) a) in
+          let back : j + (s - j) ≡ s = omega arith in
+          ap (λ (t : ℕ). getD (putMid (j * p .n) (windowLength p) left window') t 0) place
+          ∙ put-inside (j * p .n) (windowLength p) left window' left-room window-long ((s - j) * p .n + i) (digits-lt top e)
+          ∙ L .inside (s - j) i top e
+          ∙ ap (λ (t : ℕ). sub (opsOf (p .q)) t (timesG (codeOf p) x (s - j) i)) (window-view (p .n) (p .m) left j (s - j) i b e ∙ ap (λ (t : ℕ). view (p .n) left t i) back)
+          ∙ sym (ap₂ (λ (c d : Bool). pick c (pick d (sub (opsOf (p .q)) (view (p .n) left s i) (timesG (codeOf p) x (s - j) i)) (view (p .n) left s i)) (view (p .n) left s i))
+              (le-leb j s a) (le-leb (s - j) (p .m) b))
+        where
+          scaled : (s j n : ℕ) → j ≤ s → s * n ≡ j * n + (s - j) * n
+          scaled s j n q = let same : s ≡ j + (s - j) = omega arith in ap (λ (t : ℕ). t * n) same ∙ omega arith
+      at (yes a) (no b) =
+          let far : p .m < s - j = omega arith in
+          let past : j + (p .m + 1) ≤ s = omega arith in
+          put-after (j * p .n) (windowLength p) left window' left-room window-long (s * p .n + i) (omega (arith, mul-le-mul-right (p .n) past))
+          ∙ sym (ap₂ (λ (c d : Bool). pick c (pick d (sub (opsOf (p .q)) (view (p .n) left s i) (timesG (codeOf p) x (s - j) i)) (view (p .n) left s i)) (view (p .n) left s i))
+              (le-leb j s a) (lt-leb (s - j) (p .m) far))
+      at (no a) b =
+          let past : s < j = omega arith in
+          put-before (j * p .n) (windowLength p) left window' left-room window-long (s * p .n + i) (digits-lt past e)
+          ∙ sym (ap (λ (c : Bool). pick c (pick (leb (s - j) (p .m)) (sub (opsOf (p .q)) (view (p .n) left s i) (timesG (codeOf p) x (s - j) i)) (view (p .n) left s i)) (view (p .n) left s i))
+              (lt-leb j s past))
+
+  pub adjusted-exact : Adjusted p T j r v message left (set message (j * p .k + r) w) (putMid (j * p .n) (windowLength p) left window')
+  unfolding h left'
+  adjusted-exact =
+      record {
+        revised = record {
+          areas = record {
+            message-long = length-set message (j * p .k + r) w ∙ A .message-long;
+            message-symbols = h-symbols;
+            left-long = put-length (j * p .n) (windowLength p) left window' left-room window-long ∙ A .left-long;
+            left-symbols = put-symbols (j * p .n) (windowLength p) left window' left-room window-long (p .q) (A .left-symbols) (L .symbols)
+          };
+          before = λ a l. getD-set-other message (j * p .k + r) a w 0 (omega arith);
+          residual = λ reception R residual. residual-step p S T reception message left h left' (symbol-below (p .q) reception R (positive p S)) message-below
+            (symbol-below (p .q) h h-symbols (positive p S)) residual (only r v) only-below j placed others changed
+        };
+        added = ap (set message (j * p .k + r)) sum
+      }
+
+-- The same with the sizes as the code computes them.
+pub adjusted : (p : Setting) → Sound p → (T j r v : ℕ) (message left : List ℕ) → Areas p T message left → j < T → r < p .k → v < p .q
+    → (w : ℕ) → w ≡ opsOf (p .q) .add (getD message (j * p .k + r) 0) v → (window' : List ℕ)
+    → LessenedTo p (only r v) (p .m + 1) (take (j * p .n + windowLength p - j * p .n) (drop (j * p .n) left)) window'
+    → Adjusted p T j r v message left (set message (j * p .k + r) w) (putMid (j * p .n) (j * p .n + windowLength p - j * p .n) left window')
+adjusted p S T j r v message left A lj lr lv w sum window' =
+    let wide : j * p .n + windowLength p - j * p .n ≡ windowLength p = omega arith in
+    subst (λ (t : ℕ). LessenedTo p (only r v) (p .m + 1) (take t (drop (j * p .n) left)) window'
+        → Adjusted p T j r v message left (set message (j * p .k + r) w) (putMid (j * p .n) t left window')) (sym wide)
+    (adjusted-exact p S T j r v message left A lj lr lv w sum window')
+
+-- The first r symbols of the information block x were added to block j.
+pub record Adding (p : Setting) (T j : ℕ) (x : ℕ → ℕ) (r : ℕ) (message left message' left' : List ℕ) : Type 0 where
+  pub revised : Revised p T j message left message' left'
+  pub symbol : (a : ℕ) → a < r → getD message' (j * p .k + a) 0 ≡ opsOf (p .q) .add (getD message (j * p .k + a) 0) (x a)
+  pub rest : (a : ℕ) → j * p .k + r ≤ a → getD message' a 0 ≡ getD message a 0
+
+module _ (p : Setting) (T j : ℕ) (x : ℕ → ℕ) (message left : List ℕ) where
+  pub adding-none : Areas p T message left → Adding p T j x 0 message left message left
+  adding-none A = record { revised = revised-none p T j message left A; symbol = λ a l. absurd (omega arith); rest = λ a l. refl }
+
+  -- A zero symbol changes nothing.
+  pub adding-zero : (S : Sound p) (r : ℕ) (message' left' : List ℕ) → Areas p T message left → x r ≡ 0
+      → Adding p T j x r message left message' left' → Adding p T j x (r + 1) message left message' left'
+  adding-zero S r message' left' A e D =
+      record { revised = D .revised; symbol = λ a l. at a (ℕ-discrete a r) l; rest = λ a l. D .rest a (omega arith) }
+    where
+      at : (a : ℕ) → Dec (a ≡ r) → a < r + 1 → getD message' (j * p .k + a) 0 ≡ opsOf (p .q) .add (getD message (j * p .k + a) 0) (x a)
+      at a (yes s) l =
+          let past : j * p .k + r ≤ j * p .k + a = omega arith in
+          D .rest (j * p .k + a) past
+          ∙ sym (laws p S .plus-zero (getD message (j * p .k + a) 0) (symbol-below (p .q) message (A .message-symbols) (positive p S) (j * p .k + a)))
+          ∙ ap (opsOf (p .q) .add (getD message (j * p .k + a) 0)) (sym (ap x s ∙ e))
+      at a (no d) l = D .symbol a (omega arith)
+
+  pub adding-more : (r v : ℕ) (message' left' message'' left'' : List ℕ) → j < T → r < p .k → v ≡ x r
+      → Adding p T j x r message left message' left' → Adjusted p T j r v message' left' message'' left''
+      → Adding p T j x (r + 1) message left message'' left''
+  adding-more r v message' left' message'' left'' lj lr e D B =
+      record {
+        revised = revised-then p T j j message left message' left' message'' left'' (omega arith) (D .revised) (B .revised);
+        symbol = λ a l. at a (ℕ-discrete a r) l;
+        rest = λ a l. elsewhere a (omega arith) ∙ D .rest a (omega arith)
+      }
+    where
+      elsewhere : (a : ℕ) → (a ≡ j * p .k + r → ⊥) → getD message'' a 0 ≡ getD message' a 0
+      elsewhere a d = ap (λ (t : List ℕ). getD t a 0) (B .added) ∙ getD-set-other message' (j * p .k + r) a _ 0 d
+      at : (a : ℕ) → Dec (a ≡ r) → a < r + 1 → getD message'' (j * p .k + a) 0 ≡ opsOf (p .q) .add (getD message (j * p .k + a) 0) (x a)
+      at a (yes s) l =
+          let past : j * p .k + r ≤ j * p .k + r = omega arith in
+          ap (λ (t : ℕ). getD message'' (j * p .k + t) 0) s
+          ∙ ap (λ (t : List ℕ). getD t (j * p .k + r) 0) (B .added)
+          ∙ getD-set-same message' (j * p .k + r) _ 0 (symbol-room p T j r message' left' (D .revised .areas) lj lr)
+          ∙ ap₂ (opsOf (p .q) .add) (D .rest (j * p .k + r) past) e
+          ∙ ap (λ (t : ℕ). opsOf (p .q) .add (getD message (j * p .k + t) 0) (x t)) (sym s)
+      at a (no d) l = elsewhere (j * p .k + a) (λ e. d (omega arith)) ∙ D .symbol a (omega arith)
+
+  pub adding-all : (r : ℕ) (message' left' : List ℕ) → p .k ≤ r → Adding p T j x r message left message' left' → Added p T j x message left message' left'
+  adding-all r message' left' all D = record { revised = D .revised; symbol = λ a l u. D .symbol a (omega arith) }
+
+  -- There is no block j.
+  pub added-past : Areas p T message left → T ≤ j → Added p T j x message left message left
+  added-past A past = record { revised = revised-none p T j message left A; symbol = λ a l u. absurd (omega arith) }
+
+  -- Later changes leave block j as it is.
+  pub added-then : (i : ℕ) (message' left' message'' left'' : List ℕ) → j + 1 ≤ i
+      → Added p T j x message left message' left' → Revised p T i message' left' message'' left'' → Added p T j x message left message'' left''
+  added-then i message' left' message'' left'' later D B =
+      record {
+        revised = revised-then p T j i message left message' left' message'' left'' (omega arith) (D .revised) B;
+        symbol = λ a l u. B .before (j * p .k + a) (omega (arith, mul-le-mul-right (p .k) later)) ∙ D .symbol a l u
+      }

@@ -1,0 +1,108 @@
+-- `frame::guess::adjust`: one symbol of the message, and one window of what is left.
+use mathlib.Core.Path.{_≡_}
+use Prim.Native.Nat.{ℕ, _+_, _-_, _*_, _≤_, _<_}
+use native.Mathlib.Omega.{arith}
+use borrow.Author.Needs.{needs}
+use denote.Ref.{now}
+use lib.ListN.{length}
+use Rattle.code.specs.Windows.{windowLength}
+use Rattle.code.proofs.Lists.{symbol-below}
+use Rattle.code.proofs.Numbers.{positive}
+use Rattle.frame.proofs.Levels.{part-length, symbols-part}
+use Rattle.frame.proofs.Guesses.{window-room, symbol-room, adjusted}
+use Rattle.frame.proofs.guess.adjust.Statement.{statement}
+use Rattle.frame.proofs.guess.adjust.Tie as tie
+
+room : (c : tie.Start) → c .args .i * c .args .p .n + windowLength (c .args .p) ≤ length (now (c .args .left))
+room c =
+    let a = c .args in
+    window-room (a .p) (a .blocks) (a .i) (now (a .message)) (now (a .left)) (c .pre .4) (c .pre .1)
+
+inside : (c : tie.Start) → c .args .i * c .args .p .k + c .args .r < length (now (c .args .message))
+inside c =
+    let a = c .args in
+    symbol-room (a .p) (a .blocks) (a .i) (a .r) (now (a .message)) (now (a .left)) (c .pre .4) (c .pre .1) (c .pre .2)
+
+mul-place : tie.Need-mul-place
+mul-place c = omega (arith, inside (c .before .before .before))
+
+add-place : tie.Need-add-place
+add-place c = omega (arith, inside (c .before .before .before))
+
+add-size : tie.Need-add-size
+add-size c = search needs
+
+mul-size : tie.Need-mul-size
+mul-size c = omega (arith, room (c .before .before .before .before))
+
+mul-start : tie.Need-mul-start
+mul-start c = omega (arith, room (c .before .before .before .before))
+
+add-end : tie.Need-add-end
+add-end c = omega (arith, room (c .before .before .before .before))
+
+slice-read-add : tie.Need-slice-read-add
+slice-read-add c = inside (c .before .before .before .before .before)
+
+add-requires : tie.Need-add-requires
+add-requires c κs =
+    let entry = c .before .before .before .before .before in
+    let a = entry .args in
+    (entry .pre .0 .sound .good, symbol-below (a .p .q) (now (a .message)) (entry .pre .4 .message-symbols) (positive (a .p) (entry .pre .0 .sound)) (a .i * a .p .k + a .r), entry .pre .3)
+
+slice-write-message : tie.Need-slice-write-message
+slice-write-message c = inside (c .before .before .before .before .before .before)
+
+sub-subtract-rows : tie.Need-sub-subtract-rows
+sub-subtract-rows c = search needs
+
+part-subtract-rows-start : tie.Need-part-subtract-rows-start
+part-subtract-rows-start c = search needs
+
+part-subtract-rows-end : tie.Need-part-subtract-rows-end
+part-subtract-rows-end c = room (c .before .before .before .before .before .before)
+
+subtract-rows-requires : tie.Need-subtract-rows-requires
+subtract-rows-requires c κs =
+    let entry = c .before .before .before .before .before .before .before in
+    let a = entry .args in
+    ( entry .pre .0
+    , entry .pre .2
+    , entry .pre .3
+    , part-length (windowLength (a .p)) (a .i * a .p .n) (now (a .left)) (room entry)
+    , symbols-part (a .p .q) (windowLength (a .p)) (a .i * a .p .n) (now (a .left)) (entry .pre .4 .left-symbols) (positive (a .p) (entry .pre .0 .sound))
+    )
+
+same-length : tie.Need-same-length
+same-length c = search needs
+
+same-length-2 : tie.Need-same-length-2
+same-length-2 c = search needs
+
+returns : tie.Need-returns
+returns c =
+    let entry = c .before .before .before .before .before .before .before .before .before .before in
+    let a = entry .args in
+    adjusted (a .p) (entry .pre .0 .sound) (a .blocks) (a .i) (a .r) (a .v) (now (a .message)) (now (a .left)) (entry .pre .4) (entry .pre .1) (entry .pre .2) (entry .pre .3)
+    (c .before .before .before .before .add .result) (c .before .before .before .before .add .ensures .same) (c .before .before .subtract-rows .last .1 .1 .1 .1 .1 .0) (c .before .before .subtract-rows .ensures)
+
+pub adjust-spec : {M : Type 1} → statement M
+adjust-spec =
+    tie.close
+    (tie.spec
+    mul-place
+    add-place
+    add-size
+    mul-size
+    mul-start
+    add-end
+    slice-read-add
+    add-requires
+    slice-write-message
+    sub-subtract-rows
+    part-subtract-rows-start
+    part-subtract-rows-end
+    subtract-rows-requires
+    same-length
+    same-length-2
+    returns)

@@ -1,0 +1,80 @@
+-- `frame::guess::guess_block`: one guess, or two after each other.
+use mathlib.Core.Path.{_≡_}
+use Prim.Native.Nat.{ℕ, _+_, _*_, _≤_, _<_}
+use native.Mathlib.Omega.{arith}
+use borrow.Author.Needs.{needs}
+use denote.Ref.{now}
+use Rattle.frame.proofs.Guesses.{revised-none, revised-then, block-room}
+use Rattle.frame.proofs.guess.guess_block.Statement.{statement}
+use Rattle.frame.proofs.guess.guess_block.Tie as tie
+
+returns : tie.Need-returns
+returns c = search needs
+
+is-light-requires : tie.Need-is-light-requires
+is-light-requires c κs =
+    let entry = c .before .before .before .before in
+    let a = entry .args in
+    let some : a .i < a .blocks = omega (arith, c .before .if1 .left) in
+    (entry .pre .0 .sound, entry .pre .0 .small, block-room (a .p) (a .blocks) (a .i) (now (a .message)) (now (a .left)) (entry .pre .2) some)
+
+same-length : tie.Need-same-length
+same-length c = search needs
+
+returns-2 : tie.Need-returns-2
+returns-2 c = search needs
+
+guess-from-start-requires : tie.Need-guess-from-start-requires
+guess-from-start-requires c κs = search needs
+
+is-light-requires-2 : tie.Need-is-light-requires-2
+is-light-requires-2 c κs =
+    let entry = c .before .before .before .before .before .before .before .before .before .before .before .before .before .before in
+    let a = entry .args in
+    let some : a .i < a .blocks = omega (arith, c .before .before .before .before .before .before .before .before .before .before .before .if1 .left) in
+    ( entry .pre .0 .sound
+    , entry .pre .0 .small
+    , block-room (a .p) (a .blocks) (a .i) (c .before .before .before .before .before .guess-from-start .last .1 .1 .1 .1 .1 .1 .0) (c .before .before .before .before .before .guess-from-start .last .1 .1 .1 .1 .1 .1 .1 .0) (c .before .before .before .before .before .guess-from-start .ensures .areas) some
+    )
+
+same-length-2 : tie.Need-same-length-2
+same-length-2 c = search needs
+
+same-length-3 : tie.Need-same-length-3
+same-length-3 c = search needs
+
+returns-3 : tie.Need-returns-3
+returns-3 c = search needs
+
+guess-from-end-requires : tie.Need-guess-from-end-requires
+guess-from-end-requires c κs = search needs
+
+same-length-4 : tie.Need-same-length-4
+same-length-4 c = search needs
+
+same-length-5 : tie.Need-same-length-5
+same-length-5 c = search needs
+
+returns-4 : tie.Need-returns-4
+returns-4 c =
+    let a = c .before .before .before .before .before .before .before .before .before .before .before .before .before .before .before .before .before .before .before .before .before .before .before .args in
+    revised-then (a .p) (a .blocks) (a .i) (a .i) (now (a .message)) (now (a .left)) (c .before .before .before .before .before .before .before .before .before .before .before .before .before .before .guess-from-start .last .1 .1 .1 .1 .1 .1 .0) (c .before .before .before .before .before .before .before .before .before .before .before .before .before .before .guess-from-start .last .1 .1 .1 .1 .1 .1 .1 .0)
+    (c .before .before .before .before .guess-from-end .last .1 .1 .1 .1 .1 .0) (c .before .before .before .before .guess-from-end .last .1 .1 .1 .1 .1 .1 .0) (omega arith) (c .before .before .before .before .before .before .before .before .before .before .before .before .before .before .guess-from-start .ensures) (c .before .before .before .before .guess-from-end .ensures)
+
+pub guess-block-spec : {M : Type 1} → statement M
+guess-block-spec =
+    tie.close
+    (tie.spec
+    returns
+    is-light-requires
+    same-length
+    returns-2
+    guess-from-start-requires
+    is-light-requires-2
+    same-length-2
+    same-length-3
+    returns-3
+    guess-from-end-requires
+    same-length-4
+    same-length-5
+    returns-4)

@@ -1,0 +1,249 @@
+// The guessed message. What is added to it is taken out of what is left, so that this stays the reception less the guess's transmission.
+ghost use mathlib.Core.Path.{_≡_};
+ghost use Prim.Native.Nat.{_+_, _*_, _≤_, _<_};
+ghost use lib.ListN.{length, getD};
+ghost use Rattle.field.specs.Symbols.{Symbols};
+ghost use Rattle.code.specs.Settings.{Sound};
+ghost use Rattle.code.specs.Windows.{windowLength};
+ghost use Rattle.code.specs.Reading.{only};
+ghost use Rattle.tables.specs.Tables.{Ready, Small};
+ghost use Rattle.frame.specs.Window.{Lessened, LessenedTo};
+ghost use Rattle.frame.specs.Frame.{Areas, Revised, Adjusted, Added};
+
+use code::Setting;
+use field::Tables;
+use tables::Rows;
+
+// Takes v × row r of G_j out of block j of a window.
+fn subtract_row(
+    p: Setting,
+    products: &Tables,
+    rows: &Rows,
+    r: usize,
+    v: u8,
+    j: usize,
+    block: &mut [u8],
+)
+    requires { ⌜ Ready p (now products) (now rows) × (r < p .k) × (v < p .q) × (j ≤ p .m) × (length (now block) ≡ p .n) × Symbols (p .q) (now block) ⌝ }
+    ensures { λ _. ⌜ Lessened p (only r v) j (p .n) (now (block .entry)) (now (block .exit)) ⌝ }
+{
+    let q = p.q;
+    let n = p.n;
+    let mut i: usize = 0;
+    while i < n {
+        let product = field::multiply(q, products, v, rows[(j * p.k + r) * n + i]);
+        block[i] = field::subtract(q, block[i], product);
+        i += 1;
+    }
+}
+
+// Takes v × row r of G_0, .., G_m out of the blocks of a window.
+fn subtract_rows(
+    p: Setting,
+    products: &Tables,
+    rows: &Rows,
+    r: usize,
+    v: u8,
+    window: &mut [u8],
+)
+    requires { ⌜ Ready p (now products) (now rows) × (r < p .k) × (v < p .q) × (length (now window) ≡ windowLength p) × Symbols (p .q) (now window) ⌝ }
+    ensures { λ _. ⌜ LessenedTo p (only r v) (p .m + 1) (now (window .entry)) (now (window .exit)) ⌝ }
+{
+    let n = p.n;
+    let m = p.m;
+    let mut start: usize = 0;
+    let mut s: usize = 0;
+    while s <= m {
+        let end = start + n;
+        subtract_row(p, products, rows, r, v, s, &mut window[start..end]);
+        start = end;
+        s += 1;
+    }
+}
+
+// Adds v to symbol r of block i of the message.
+fn adjust(
+    p: Setting,
+    products: &Tables,
+    rows: &Rows,
+    blocks: usize,
+    i: usize,
+    r: usize,
+    v: u8,
+    message: &mut [u8],
+    left: &mut [u8],
+)
+    requires { ⌜ Ready p (now products) (now rows) × (i < blocks) × (r < p .k) × (v < p .q) × Areas p blocks (now message) (now left) ⌝ }
+    ensures { λ _. ⌜ Adjusted p blocks i r v (now (message .entry)) (now (left .entry)) (now (message .exit)) (now (left .exit)) ⌝ }
+{
+    let q = p.q;
+    let n = p.n;
+    let place = i * p.k + r;
+    let size = (p.m + 1) * n;
+    let start = i * n;
+    let end = start + size;
+    message[place] = field::add(q, message[place], v);
+    subtract_rows(p, products, rows, r, v, &mut left[start..end]);
+}
+
+// Adds an information block to block i of the message, if it has such a block.
+fn add_block(
+    p: Setting,
+    products: &Tables,
+    rows: &Rows,
+    blocks: usize,
+    i: usize,
+    information: &[u8],
+    from: usize,
+    message: &mut [u8],
+    left: &mut [u8],
+)
+    requires { ⌜ Ready p (now products) (now rows) × Symbols (p .q) (now information) × (from + p .k ≤ length (now information)) × Areas p blocks (now message) (now left) ⌝ }
+    ensures { λ _. ⌜ Added p blocks i (λ r. getD (now (information .entry)) (from + r) 0) (now (message .entry)) (now (left .entry)) (now (message .exit)) (now (left .exit)) ⌝ }
+{
+    if blocks <= i {
+        return;
+    }
+    let k = p.k;
+    let mut next: usize = 0;
+    while next < k {
+        let r = next;
+        let v = information[from + r];
+        next += 1;
+        if v == 0 {
+            continue;
+        }
+        adjust(p, products, rows, blocks, i, r, v, message, left);
+    }
+}
+
+// Adds the information found at window j: its first block is certain, the others are guesses that later windows check.
+pub fn add_found(
+    p: Setting,
+    products: &Tables,
+    rows: &Rows,
+    blocks: usize,
+    j: usize,
+    information: &[u8],
+    found: usize,
+    message: &mut [u8],
+    left: &mut [u8],
+)
+    requires { ⌜ Ready p (now products) (now rows) × Symbols (p .q) (now information) × (found ≤ p .m + 1) × ((p .m + 1) * p .k ≤ length (now information)) × (j < blocks) × Areas p blocks (now message) (now left) ⌝ }
+    ensures { λ _. ⌜ Added p blocks j (λ r. getD (now (information .entry)) r 0) (now (message .entry)) (now (left .entry)) (now (message .exit)) (now (left .exit)) ⌝ }
+{
+    let k = p.k;
+    add_block(p, products, rows, blocks, j, information, 0, message, left);
+    let mut a: usize = 1;
+    while a < found {
+        add_block(p, products, rows, blocks, j + a, information, a * k, message, left);
+        a += 1;
+    }
+}
+
+// Guesses block i of the message from the first k symbols of what is left of its block: any guess will do, and this one is right where they
+// were not altered. Row r of G_0 is zero before place r and has the symbol 1/scale there.
+fn guess_from_start(
+    p: Setting,
+    products: &Tables,
+    rows: &Rows,
+    scale: u8,
+    blocks: usize,
+    i: usize,
+    message: &mut [u8],
+    left: &mut [u8],
+)
+    requires { ⌜ Ready p (now products) (now rows) × (scale < p .q) × (i < blocks) × Areas p blocks (now message) (now left) ⌝ }
+    ensures { λ _. ⌜ Revised p blocks i (now (message .entry)) (now (left .entry)) (now (message .exit)) (now (left .exit)) ⌝ }
+{
+    let q = p.q;
+    let k = p.k;
+    let start = i * p.n;
+    let mut r: usize = 0;
+    while r < k {
+        let v = field::multiply(q, products, scale, left[start + r]);
+        adjust(p, products, rows, blocks, i, r, v, message, left);
+        r += 1;
+    }
+}
+
+// The same from the last k symbols: row r of G_0 is zero after place n - k + r and has the symbol 1 there.
+fn guess_from_end(
+    p: Setting,
+    products: &Tables,
+    rows: &Rows,
+    blocks: usize,
+    i: usize,
+    message: &mut [u8],
+    left: &mut [u8],
+)
+    requires { ⌜ Ready p (now products) (now rows) × (i < blocks) × Areas p blocks (now message) (now left) ⌝ }
+    ensures { λ _. ⌜ Revised p blocks i (now (message .entry)) (now (left .entry)) (now (message .exit)) (now (left .exit)) ⌝ }
+{
+    let last = i * p.n + (p.n - p.k);
+    let mut r = p.k;
+    while 0 < r {
+        r -= 1;
+        let v = left[last + r];
+        adjust(p, products, rows, blocks, i, r, v, message, left);
+    }
+}
+
+// Whether at most half of d_0 symbols are left of block i.
+fn is_light(p: Setting, i: usize, left: &[u8]) -> bool
+    requires { ⌜ Sound p × Small p × (i * p .n + p .n ≤ length (now left)) ⌝ }
+{
+    let start = i * p.n;
+    let end = start + p.n;
+    let distance = p.n - p.k + 1;
+    2 * super::area::weight(&left[start..end]) <= distance
+}
+
+// Guesses block i of the message again, if it has such a block and too much is left of it: from the first symbols, or else from the last ones.
+fn guess_block(
+    p: Setting,
+    products: &Tables,
+    rows: &Rows,
+    scale: u8,
+    blocks: usize,
+    i: usize,
+    message: &mut [u8],
+    left: &mut [u8],
+)
+    requires { ⌜ Ready p (now products) (now rows) × (scale < p .q) × Areas p blocks (now message) (now left) ⌝ }
+    ensures { λ _. ⌜ Revised p blocks i (now (message .entry)) (now (left .entry)) (now (message .exit)) (now (left .exit)) ⌝ }
+{
+    if blocks <= i {
+        return;
+    }
+    if is_light(p, i, left) {
+        return;
+    }
+    guess_from_start(p, products, rows, scale, blocks, i, message, left);
+    if is_light(p, i, left) {
+        return;
+    }
+    guess_from_end(p, products, rows, blocks, i, message, left);
+}
+
+// Guesses the blocks of window j.
+pub fn guess_window(
+    p: Setting,
+    products: &Tables,
+    rows: &Rows,
+    scale: u8,
+    blocks: usize,
+    j: usize,
+    message: &mut [u8],
+    left: &mut [u8],
+)
+    requires { ⌜ Ready p (now products) (now rows) × (scale < p .q) × (j < blocks) × Areas p blocks (now message) (now left) ⌝ }
+    ensures { λ _. ⌜ Revised p blocks j (now (message .entry)) (now (left .entry)) (now (message .exit)) (now (left .exit)) ⌝ }
+{
+    let m = p.m;
+    let mut s: usize = 0;
+    while s <= m {
+        guess_block(p, products, rows, scale, blocks, j + s, message, left);
+        s += 1;
+    }
+}

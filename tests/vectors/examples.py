@@ -1,0 +1,98 @@
+"""Calls with right answers that need no program: the examples of 000 and 01, and orders of the greatest length put together from 01's."""
+
+# Symbols of a block, symbols of an information block, closing blocks, and 01's transmission of the information block 1, 10 or 100.
+SETTINGS = {
+    1: (4, 1, 2, "2431 2323 2134"),
+    2: (7, 2, 2, "3132210 3411430 3665350"),
+    3: (7, 3, 1, "5774100 5266700"),
+}
+UNUSED = "a5"
+
+
+def symbols(text):
+    return [int(c) for c in text if c != " "]
+
+
+def areas(*held):
+    return ["".join("%02x" % symbol for symbol in area) for area in held]
+
+
+def answered(number, place=0, count=0):
+    return {"number": number, "place": place, "count": count}
+
+
+def decoded(setting, reception, number, message, transmission, tail=0, place=0):
+    """A decoding with areas `tail` bytes longer than needed, which keep those; numbers other than 0 and 7 change nothing."""
+    count = sum(a != b for a, b in zip(reception, transmission)) if number == 0 else 0
+    r, m, t = areas(reception, message, transmission)
+    before_m, before_t = UNUSED * (len(m) // 2 + tail), UNUSED * (len(t) // 2 + tail)
+    kept = UNUSED * tail
+    return {
+        "call": "decode",
+        "args": {"number": setting, "reception": r, "marea": before_m, "tarea": before_t},
+        "result": {
+            "answer": answered(number, place, count),
+            "message": m + kept if number in (0, 7) else before_m,
+            "transmission": t + kept if number in (0, 7) else before_t,
+        },
+    }
+
+
+def encoded(setting, message, number, transmission):
+    m, t = areas(message, transmission)
+    before = UNUSED * (len(t) // 2)
+    return {
+        "call": "encode",
+        "args": {"number": setting, "message": m, "tarea": before},
+        "result": {"answer": answered(number), "transmission": t if number == 0 else before},
+    }
+
+
+def long_order(setting, T):
+    """An information block 1, 10 or 100 in every block m + 1 apart: its transmission is 01's, again and again."""
+    n, k, m, sent = SETTINGS[setting]
+    one, none = [1] + [0] * (k - 1), [0] * k
+    message = [s for i in range(T) for s in (one if i % (m + 1) == 0 else none)]
+    last = (T - 1) // (m + 1) * (m + 1)
+    transmission = symbols(sent) * (last // (m + 1) + 1)
+    return message, (transmission + [0] * (n * m))[: n * (T + m)]
+
+
+def examples():
+    none_fits = [
+        (1, "2000 4004 4000 0431"),  # 000, Example 4.2 (a)
+        (1, "2431 1130 0000 0200 4100 0004 0003 0020 0004 3400"),  # 000, Example 4.2 (b)
+        (1, "2431 2320 0000"),
+    ]
+    for setting, text in none_fits:
+        n, k, m, _ = SETTINGS[setting]
+        reception = symbols(text)
+        message = [0] * ((len(reception) // n - m) * k)
+        yield decoded(setting, reception, 7, message, [0] * len(reception), tail=3)
+    one_fits = [
+        (1, "4031 1130 3210 3213 0100", "120", "2431 1130 1220 4213 0000"),  # 000, Example 4.1
+        (1, "2400 1100 0000 0230 4100 0000 0023 0320 0000 3400", "00000000", "0000" * 10),  # 000, Example 4.2 (c)
+        (1, "0000 0000 0000", "0", "0000 0000 0000"),
+        (1, "2431 2323 0000", "1", "2431 2323 2134"),
+    ]
+    for setting, reception, message, transmission in one_fits:
+        yield decoded(setting, symbols(reception), 0, symbols(message), symbols(transmission), tail=2)
+    for setting, (n, k, m, _) in SETTINGS.items():
+        message, transmission = long_order(setting, 512)
+        yield encoded(setting, message, 0, transmission)
+        yield decoded(setting, transmission, 0, message, transmission, tail=1)
+        altered = list(transmission)
+        for i in range(0, len(altered), n * (m + 1)):
+            altered[i] = (altered[i] + 1) % 5
+        yield decoded(setting, altered, 0, message, transmission)
+        message, transmission = long_order(setting, 513)
+        yield encoded(setting, message, 3, transmission)
+        yield decoded(setting, transmission, 3, message, transmission)
+        # One question after another gets a no, the later ones getting one too.
+        message, transmission = long_order(setting, 3)
+        wrong = transmission[:9] + [9] + transmission[10:]
+        yield decoded(setting + 3, wrong, 1, message, transmission)
+        yield decoded(setting, wrong[:-1], 2, message, transmission)
+        yield decoded(setting, wrong, 4, message[1:], transmission[1:], place=9)
+        yield decoded(setting, transmission, 5, message[1:], transmission[1:])
+        yield decoded(setting, transmission, 6, message, transmission[1:])
