@@ -187,9 +187,9 @@ module _ (p : Setting) (S : Sound p) where
         pub length-of-near : SpectrumOf q block (p .n - (l + 1) * p .k) series → 2 * L < levelDistance (p .n) (p .k) l
         length-of-near spectral =
             let short = length-of-near-field (K q o B) root (p .n) (p .k) (p .m) order l fits received lifted
-                (distance (p .n) (at block) (combination (codeOf p) l x)) error-light (omega arith)
-                (up q o B (at series)) (values-up (p .n - (l + 1) * p .k) spectral)
-                L (located .place) (el q o B (located .scale)) (up q o B (at locator)) (up q o B (at (located .former))) (locator-up (spectral .area .below)) in
+            (distance (p .n) (at block) (combination (codeOf p) l x)) error-light (omega arith)
+            (up q o B (at series)) (values-up (p .n - (l + 1) * p .k) spectral)
+            L (located .place) (el q o B (located .scale)) (up q o B (at locator)) (up q o B (at (located .former))) (locator-up (spectral .area .below)) in
             omega (arith, short)
 
         pub read-of-near : (after values matrix found : List ℕ)

@@ -33,12 +33,12 @@ module _ (f : ℕ → ℕ) (n w T b : ℕ) (near : (j : ℕ) → j < T → total
   windows-in-turn d positive room =
       subst (λ (t : ℕ). t ≤ b * d) (sym (total-blocks d (w * n) f))
       (total-most d b (λ s. total (w * n) (λ i. f (s * (w * n) + i)))
-        (λ s l.
-          let inside : s + 1 ≤ d = omega arith in
-          let early : s * w < T = omega (arith, mul-le-mul-right w inside) in
-          subst (λ (t : ℕ). t ≤ b)
-            (total-ext (w * n) (λ i. f (s * w * n + i)) (λ i. f (s * (w * n) + i)) (λ i h. ap (λ (t : ℕ). f (t + i)) (place s)))
-          (near (s * w) early)))
+      (λ s l.
+      let inside : s + 1 ≤ d = omega arith in
+      let early : s * w < T = omega (arith, mul-le-mul-right w inside) in
+      subst (λ (t : ℕ). t ≤ b)
+      (total-ext (w * n) (λ i. f (s * w * n + i)) (λ i. f (s * (w * n) + i)) (λ i h. ap (λ (t : ℕ). f (t + i)) (place s)))
+      (near (s * w) early)))
     where
       place : (s : ℕ) → s * w * n ≡ s * (w * n)
       place s = omega arith
@@ -48,9 +48,9 @@ module _ (f : ℕ → ℕ) (n w T b : ℕ) (near : (j : ℕ) → j < T → total
   last-blocks j c e l split =
       let whole : c * n + e * n ≡ w * n = omega (arith, ap (λ (t : ℕ). t * n) split) in
       let end : total (e * n) (λ i. f (j * n + (c * n + i))) ≤ total (w * n) (λ i. f (j * n + i)) =
-          subst (λ (t : ℕ). total (e * n) (λ i. f (j * n + (c * n + i))) ≤ total t (λ i. f (j * n + i))) whole (total-end (c * n) (e * n) (λ i. f (j * n + i))) in
+      subst (λ (t : ℕ). total (e * n) (λ i. f (j * n + (c * n + i))) ≤ total t (λ i. f (j * n + i))) whole (total-end (c * n) (e * n) (λ i. f (j * n + i))) in
       let same : total (e * n) (λ i. f (j * n + (c * n + i))) ≡ total (e * n) (λ i. f ((j + c) * n + i)) =
-          total-ext (e * n) (λ i. f (j * n + (c * n + i))) (λ i. f ((j + c) * n + i)) (λ i h. ap f (place i)) in
+      total-ext (e * n) (λ i. f (j * n + (c * n + i))) (λ i. f ((j + c) * n + i)) (λ i h. ap f (place i)) in
       omega (arith, near j l)
     where
       place : (i : ℕ) → j * n + (c * n + i) ≡ (j + c) * n + i
@@ -63,18 +63,25 @@ covered f n m T b first near = at (ℕ-discrete e 0)
   where
     d : ℕ
     d = (T + m) / (m + 1)
+
     e : ℕ
     e = (T + m) % (m + 1)
+
     positive : 0 < m + 1
     positive = omega arith
+
     parts : d * (m + 1) + e ≡ T + m
     parts = div-add-mod' (T + m) (m + 1)
+
     short : e < m + 1
     short = mod-lt (T + m) positive
+
     turn : total (d * ((m + 1) * n)) f ≤ b * d
     turn = windows-in-turn f n (m + 1) T b near d positive (omega (arith, parts))
+
     blocks : (T + m) * n ≡ d * ((m + 1) * n) + e * n
     blocks = omega (arith, ap (λ (t : ℕ). t * n) parts)
+
     at : Dec (e ≡ 0) → total ((T + m) * n) f ≤ b * ((T + m + m) / (m + 1))
     at (yes even) =
         let all : (T + m) * n ≡ d * ((m + 1) * n) = omega (arith, blocks, ap (λ (t : ℕ). t * n) even) in
@@ -89,7 +96,7 @@ covered f n m T b first near = at (ℕ-discrete e 0)
         let inside : T - 1 < T = omega arith in
         let split : m + 1 - e + e ≡ m + 1 = omega (arith, short) in
         let rest : total (e * n) (λ i. f (d * ((m + 1) * n) + i)) ≤ b =
-            subst (λ (t : ℕ). total (e * n) (λ i. f (t + i)) ≤ b) place (last-blocks f n (m + 1) T b near (T - 1) (m + 1 - e) e inside split) in
+        subst (λ (t : ℕ). total (e * n) (λ i. f (t + i)) ≤ b) place (last-blocks f n (m + 1) T b near (T - 1) (m + 1 - e) e inside split) in
         subst (λ (t : ℕ). total t f ≤ b * ((T + m + m) / (m + 1))) (sym blocks)
         (omega (arith, total-split (d * ((m + 1) * n)) (e * n) f, turn, rest, mul-le-mul-left b count))
 
@@ -98,4 +105,4 @@ pub altered-bound : (p : Setting) (T : ℕ) (reception x : List ℕ) → Fits p 
     → altered p T reception (transmission p x) ≤ limit (p .n) (p .k) (p .m) * ((T + p .m + p .m) / (p .m + 1))
 altered-bound p T reception x F =
     covered (λ i. pick (not (eqb (getD reception i 0) (getD (transmission p x) i 0))) 1 0) (p .n) (p .m) T (limit (p .n) (p .k) (p .m))
-      (F .message-of .blocks) (F .near)
+    (F .message-of .blocks) (F .near)

@@ -72,7 +72,7 @@ module _ {F : Type 0} (K : Field F) (α : F) (n k m : ℕ) where
   unfolding rowSymbol
   valueOf-row j r y l h =
       valueOf-ext (K .ops) n (λ i. getD row i 𝟘 ⊗ pow (j * k * i)) (λ i. getD row i 𝟘 ⊗ power (K .ops) (pow (j * k)) i) y
-        (λ i s. ap (λ (t : F). getD row i 𝟘 ⊗ t) (sym (power-power K α (j * k) i)))
+      (λ i s. ap (λ (t : F). getD row i 𝟘 ⊗ t) (sym (power-power K α (j * k) i)))
       ∙ valueOf-twist K n (λ i. getD row i 𝟘) (pow (j * k)) y
       ∙ valueOf-short K (length row) n (λ i. getD row i 𝟘) (pow (j * k) ⊗ y) (omega (arith, length-row)) (λ i s u. List·getD-eq-default row 𝟘 s)
       ∙ sym (value-is-valueOf (K .ops) row (pow (j * k) ⊗ y))
@@ -80,6 +80,7 @@ module _ {F : Type 0} (K : Field F) (α : F) (n k m : ℕ) where
     where
       row : List F
       row = replicate r 𝟘 ++ base c
+
       length-row : length row ≡ r + suc (n - k)
       length-row = length-append (replicate r 𝟘) (base c) ∙ ap₂ _+_ (length-replicate r 𝟘) length-base
 
@@ -93,8 +94,8 @@ module _ {F : Type 0} (K : Field F) (α : F) (n k m : ℕ) where
   valueOf-timesG x j y h =
       valueOf-of-sum K n k (λ r i. x r ⊗ rowSymbol c j r i) y
       ∙ sum-ext (K .ops) k (λ r. valueOf (K .ops) n (λ i. x r ⊗ rowSymbol c j r i) y) (λ r. value (K .ops) (base c) e ⊗ (x r ⊗ power (K .ops) e r))
-        (λ r l. valueOf-scale K n (x r) (rowSymbol c j r) y ∙ ap (λ (t : F). x r ⊗ t) (valueOf-row j r y l h)
-          ∙ row-step (x r) (power (K .ops) e r) (value (K .ops) (base c) e))
+      (λ r l. valueOf-scale K n (x r) (rowSymbol c j r) y ∙ ap (λ (t : F). x r ⊗ t) (valueOf-row j r y l h)
+      ∙ row-step (x r) (power (K .ops) e r) (value (K .ops) (base c) e))
       ∙ sum-scale K k (value (K .ops) (base c) e) (λ r. x r ⊗ power (K .ops) e r)
       ∙ ap (λ (t : F). value (K .ops) (base c) e ⊗ t) (sym (valueOf-is-sum K k x e))
       ∙ mul-comm K (value (K .ops) (base c) e) (valueOf (K .ops) k x e)
@@ -110,9 +111,9 @@ module _ {F : Type 0} (K : Field F) (α : F) (n k m : ℕ) where
   unfolding timesG rowSymbol
   timesG-twist x a j i =
       sum-ext (K .ops) k (λ r. x r ⊗ (getD (replicate r 𝟘 ++ base c) i 𝟘 ⊗ pow ((a + j) * k * i)))
-        (λ r. power (K .ops) (pow (a * k)) i ⊗ (x r ⊗ (getD (replicate r 𝟘 ++ base c) i 𝟘 ⊗ pow (j * k * i))))
-        (λ r l. ap (λ (t : F). x r ⊗ (getD (replicate r 𝟘 ++ base c) i 𝟘 ⊗ t)) split
-          ∙ twist-step (x r) (getD (replicate r 𝟘 ++ base c) i 𝟘) (pow (j * k * i)) (power (K .ops) (pow (a * k)) i))
+      (λ r. power (K .ops) (pow (a * k)) i ⊗ (x r ⊗ (getD (replicate r 𝟘 ++ base c) i 𝟘 ⊗ pow (j * k * i))))
+      (λ r l. ap (λ (t : F). x r ⊗ (getD (replicate r 𝟘 ++ base c) i 𝟘 ⊗ t)) split
+      ∙ twist-step (x r) (getD (replicate r 𝟘 ++ base c) i 𝟘) (pow (j * k * i)) (power (K .ops) (pow (a * k)) i))
       ∙ sum-scale K k (power (K .ops) (pow (a * k)) i) (λ r. x r ⊗ (getD (replicate r 𝟘 ++ base c) i 𝟘 ⊗ pow (j * k * i)))
       ∙ mul-comm K (power (K .ops) (pow (a * k)) i) (sum (K .ops) k (λ r. x r ⊗ (getD (replicate r 𝟘 ++ base c) i 𝟘 ⊗ pow (j * k * i))))
     where
@@ -131,8 +132,8 @@ module _ {F : Type 0} (K : Field F) (α : F) (n k m : ℕ) where
   spectrum-combination l x s h =
       valueOf-of-sum K n (suc l) (λ j i. timesG c (x (l - j)) j i) (pow s)
       ∙ sum-ext (K .ops) (suc l) (λ j. valueOf (K .ops) n (timesG c (x (l - j)) j) (pow s)) (λ j. part (x (l - j)) (j * k + s))
-        (λ j u. valueOf-timesG (x (l - j)) j (pow s) h
-          ∙ ap (λ (t : F). valueOf (K .ops) k (x (l - j)) t ⊗ value (K .ops) (base c) t) (sym (power-add K α (j * k) s)))
+      (λ j u. valueOf-timesG (x (l - j)) j (pow s) h
+      ∙ ap (λ (t : F). valueOf (K .ops) k (x (l - j)) t ⊗ value (K .ops) (base c) t) (sym (power-add K α (j * k) s)))
 
   part-low : (x : ℕ → F) (e : ℕ) → e < n - k → part x e ≡ 𝟘
   unfolding part
@@ -147,6 +148,7 @@ module _ {F : Type 0} (K : Field F) (α : F) (n k m : ℕ) where
     where
       one-le : 1 ≤ l + 1
       one-le = omega arith
+
       low : (j : ℕ) → j < suc l → j * k + s < n - k
       low j u =
           let below : j ≤ l = omega arith in
@@ -166,7 +168,7 @@ module _ {F : Type 0} (K : Field F) (α : F) (n k m : ℕ) where
     part-wrapped x e h l =
         let wraps : n + (e - n) ≡ e = omega arith in
         ap (λ (t : F). valueOf (K .ops) k x (pow e) ⊗ t)
-          (ap (value (K .ops) (base c)) (ap pow (sym wraps) ∙ power-wraps K n α order (e - n)) ∙ base-zero (e - n) l)
+        (ap (value (K .ops) (base c)) (ap pow (sym wraps) ∙ power-wraps K n α order (e - n)) ∙ base-zero (e - n) l)
         ∙ mul-zero K (valueOf (K .ops) k x (pow e))
 
     -- On the stretch of G_j only its term is left of the spectrum.
@@ -178,6 +180,7 @@ module _ {F : Type 0} (K : Field F) (α : F) (n k m : ℕ) where
       where
         one-le : 1 ≤ l + 1
         one-le = omega arith
+
         other : (i : ℕ) → i < suc l → (i ≡ j → ⊥) → Dec (i < j) → part (x (l - i)) (i * k + s) ≡ 𝟘
         other i u d (yes b) =
             let next : i + 1 ≤ j = omega arith in

@@ -51,7 +51,7 @@ module _ {F : Type 0} (K : Field F) (α : F) (n k m : ℕ) where
   timesG-sub x y j i =
       sum-sub k (λ r. x r ⊗ rowSymbol c j r i) (λ r. y r ⊗ rowSymbol c j r i)
       ∙ sum-ext (K .ops) k (λ r. sub (K .ops) (x r ⊗ rowSymbol c j r i) (y r ⊗ rowSymbol c j r i)) (λ r. sub (K .ops) (x r) (y r) ⊗ rowSymbol c j r i)
-        (λ r l. mul-sub (x r) (y r) (rowSymbol c j r i))
+      (λ r l. mul-sub (x r) (y r) (rowSymbol c j r i))
 
   pub timesG-zeros : (x : ℕ → F) (j i : ℕ) → ((r : ℕ) → r < k → x r ≡ 𝟘) → timesG c x j i ≡ 𝟘
   unfolding timesG
@@ -71,26 +71,30 @@ module _ {F : Type 0} (K : Field F) (α : F) (n k m : ℕ) where
       let split : suc l + (m - l) ≡ suc m = omega arith in
       sum-sub (suc m) (λ j. timesG c (earlier (K .ops) u (b + l) j) j i) (λ j. timesG c (earlier (K .ops) v (b + l) j) j i)
       ∙ sum-ext (K .ops) (suc m) (λ j. sub (K .ops) (timesG c (earlier (K .ops) u (b + l) j) j i) (timesG c (earlier (K .ops) v (b + l) j) j i)) term
-        (λ j h. timesG-sub (earlier (K .ops) u (b + l) j) (earlier (K .ops) v (b + l) j) j i)
+      (λ j h. timesG-sub (earlier (K .ops) u (b + l) j) (earlier (K .ops) v (b + l) j) j i)
       ∙ ap (λ (t : ℕ). sum (K .ops) t term) (sym split)
       ∙ sum-split K (suc l) (m - l) term
       ∙ ap₂ _⊕_
-        (sum-ext (K .ops) (suc l) term (λ j. timesG c (difference (l - j)) j i) (λ j h. timesG-ext (gap j) (difference (l - j)) j i (λ r s. inside j r h)))
-        (sum-zeros K (m - l) (λ j. term (suc l + j)) (λ j h. timesG-zeros (gap (suc l + j)) (suc l + j) i (λ r s. outside (suc l + j) r (omega arith) s)))
+      (sum-ext (K .ops) (suc l) term (λ j. timesG c (difference (l - j)) j i) (λ j h. timesG-ext (gap j) (difference (l - j)) j i (λ r s. inside j r h)))
+      (sum-zeros K (m - l) (λ j. term (suc l + j)) (λ j h. timesG-zeros (gap (suc l + j)) (suc l + j) i (λ r s. outside (suc l + j) r (omega arith) s)))
       ∙ add-zero K (sum (K .ops) (suc l) (λ j. timesG c (difference (l - j)) j i))
     where
       gap : ℕ → ℕ → F
       gap j r = sub (K .ops) (earlier (K .ops) u (b + l) j r) (earlier (K .ops) v (b + l) j r)
+
       term : ℕ → F
       term j = timesG c (gap j) j i
+
       difference : ℕ → ℕ → F
       difference s r = sub (K .ops) (u (b + s) r) (v (b + s) r)
+
       inside : (j r : ℕ) → j < suc l → gap j r ≡ difference (l - j) r
       inside j r h =
           let reach : j ≤ b + l = omega arith in
           let place : b + l - j ≡ b + (l - j) = omega arith in
           ap (λ (t : Bool). sub (K .ops) (pick t (u (b + l - j) r) 𝟘) (pick t (v (b + l - j) r) 𝟘)) (le-leb j (b + l) reach)
           ∙ ap (λ (t : ℕ). sub (K .ops) (u t r) (v t r)) place
+
       outside : (j r : ℕ) → l < j → r < k → gap j r ≡ 𝟘
       outside j r h s = at (decLe j (b + l))
         where
@@ -112,7 +116,6 @@ module _ {F : Type 0} (K : Field F) (α : F) (n k m : ℕ) where
 
   module _ (order : Order (K .ops) n α) (fits : (m + 1) * k ≤ n) {R : Type 0} (cost : R → F → ℕ)
       (apart : (v : R) (a b : F) → (a ≡ b → ⊥) → 2 ≤ cost v a + cost v b) where
-
     -- A symbol that differs costs 2 together.
     symbol-apart : (v : R) (a b : F) → 2 * pick (not (K .ops .isZero (sub (K .ops) a b))) 1 0 ≤ cost v a + cost v b
     symbol-apart v a b = at (K .tested (sub (K .ops) a b))
@@ -128,37 +131,41 @@ module _ {F : Type 0} (K : Field F) (α : F) (n k m : ℕ) where
     unfolding costTo
     costs-apart u v w b l low agree r inside differ =
         subst (λ (t : ℕ). t ≤ costTo n cost w (sentSymbol c u) b l + costTo n cost w (sentSymbol c v) b l)
-          (total-scale (suc l) 2 (levelDistance n k) ∙ ap (λ (t : ℕ). 2 * t) (sym (distancesTo-total l)))
+        (total-scale (suc l) 2 (levelDistance n k) ∙ ap (λ (t : ℕ). 2 * t) (sym (distancesTo-total l)))
         (subst (λ (t : ℕ). total (suc l) (λ s. 2 * levelDistance n k s) ≤ t)
-          (total-add (suc l) (λ s. total n (λ i. cost (w (b + s) i) (sentSymbol c u (b + s) i))) (λ s. total n (λ i. cost (w (b + s) i) (sentSymbol c v (b + s) i))))
+        (total-add (suc l) (λ s. total n (λ i. cost (w (b + s) i) (sentSymbol c u (b + s) i))) (λ s. total n (λ i. cost (w (b + s) i) (sentSymbol c v (b + s) i))))
         (total-mono (suc l) (λ s. 2 * levelDistance n k s)
-          (λ s. total n (λ i. cost (w (b + s) i) (sentSymbol c u (b + s) i)) + total n (λ i. cost (w (b + s) i) (sentSymbol c v (b + s) i)))
-          (λ s h. block s (omega arith))))
+        (λ s. total n (λ i. cost (w (b + s) i) (sentSymbol c u (b + s) i)) + total n (λ i. cost (w (b + s) i) (sentSymbol c v (b + s) i)))
+        (λ s h. block s (omega arith))))
       where
         difference : ℕ → ℕ → F
         difference s r = sub (K .ops) (u (b + s) r) (v (b + s) r)
+
         nonzero : difference 0 r ≡ 𝟘 → ⊥
         nonzero z =
             let place : b + 0 ≡ b = omega arith in
             differ (subst (λ (t : ℕ). u t r ≡ v t r) place (eq-of-sub K (u (b + 0) r) (v (b + 0) r) z))
+
         heavy : (s : ℕ) → s ≤ m → levelDistance n k s ≤ weight (K .ops) n (combination c s difference)
         heavy s h =
             let top : s + 1 ≤ m + 1 = omega arith in
             let room : (s + 1) * k ≤ (m + 1) * k = mul-le-mul-right k top in
             let zero-le : 0 ≤ s = omega arith in
             omega (arith, combination-weight K α n k m order s difference (omega arith) 0 r zero-le inside nonzero)
+
         symbols : (s : ℕ) → s ≤ m → 2 * weight (K .ops) n (combination c s difference)
             ≤ total n (λ i. cost (w (b + s) i) (sentSymbol c u (b + s) i)) + total n (λ i. cost (w (b + s) i) (sentSymbol c v (b + s) i))
         symbols s h =
             subst (λ (t : ℕ). t ≤ total n (λ i. cost (w (b + s) i) (sentSymbol c u (b + s) i)) + total n (λ i. cost (w (b + s) i) (sentSymbol c v (b + s) i)))
-              (total-scale n 2 (λ i. pick (not (K .ops .isZero (combination c s difference i))) 1 0))
+            (total-scale n 2 (λ i. pick (not (K .ops .isZero (combination c s difference i))) 1 0))
             (subst (λ (t : ℕ). total n (λ i. 2 * pick (not (K .ops .isZero (combination c s difference i))) 1 0) ≤ t)
-              (total-add n (λ i. cost (w (b + s) i) (sentSymbol c u (b + s) i)) (λ i. cost (w (b + s) i) (sentSymbol c v (b + s) i)))
+            (total-add n (λ i. cost (w (b + s) i) (sentSymbol c u (b + s) i)) (λ i. cost (w (b + s) i) (sentSymbol c v (b + s) i)))
             (total-mono n (λ i. 2 * pick (not (K .ops .isZero (combination c s difference i))) 1 0)
-              (λ i. cost (w (b + s) i) (sentSymbol c u (b + s) i) + cost (w (b + s) i) (sentSymbol c v (b + s) i))
-              (λ i q. subst (λ (t : F). 2 * pick (not (K .ops .isZero t)) 1 0 ≤ cost (w (b + s) i) (sentSymbol c u (b + s) i) + cost (w (b + s) i) (sentSymbol c v (b + s) i))
-                (sent-difference u v b s i h agree)
-                (symbol-apart (w (b + s) i) (sentSymbol c u (b + s) i) (sentSymbol c v (b + s) i)))))
+            (λ i. cost (w (b + s) i) (sentSymbol c u (b + s) i) + cost (w (b + s) i) (sentSymbol c v (b + s) i))
+            (λ i q. subst (λ (t : F). 2 * pick (not (K .ops .isZero t)) 1 0 ≤ cost (w (b + s) i) (sentSymbol c u (b + s) i) + cost (w (b + s) i) (sentSymbol c v (b + s) i))
+            (sent-difference u v b s i h agree)
+            (symbol-apart (w (b + s) i) (sentSymbol c u (b + s) i) (sentSymbol c v (b + s) i)))))
+
         block : (s : ℕ) → s ≤ m → 2 * levelDistance n k s
             ≤ total n (λ i. cost (w (b + s) i) (sentSymbol c u (b + s) i)) + total n (λ i. cost (w (b + s) i) (sentSymbol c v (b + s) i))
         block s h = omega (arith, heavy s h, symbols s h)

@@ -28,9 +28,9 @@ module _ (p : Setting) (S : Sound p) (T : ℕ) where
       let long-y : length (take (p .k) (drop (j * p .k) y)) ≡ p .k = omega (arith, length-take (p .k) (drop (j * p .k) y), length-drop (j * p .k) y, Y .long) in
       differ (ext-getD 0 (take (p .k) (drop (j * p .k) x)) (take (p .k) (drop (j * p .k) y)) (long-x ∙ sym long-y)
       (λ r h. let inside : r < p .k = omega arith in
-        getD-take (p .k) (drop (j * p .k) x) r 0 inside ∙ (getD-drop (j * p .k) x r 0
-        ∙ (block-determined p S T x y X Y reception j l (equal-part x y (j * p .k) agree) near-x near-y r inside
-        ∙ sym (getD-take (p .k) (drop (j * p .k) y) r 0 inside ∙ getD-drop (j * p .k) y r 0)))))
+      getD-take (p .k) (drop (j * p .k) x) r 0 inside ∙ (getD-drop (j * p .k) x r 0
+      ∙ (block-determined p S T x y X Y reception j l (equal-part x y (j * p .k) agree) near-x near-y r inside
+      ∙ sym (getD-take (p .k) (drop (j * p .k) y) r 0 inside ∙ getD-drop (j * p .k) y r 0)))))
 
   -- "And the .. messages of any two decodable receptions, of one setting and length and alike through the end of that window, have the same blocks
   -- 0 to j, whatever stands after the window in either": of messages that fit.
@@ -41,8 +41,8 @@ module _ (p : Setting) (S : Sound p) (T : ℕ) where
       let room : (j + 1) * p .k ≤ T * p .k = mul-le-mul-right (p .k) top in
       part-equal x y ((j + 1) * p .k) (omega (arith, fits-x .message-of .long)) (omega (arith, fits-y .message-of .long))
       (messages-agree p S T x y (fits-x .message-of) (fits-y .message-of) w (j + 1) top
-        (λ i h. subst (λ (t : ℕ). t ≤ limit (p .n) (p .k) (p .m)) (alike-window p v w (transmission p x) j i alike (omega arith)) (fits-x .near i (omega arith)))
-        (λ i h. fits-y .near i (omega arith)))
+      (λ i h. subst (λ (t : ℕ). t ≤ limit (p .n) (p .k) (p .m)) (alike-window p v w (transmission p x) j i alike (omega arith)) (fits-x .near i (omega arith)))
+      (λ i h. fits-y .near i (omega arith)))
 
   -- "So at most one message fits a reception, whatever was received."
   pub at-most-one-fits : (reception x y : List ℕ) → Fits p T reception x → Fits p T reception y → x ≡ y
@@ -50,4 +50,4 @@ module _ (p : Setting) (S : Sound p) (T : ℕ) where
       let all : T ≤ T = omega arith in
       ext-getD 0 x y (fits-x .message-of .long ∙ sym (fits-y .message-of .long))
       (λ i h. messages-agree p S T x y (fits-x .message-of) (fits-y .message-of) reception T all
-        (λ b l. fits-x .near b l) (λ b l. fits-y .near b l) i (omega (arith, fits-x .message-of .long)))
+      (λ b l. fits-x .near b l) (λ b l. fits-y .near b l) i (omega (arith, fits-x .message-of .long)))

@@ -59,12 +59,12 @@ module _ {F : Type 0} (K : Field F) (α : F) (n k m : ℕ) (order : Order (K .op
       let one-le : 1 ≤ l + 1 = omega arith in
       let room : 1 * k ≤ (l + 1) * k = mul-le-mul-right k one-le in
       coefficients-of-vanishing K n α order (n - k) k (x b) (omega arith)
-        (λ e s. mul-eq-zero K (value (K .ops) (base c) (pow (n - k + e))) (valueOf (K .ops) k (x b) (pow (n - k + e)))
-          (base-nonzero K α n k m order (n - k + e) (omega arith) (omega arith))
-          (mul-comm K (value (K .ops) (base c) (pow (n - k + e))) (valueOf (K .ops) k (x b) (pow (n - k + e)))
-          ∙ sym (combination-on-information l b x e fits below s)
-          ∙ valueOf-zeros K n (combination c l x) (pow (stretch l b e)) zeros))
-        r inside
+      (λ e s. mul-eq-zero K (value (K .ops) (base c) (pow (n - k + e))) (valueOf (K .ops) k (x b) (pow (n - k + e)))
+      (base-nonzero K α n k m order (n - k + e) (omega arith) (omega arith))
+      (mul-comm K (value (K .ops) (base c) (pow (n - k + e))) (valueOf (K .ops) k (x b) (pow (n - k + e)))
+      ∙ sym (combination-on-information l b x e fits below s)
+      ∙ valueOf-zeros K n (combination c l x) (pow (stretch l b e)) zeros))
+      r inside
 
   -- A combination with any nonzero information symbol has more than n - (l+1)k, so at least d_l, nonzero symbols.
   pub combination-weight : (l : ℕ) (x : ℕ → ℕ → F) → (l + 1) * k ≤ n → (b r : ℕ) → b ≤ l → r < k → (x b r ≡ 𝟘 → ⊥)
@@ -76,9 +76,9 @@ module _ {F : Type 0} (K : Field F) (α : F) (n k m : ℕ) (order : Order (K .op
       at (no d) =
           absurd (nonzero (combination-injective l x fits
           (zero-of-vanishing K n α order 0 (n - (l + 1) * k) (combination c l x)
-            (λ s h. let same : 0 + s ≡ s = omega arith in
-              ap (λ (t : ℕ). valueOf (K .ops) n (combination c l x) (pow t)) same ∙ combination-vanishes K α n k m l x s fits h)
-            (omega arith))
+          (λ s h. let same : 0 + s ≡ s = omega arith in
+          ap (λ (t : ℕ). valueOf (K .ops) n (combination c l x) (pow t)) same ∙ combination-vanishes K α n k m l x s fits h)
+          (omega arith))
           b r below inside))
 
   part-step : (x p v : F) → x ⊗ p ⊗ v ≡ v ⊗ p ⊗ x
@@ -92,8 +92,8 @@ module _ {F : Type 0} (K : Field F) (α : F) (n k m : ℕ) (order : Order (K .op
       ∙ mul-comm K (sum (K .ops) k (λ a. x a ⊗ power (K .ops) (pow (n - k + e)) a)) v
       ∙ sym (sum-scale K k v (λ a. x a ⊗ power (K .ops) (pow (n - k + e)) a))
       ∙ sum-ext (K .ops) k (λ a. v ⊗ (x a ⊗ power (K .ops) (pow (n - k + e)) a)) (λ a. v ⊗ pow ((n - k + e) * a) ⊗ x a)
-        (λ a l. mul-comm K v (x a ⊗ power (K .ops) (pow (n - k + e)) a) ∙ part-step (x a) (power (K .ops) (pow (n - k + e)) a) v
-          ∙ ap (λ (t : F). v ⊗ t ⊗ x a) (power-power K α (n - k + e) a))
+      (λ a l. mul-comm K v (x a ⊗ power (K .ops) (pow (n - k + e)) a) ∙ part-step (x a) (power (K .ops) (pow (n - k + e)) a) v
+      ∙ ap (λ (t : F). v ⊗ t ⊗ x a) (power-power K α (n - k + e) a))
     where
       v : F
       v = value (K .ops) (base c) (pow (n - k + e))
@@ -103,13 +103,13 @@ module _ {F : Type 0} (K : Field F) (α : F) (n k m : ℕ) (order : Order (K .op
       → (x : ℕ → F) (a : ℕ) → a < k → sum (K .ops) k (λ e. P a e ⊗ sum (K .ops) k (λ b. Q e b ⊗ x b)) ≡ x a
   undo P Q same x a l =
       sum-ext (K .ops) k (λ e. P a e ⊗ sum (K .ops) k (λ b. Q e b ⊗ x b)) (λ e. sum (K .ops) k (λ b. P a e ⊗ (Q e b ⊗ x b)))
-        (λ e s. sym (sum-scale K k (P a e) (λ b. Q e b ⊗ x b)))
+      (λ e s. sym (sum-scale K k (P a e) (λ b. Q e b ⊗ x b)))
       ∙ sum-exchange K k k (λ e b. P a e ⊗ (Q e b ⊗ x b))
       ∙ sum-ext (K .ops) k (λ b. sum (K .ops) k (λ e. P a e ⊗ (Q e b ⊗ x b))) (λ b. x b ⊗ identity (K .ops) a b)
-        (λ b s. sum-ext (K .ops) k (λ e. P a e ⊗ (Q e b ⊗ x b)) (λ e. x b ⊗ (P a e ⊗ Q e b)) (λ e u. simp ring)
-          ∙ sum-scale K k (x b) (λ e. P a e ⊗ Q e b) ∙ ap (λ (t : F). x b ⊗ t) (same a b l s))
+      (λ b s. sum-ext (K .ops) k (λ e. P a e ⊗ (Q e b ⊗ x b)) (λ e. x b ⊗ (P a e ⊗ Q e b)) (λ e u. simp ring)
+      ∙ sum-scale K k (x b) (λ e. P a e ⊗ Q e b) ∙ ap (λ (t : F). x b ⊗ t) (same a b l s))
       ∙ sum-single K k a (λ b. x b ⊗ identity (K .ops) a b) l
-        (λ b s d. ap (λ (t : Bool). x b ⊗ pick t 𝟙 𝟘) (ne-eqb a b (λ e. d (sym e))) ∙ mul-zero K (x b))
+      (λ b s d. ap (λ (t : Bool). x b ⊗ pick t 𝟙 𝟘) (ne-eqb a b (λ e. d (sym e))) ∙ mul-zero K (x b))
       ∙ ap (λ (t : Bool). x a ⊗ pick t 𝟙 𝟘) (eq-eqb a a refl) ∙ mul-comm K (x a) 𝟙 ∙ one-mul K (x a)
 
   module _ (M : ℕ → ℕ → F) (inverse : Inverses c M) where
@@ -123,8 +123,8 @@ module _ {F : Type 0} (K : Field F) (α : F) (n k m : ℕ) (order : Order (K .op
         → (b a : ℕ) → b ≤ l → a < k → informationOf l spectrum b a ≡ x b a
     information-of-spectrum l x fits spectrum same b a below inside =
         sum-ext (K .ops) k (λ e. M a e ⊗ spectrum (stretch l b e)) (λ e. M a e ⊗ sum (K .ops) k (λ d. evaluation c e d ⊗ x b d))
-          (λ e s. ap (λ (t : F). M a e ⊗ t)
-            (same (stretch l b e) (in-block e s) ∙ combination-on-information l b x e fits below s ∙ part-is-evaluation (x b) e))
+        (λ e s. ap (λ (t : F). M a e ⊗ t)
+        (same (stretch l b e) (in-block e s) ∙ combination-on-information l b x e fits below s ∙ part-is-evaluation (x b) e))
         ∙ undo M (evaluation c) (inverse .left) (x b) a inside
       where
         in-block : (e : ℕ) → e < k → stretch l b e < n
@@ -150,6 +150,7 @@ module _ {F : Type 0} (K : Field F) (α : F) (n k m : ℕ) (order : Order (K .op
       where
         x : ℕ → ℕ → F
         x = informationOf l (λ s. valueOf (K .ops) n b (pow s))
+
         high : (s : ℕ) → s < n → (j : ℕ) × (j ≤ l) × (n ≤ s + (j + 1) * k) × (s + j * k < n)
             → valueOf (K .ops) n (combination c l x) (pow s) ≡ valueOf (K .ops) n b (pow s)
         high s h w =
@@ -168,6 +169,7 @@ module _ {F : Type 0} (K : Field F) (α : F) (n k m : ℕ) (order : Order (K .op
             ∙ part-is-evaluation (x (l - w .0)) e
             ∙ undo (evaluation c) M (inverse .right) (λ d. valueOf (K .ops) n b (pow (stretch l (l - w .0) d))) e inside
             ∙ ap (λ (t : ℕ). valueOf (K .ops) n b (pow t)) at-place
+
         at : (s : ℕ) → s < n → Dec (s < n - (l + 1) * k) → valueOf (K .ops) n (combination c l x) (pow s) ≡ valueOf (K .ops) n b (pow s)
         at s h (yes low) = combination-vanishes K α n k m l x s fits low ∙ sym (vanishes s low)
         at s h (no d) = high s h (on-stretch l s (omega arith) h)

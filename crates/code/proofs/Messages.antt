@@ -44,13 +44,13 @@ module _ (p : Setting) (S : Sound p) (T : ℕ) (x y : List ℕ) (X : Message p T
   both-near : (w : List ℕ) (j : ℕ) → j < T
       → windowDistance p w (transmission p x) j ≤ limit (p .n) (p .k) (p .m) → windowDistance p w (transmission p y) j ≤ limit (p .n) (p .k) (p .m)
       → costTo (p .n) (byteCost p S) (view (p .n) w) (sentSymbol (overField p S) (lifted p S (view (p .k) x))) j (p .m)
-        + costTo (p .n) (byteCost p S) (view (p .n) w) (sentSymbol (overField p S) (lifted p S (view (p .k) y))) j (p .m)
-        < 2 * distancesTo (p .n) (p .k) (p .m)
+      + costTo (p .n) (byteCost p S) (view (p .n) w) (sentSymbol (overField p S) (lifted p S (view (p .k) y))) j (p .m)
+      < 2 * distancesTo (p .n) (p .k) (p .m)
   both-near w j l near-x near-y =
       subst (λ (t : ℕ). t < 2 * distancesTo (p .n) (p .k) (p .m))
-        (ap₂ _+_ (window-cost p S T w x X j l) (window-cost p S T w y Y j l))
+      (ap₂ _+_ (window-cost p S T w x X j l) (window-cost p S T w y Y j l))
       (within-limit (windowDistance p w (transmission p x) j) (windowDistance p w (transmission p y) j) (distancesTo (p .n) (p .k) (p .m))
-        (distances-positive (p .n) (p .k) (p .m)) near-x near-y)
+      (distances-positive (p .n) (p .k) (p .m)) near-x near-y)
 
   -- Window j near both, and blocks before j equal: block j is equal.
   pub block-determined : (w : List ℕ) (j : ℕ) → j < T → ((i : ℕ) → i < j * p .k → getD x i 0 ≡ getD y i 0)
@@ -60,9 +60,9 @@ module _ (p : Setting) (S : Sound p) (T : ℕ) (x y : List ℕ) (X : Message p T
       let m-le : p .m ≤ p .m = omega arith in
       same-number j r
       (block-certain (fieldOf p S) (rootOf p S) (p .n) (p .k) (p .m) (orderAt p S) (S .room) (byteCost p S) (bytes-apart p S)
-        (lifted p S (view (p .k) x)) (lifted p S (view (p .k) y)) (view (p .n) w) j (p .m) m-le
-        (λ s t u v. lifted-same p S (view (p .k) x) (view (p .k) y) s t (agree (s * p .k + t) (digits-lt u v)))
-        (both-near w j l near-x near-y) r h)
+      (lifted p S (view (p .k) x)) (lifted p S (view (p .k) y)) (view (p .n) w) j (p .m) m-le
+      (λ s t u v. lifted-same p S (view (p .k) x) (view (p .k) y) s t (agree (s * p .k + t) (digits-lt u v)))
+      (both-near w j l near-x near-y) r h)
 
   -- Windows before j near both: the blocks before j are equal.
   pub messages-agree : (w : List ℕ) (j : ℕ) → j ≤ T
@@ -74,14 +74,14 @@ module _ (p : Setting) (S : Sound p) (T : ℕ) (x y : List ℕ) (X : Message p T
       subst (λ (t : ℕ). getD x t 0 ≡ getD y t 0) (at .2)
       (same-number (i / p .k) (i % p .k)
       (agree-through (fieldOf p S) (rootOf p S) (p .n) (p .k) (p .m) (orderAt p S) (S .room) (byteCost p S) (bytes-apart p S)
-        (lifted p S (view (p .k) x)) (lifted p S (view (p .k) y)) (view (p .n) w) j
-        (λ b u. both-near w b (omega arith) (near-x b u) (near-y b u)) (i / p .k) (i % p .k) (at .0) (at .1)))
+      (lifted p S (view (p .k) x)) (lifted p S (view (p .k) y)) (view (p .n) w) j
+      (λ b u. both-near w b (omega arith) (near-x b u) (near-y b u)) (i / p .k) (i % p .k) (at .0) (at .1)))
 
 -- Receptions alike through the end of window j: the windows up to j differ as much from any frame.
 pub alike-window : (p : Setting) (v w a : List ℕ) (j i : ℕ) → take ((j + p .m + 1) * p .n) v ≡ take ((j + p .m + 1) * p .n) w → i ≤ j
     → windowDistance p v a i ≡ windowDistance p w a i
 alike-window p v w a j i alike l =
     countOf-ext (windowLength p) (λ s. not (eqb (getD v (i * p .n + s) 0) (getD a (i * p .n + s) 0)))
-      (λ s. not (eqb (getD w (i * p .n + s) 0) (getD a (i * p .n + s) 0)))
-      (λ s h. ap (λ (t : ℕ). not (eqb t (getD a (i * p .n + s) 0)))
-        (equal-part v w ((j + p .m + 1) * p .n) alike (i * p .n + s) (omega (arith, mul-le-mul-right (p .n) l))))
+    (λ s. not (eqb (getD w (i * p .n + s) 0) (getD a (i * p .n + s) 0)))
+    (λ s h. ap (λ (t : ℕ). not (eqb t (getD a (i * p .n + s) 0)))
+    (equal-part v w ((j + p .m + 1) * p .n) alike (i * p .n + s) (omega (arith, mul-le-mul-right (p .n) l))))

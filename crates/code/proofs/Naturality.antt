@@ -43,24 +43,24 @@ module _ {F G : Type 0} (c : Code F) (p : Ops G) (h : F → G) (H : Homomorphism
   rowSymbol-natural j r i =
       H .on-mul (getD (replicate r (c .ops .zero) ++ base c) i (c .ops .zero)) (power (c .ops) (c .α) (j * c .k * i))
       ∙ ap₂ (p .mul)
-        (sym (List·getD-map h (replicate r (c .ops .zero) ++ base c) i (c .ops .zero))
-        ∙ ap₂ (λ (l : List G) (z : G). getD l i z)
-          (map-append h (replicate r (c .ops .zero)) (base c) ∙ ap₂ _++_ (map-replicate h r (c .ops .zero) ∙ ap (replicate r) (H .on-zero)) base-natural)
-          (H .on-zero))
-        (power-natural (c .ops) p h H (c .α) (j * c .k * i))
+      (sym (List·getD-map h (replicate r (c .ops .zero) ++ base c) i (c .ops .zero))
+      ∙ ap₂ (λ (l : List G) (z : G). getD l i z)
+      (map-append h (replicate r (c .ops .zero)) (base c) ∙ ap₂ _++_ (map-replicate h r (c .ops .zero) ∙ ap (replicate r) (H .on-zero)) base-natural)
+      (H .on-zero))
+      (power-natural (c .ops) p h H (c .α) (j * c .k * i))
 
   pub timesG-natural : (x : ℕ → F) (j i : ℕ) → h (timesG c x j i) ≡ timesG (mapped c p h) (λ r. h (x r)) j i
   unfolding timesG
   timesG-natural x j i =
       sum-natural (c .ops) p h H (c .k) (λ r. c .ops .mul (x r) (rowSymbol c j r i))
       ∙ sum-ext p (c .k) (λ r. h (c .ops .mul (x r) (rowSymbol c j r i))) (λ r. p .mul (h (x r)) (rowSymbol (mapped c p h) j r i))
-        (λ r l. H .on-mul (x r) (rowSymbol c j r i) ∙ ap (p .mul (h (x r))) (rowSymbol-natural j r i))
+      (λ r l. H .on-mul (x r) (rowSymbol c j r i) ∙ ap (p .mul (h (x r))) (rowSymbol-natural j r i))
 
   pub timesG-same : (x y : ℕ → G) (j i : ℕ) → ((r : ℕ) → x r ≡ y r) → timesG (mapped c p h) x j i ≡ timesG (mapped c p h) y j i
   unfolding timesG
   timesG-same x y j i same =
       sum-ext p (c .k) (λ r. p .mul (x r) (rowSymbol (mapped c p h) j r i)) (λ r. p .mul (y r) (rowSymbol (mapped c p h) j r i))
-        (λ r l. ap (λ t. p .mul t (rowSymbol (mapped c p h) j r i)) (same r))
+      (λ r l. ap (λ t. p .mul t (rowSymbol (mapped c p h) j r i)) (same r))
 
   earlier-natural : (u : ℕ → ℕ → F) (s j r : ℕ) → h (earlier (c .ops) u s j r) ≡ earlier p (λ b t. h (u b t)) s j r
   earlier-natural u s j r = at (leb j s)
@@ -74,21 +74,21 @@ module _ {F G : Type 0} (c : Code F) (p : Ops G) (h : F → G) (H : Homomorphism
   sentSymbol-natural u s i =
       sum-natural (c .ops) p h H (suc (c .m)) (λ j. timesG c (earlier (c .ops) u s j) j i)
       ∙ sum-ext p (suc (c .m)) (λ j. h (timesG c (earlier (c .ops) u s j) j i)) (λ j. timesG (mapped c p h) (earlier p (λ b r. h (u b r)) s j) j i)
-        (λ j l. timesG-natural (earlier (c .ops) u s j) j i
-          ∙ timesG-same (λ r. h (earlier (c .ops) u s j r)) (earlier p (λ b r. h (u b r)) s j) j i (λ r. earlier-natural u s j r))
+      (λ j l. timesG-natural (earlier (c .ops) u s j) j i
+      ∙ timesG-same (λ r. h (earlier (c .ops) u s j r)) (earlier p (λ b r. h (u b r)) s j) j i (λ r. earlier-natural u s j r))
 
   pub combination-natural : (l : ℕ) (x : ℕ → ℕ → F) (i : ℕ) → h (combination c l x i) ≡ combination (mapped c p h) l (λ b r. h (x b r)) i
   unfolding combination
   combination-natural l x i =
       sum-natural (c .ops) p h H (suc l) (λ j. timesG c (x (l - j)) j i)
       ∙ sum-ext p (suc l) (λ j. h (timesG c (x (l - j)) j i)) (λ j. timesG (mapped c p h) (λ r. h (x (l - j) r)) j i)
-        (λ j s. timesG-natural (x (l - j)) j i)
+      (λ j s. timesG-natural (x (l - j)) j i)
 
   pub evaluation-natural : (e a : ℕ) → h (evaluation c e a) ≡ evaluation (mapped c p h) e a
   unfolding evaluation
   evaluation-natural e a =
       H .on-mul (value (c .ops) (base c) (power (c .ops) (c .α) (c .n - c .k + e))) (power (c .ops) (c .α) ((c .n - c .k + e) * a))
       ∙ ap₂ (p .mul)
-        (value-natural (c .ops) p h H (base c) (power (c .ops) (c .α) (c .n - c .k + e))
-        ∙ ap₂ (value p) base-natural (power-natural (c .ops) p h H (c .α) (c .n - c .k + e)))
-        (power-natural (c .ops) p h H (c .α) ((c .n - c .k + e) * a))
+      (value-natural (c .ops) p h H (base c) (power (c .ops) (c .α) (c .n - c .k + e))
+      ∙ ap₂ (value p) base-natural (power-natural (c .ops) p h H (c .α) (c .n - c .k + e)))
+      (power-natural (c .ops) p h H (c .α) ((c .n - c .k + e) * a))

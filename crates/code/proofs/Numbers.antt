@@ -143,16 +143,18 @@ module _ (p : Setting) (S : Sound p) where
       ∙ total-blocks (p .m + 1) (p .n) (λ i. 2 * differ i)
       ∙ ap (λ (t : ℕ). total t (λ s. total (p .n) (λ i. 2 * differ (s * p .n + i)))) (add-one (p .m))
       ∙ total-ext (suc (p .m)) (λ s. total (p .n) (λ i. 2 * differ (s * p .n + i))) (λ s. total (p .n) (λ i. byteCost (view (p .n) w (j + s) i) (sent (j + s) i)))
-        (λ s h. total-ext (p .n) (λ i. 2 * differ (s * p .n + i)) (λ i. byteCost (view (p .n) w (j + s) i) (sent (j + s) i))
-          (λ i u. symbol s i (omega arith) u))
+      (λ s h. total-ext (p .n) (λ i. 2 * differ (s * p .n + i)) (λ i. byteCost (view (p .n) w (j + s) i) (sent (j + s) i))
+      (λ i u. symbol s i (omega arith) u))
     where
       differ : ℕ → ℕ
       differ i = pick (not (eqb (getD w (j * p .n + i) 0) (getD (transmission p x) (j * p .n + i) 0))) 1 0
+
       sent : ℕ → ℕ → Below (p .q)
       sent = sentSymbol overField (lifted (view (p .k) x))
+
       symbol : (s i : ℕ) → j + s < T + p .m → i < p .n → 2 * differ (s * p .n + i) ≡ byteCost (view (p .n) w (j + s) i) (sent (j + s) i)
       symbol s i h u =
           let place : j * p .n + (s * p .n + i) ≡ (j + s) * p .n + i = omega arith in
           ap (λ (t : ℕ). 2 * pick (not (eqb (getD w t 0) (getD (transmission p x) t 0))) 1 0) place
           ∙ ap (λ (t : ℕ). 2 * pick (not (eqb (view (p .n) w (j + s) i) t)) 1 0)
-            (transmission-view T x M (j + s) i h u ∙ sym (sent-number (view (p .k) x) (message-below T x M) (j + s) i))
+          (transmission-view T x M (j + s) i h u ∙ sym (sent-number (view (p .k) x) (message-below T x M) (j + s) i))

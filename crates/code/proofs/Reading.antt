@@ -49,8 +49,8 @@ module _ (p : Setting) (S : Sound p) where
   element-shift v a s =
       ap (λ (t : Bool). 2 * pick (not t) 1 0)
       (same-test (number (sub (fieldOf p S .ops) v s)) (number (sub (fieldOf p S .ops) a s)) (number v) (number a)
-        (λ e. ap number (back (number-injective _ _ e)))
-        (λ e. ap (λ (t : Element (p .q)). number (sub (fieldOf p S .ops) t s)) (number-injective v a e)))
+      (λ e. ap number (back (number-injective _ _ e)))
+      (λ e. ap (λ (t : Element (p .q)). number (sub (fieldOf p S .ops) t s)) (number-injective v a e)))
     where
       back : sub (fieldOf p S .ops) v s ≡ sub (fieldOf p S .ops) a s → v ≡ a
       back e =
@@ -70,7 +70,7 @@ module _ (p : Setting) (S : Sound p) where
     block-cost y Y s l =
         sym (total-scale (p .n) 2 (λ i. pick (not (eqb (view (p .n) window s i) (combination (codeOf p) l y i))) 1 0))
         ∙ total-ext (p .n) _ _ (λ i h. sym (ap₂ (λ (a b : ℕ). 2 * pick (not (eqb a b)) 1 0)
-            (number-lifted p S (view (p .n) window) s i (below (s * p .n + i))) (combination-number p S y Y l i)))
+        (number-lifted p S (view (p .n) window) s i (below (s * p .n + i))) (combination-number p S y Y l i)))
 
     pub rebuilt-cost : (y : ℕ → ℕ → ℕ) → Below (p .q) y → (l : ℕ)
         → 2 * rebuiltDistance p window l y ≡ rebuiltCost (overField p S) elementCost w 0 (lifted p S y) l
@@ -78,7 +78,7 @@ module _ (p : Setting) (S : Sound p) where
     rebuilt-cost y Y l =
         sym (total-scale (suc l) 2 (λ s. blockDistance p (view (p .n) window s) s y))
         ∙ total-ext (suc l) _ _ (λ s h. let same : s ≡ 0 + s = omega arith in
-            block-cost y Y s s ∙ ap (λ (a : ℕ). blockCost (overField p S) elementCost (w a) s (lifted p S y)) same)
+        block-cost y Y s s ∙ ap (λ (a : ℕ). blockCost (overField p S) elementCost (w a) s (lifted p S y)) same)
 
     zero-cost : 2 * windowWeight p window ≡ costTo (p .n) elementCost w (λ s i. fieldOf p S .ops .zero) 0 (p .m)
     unfolding costTo elementCost byteCost
@@ -87,9 +87,9 @@ module _ (p : Setting) (S : Sound p) where
         ∙ total-blocks (p .m + 1) (p .n) (λ i. 2 * pick (not (eqb (getD window i 0) 0)) 1 0)
         ∙ ap (λ (t : ℕ). total t (λ s. total (p .n) (λ i. 2 * pick (not (eqb (view (p .n) window s i) 0)) 1 0))) (add-one (p .m))
         ∙ total-ext (suc (p .m)) _ _ (λ s h. total-ext (p .n) _ _ (λ i u. let same : s ≡ 0 + s = omega arith in
-            ap₂ (λ (a b : ℕ). 2 * pick (not (eqb a b)) 1 0)
-              (sym (number-lifted p S (view (p .n) window) s i (below (s * p .n + i))) ∙ ap (λ (a : ℕ). number (lifted p S (view (p .n) window) a i)) same)
-              (sym number-zero)))
+        ap₂ (λ (a b : ℕ). 2 * pick (not (eqb a b)) 1 0)
+        (sym (number-lifted p S (view (p .n) window) s i (below (s * p .n + i))) ∙ ap (λ (a : ℕ). number (lifted p S (view (p .n) window) a i)) same)
+        (sym number-zero)))
 
     -- A window with few nonzero symbols: every near y has a zero first block.
     pub first-zero : (y : ℕ → ℕ → ℕ) → Below (p .q) y → 2 * rebuiltDistance p window (p .m) y < distancesTo (p .n) (p .k) (p .m)
@@ -97,8 +97,8 @@ module _ (p : Setting) (S : Sound p) where
     first-zero y Y near clean r l =
         sym (number-lifted p S y 0 r (Y 0 r))
         ∙ ap number (turn-zero (fieldOf p S) (rootOf p S) (p .n) (p .k) (p .m) elementCost element-shift (orderAt p S) (S .room) elements-apart w (lifted p S y)
-            (subst (λ (t : ℕ). t < distancesTo (p .n) (p .k) (p .m)) (rebuilt-cost y Y (p .m)) near)
-            (subst (λ (t : ℕ). t < distancesTo (p .n) (p .k) (p .m)) zero-cost clean) r l)
+        (subst (λ (t : ℕ). t < distancesTo (p .n) (p .k) (p .m)) (rebuilt-cost y Y (p .m)) near)
+        (subst (λ (t : ℕ). t < distancesTo (p .n) (p .k) (p .m)) zero-cost clean) r l)
         ∙ number-zero
 
     -- Two sequences near blocks 0 .. l have the same first block.
@@ -108,9 +108,9 @@ module _ (p : Setting) (S : Sound p) where
     first-certain y z Y Z l low near good r h =
         sym (number-lifted p S y 0 r (Y 0 r))
         ∙ ap number (turn-certain (fieldOf p S) (rootOf p S) (p .n) (p .k) (p .m) elementCost element-shift (orderAt p S) (S .room) elements-apart w
-            (lifted p S y) (lifted p S z) l low
-            (subst (λ (t : ℕ). t < distancesTo (p .n) (p .k) l) (rebuilt-cost y Y l) near)
-            (subst (λ (t : ℕ). t < distancesTo (p .n) (p .k) l) (rebuilt-cost z Z l) good) r h)
+        (lifted p S y) (lifted p S z) l low
+        (subst (λ (t : ℕ). t < distancesTo (p .n) (p .k) l) (rebuilt-cost y Y l) near)
+        (subst (λ (t : ℕ). t < distancesTo (p .n) (p .k) l) (rebuilt-cost z Z l) good) r h)
         ∙ number-lifted p S z 0 r (Z 0 r)
 
     -- A candidate z of level l that is refused: block l of every near y costs at least d_l.
@@ -121,10 +121,10 @@ module _ (p : Setting) (S : Sound p) where
     level-refused y z Y Z l low near close bad =
         subst (λ (t : ℕ). levelDistance (p .n) (p .k) l ≤ t) (sym (block-cost y Y l l))
         (turn-refused (fieldOf p S) (rootOf p S) (p .n) (p .k) (p .m) elementCost element-shift (orderAt p S) (S .room) elements-apart w
-          (lifted p S y) (lifted p S z) l low
-          (subst (λ (t : ℕ). t < distancesTo (p .n) (p .k) l) (rebuilt-cost y Y l) near)
-          (subst (λ (t : ℕ). t < levelDistance (p .n) (p .k) l) (block-cost z Z l l) close)
-          (subst (λ (t : ℕ). distancesTo (p .n) (p .k) l ≤ t) (rebuilt-cost z Z l) bad))
+        (lifted p S y) (lifted p S z) l low
+        (subst (λ (t : ℕ). t < distancesTo (p .n) (p .k) l) (rebuilt-cost y Y l) near)
+        (subst (λ (t : ℕ). t < levelDistance (p .n) (p .k) l) (block-cost z Z l l) close)
+        (subst (λ (t : ℕ). distancesTo (p .n) (p .k) l ≤ t) (rebuilt-cost z Z l) bad))
 
   -- After a refused level the blocks below it are near..
   pub level-drops : (window : List ℕ) (y : ℕ → ℕ → ℕ) (l : ℕ) → 2 * rebuiltDistance p window (suc l) y < distancesTo (p .n) (p .k) (suc l)

@@ -44,7 +44,7 @@ module _ (p : Setting) (S : Sound p) where
   unfolding sentSymbol
   sent-ext u v same s i =
       sum-ext (fieldOf p S .ops) (suc (p .m)) _ _ (λ j h. timesG-ext (fieldOf p S) (rootOf p S) (p .n) (p .k) (p .m)
-        (earlier (fieldOf p S .ops) u s j) (earlier (fieldOf p S .ops) v s j) j i (λ r l. at (leb j s) j r l))
+      (earlier (fieldOf p S .ops) u s j) (earlier (fieldOf p S .ops) v s j) j i (λ r l. at (leb j s) j r l))
     where
       at : (b : Bool) (j r : ℕ) → r < p .k → pick b (u (s - j) r) (fieldOf p S .ops .zero) ≡ pick b (v (s - j) r) (fieldOf p S .ops .zero)
       at true j r l = same (s - j) r l
@@ -56,18 +56,20 @@ module _ (p : Setting) (S : Sound p) where
   timesG-only r v j i l below =
       sym (timesG-number p S (only r v) (λ a. at-below (eqb a r)) j i)
       ∙ ap number (sum-single (fieldOf p S) (p .k) r terms l (λ a h d.
-          ap (λ (t : Bool). fieldOf p S .ops .mul (element (p .q) (positive p S) (pick t v 0)) (rowSymbol (overField p S) j a i)) (ne-eqb a r d)
-          ∙ ap (λ (t : Element (p .q)). fieldOf p S .ops .mul t (rowSymbol (overField p S) j a i)) zero-element
-          ∙ zero-mul (fieldOf p S) (rowSymbol (overField p S) j a i)))
+      ap (λ (t : Bool). fieldOf p S .ops .mul (element (p .q) (positive p S) (pick t v 0)) (rowSymbol (overField p S) j a i)) (ne-eqb a r d)
+      ∙ ap (λ (t : Element (p .q)). fieldOf p S .ops .mul t (rowSymbol (overField p S) j a i)) zero-element
+      ∙ zero-mul (fieldOf p S) (rowSymbol (overField p S) j a i)))
       ∙ keeps p S .on-mul (element (p .q) (positive p S) (only r v r)) (rowSymbol (overField p S) j r i)
       ∙ ap₂ (opsOf (p .q) .mul)
-        (ap (λ (t : Bool). number (element (p .q) (positive p S) (pick t v 0))) (eq-eqb r r refl) ∙ number-element (p .q) (positive p S) v below)
-        (rowSymbol-number p S j r i)
+      (ap (λ (t : Bool). number (element (p .q) (positive p S) (pick t v 0))) (eq-eqb r r refl) ∙ number-element (p .q) (positive p S) v below)
+      (rowSymbol-number p S j r i)
     where
       terms : ℕ → Element (p .q)
       terms a = fieldOf p S .ops .mul (element (p .q) (positive p S) (only r v a)) (rowSymbol (overField p S) j a i)
+
       zero-element : element (p .q) (positive p S) 0 ≡ fieldOf p S .ops .zero
       zero-element = number-injective _ _ (number-element (p .q) (positive p S) 0 (positive p S) ∙ sym (number-zero p S))
+
       at-below : (t : Bool) → pick t v 0 < p .q
       at-below true = below
       at-below false = positive p S
@@ -81,7 +83,6 @@ module _ (p : Setting) (S : Sound p) where
       (H : (i : ℕ) → getD h i 0 < p .q) (residual : Residual p T reception g left) (x : ℕ → ℕ) (X : (r : ℕ) → x r < p .q) (j : ℕ)
       (placed : (r : ℕ) → r < p .k → view (p .k) h j r ≡ opsOf (p .q) .add (view (p .k) g j r) (x r))
       (others : (s r : ℕ) → (s ≡ j → ⊥) → r < p .k → view (p .k) h s r ≡ view (p .k) g s r) where
-
     x' : ℕ → Element (p .q)
     x' r = element (p .q) (positive p S) (x r)
 
@@ -92,23 +93,26 @@ module _ (p : Setting) (S : Sound p) where
       where
         zero : Element (p .q)
         zero = fieldOf p S .ops .zero
+
         element-add : (a b : ℕ) → a < p .q → b < p .q
             → element (p .q) (positive p S) (opsOf (p .q) .add a b) ≡ fieldOf p S .ops .add (element (p .q) (positive p S) a) (element (p .q) (positive p S) b)
         element-add a b la lb =
             number-injective _ _
             (number-element (p .q) (positive p S) (opsOf (p .q) .add a b) (laws p S .add-below a b la lb)
             ∙ sym (keeps p S .on-add (element (p .q) (positive p S) a) (element (p .q) (positive p S) b)
-              ∙ ap₂ (opsOf (p .q) .add) (number-element (p .q) (positive p S) a la) (number-element (p .q) (positive p S) b lb)))
+            ∙ ap₂ (opsOf (p .q) .add) (number-element (p .q) (positive p S) a la) (number-element (p .q) (positive p S) b lb)))
+
         take-away : (a b : Element (p .q)) → sub (fieldOf p S .ops) (fieldOf p S .ops .add a b) a ≡ b
         take-away a b =
             ap (λ (t : Element (p .q)). fieldOf p S .ops .add t (fieldOf p S .ops .neg a)) (add-comm (fieldOf p S) a b)
             ∙ add-assoc (fieldOf p S) b a (fieldOf p S .ops .neg a)
             ∙ ap (fieldOf p S .ops .add b) (add-neg (fieldOf p S) a)
             ∙ add-zero (fieldOf p S) b
+
         at : Dec (s ≡ j) → sub (fieldOf p S .ops) (element (p .q) (positive p S) (view (p .k) h s r)) (element (p .q) (positive p S) (view (p .k) g s r)) ≡ pick (eqb s j) (x' r) zero
         at (yes e) =
             ap₂ (λ (a b : ℕ). sub (fieldOf p S .ops) (element (p .q) (positive p S) a) (element (p .q) (positive p S) b))
-              (ap (λ (t : ℕ). view (p .k) h t r) e ∙ placed r l) (ap (λ (t : ℕ). view (p .k) g t r) e)
+            (ap (λ (t : ℕ). view (p .k) h t r) e ∙ placed r l) (ap (λ (t : ℕ). view (p .k) g t r) e)
             ∙ ap (λ (t : Element (p .q)). sub (fieldOf p S .ops) t (element (p .q) (positive p S) (view (p .k) g j r))) (element-add (view (p .k) g j r) (x r) (G (j * p .k + r)) (X r))
             ∙ take-away (element (p .q) (positive p S) (view (p .k) g j r)) (x' r)
             ∙ sym (ap (λ (t : Bool). pick t (x' r) zero) (eq-eqb s j e))
@@ -119,7 +123,7 @@ module _ (p : Setting) (S : Sound p) where
 
     sent-less : (s i : ℕ)
         → sub (fieldOf p S .ops) (sentSymbol (overField p S) (lifted p S (view (p .k) h)) s i) (sentSymbol (overField p S) (lifted p S (view (p .k) g)) s i)
-          ≡ contribution (fieldOf p S) (rootOf p S) (p .n) (p .k) (p .m) x' j s i
+        ≡ contribution (fieldOf p S) (rootOf p S) (p .n) (p .k) (p .m) x' j s i
     sent-less s i =
         sent-sub (fieldOf p S) (rootOf p S) (p .n) (p .k) (p .m) (lifted p S (view (p .k) h)) (lifted p S (view (p .k) g)) s i
         ∙ sent-ext _ (single (fieldOf p S) (rootOf p S) (p .n) (p .k) (p .m) x' j) (λ b r l. differs b r l) s i
@@ -133,62 +137,70 @@ module _ (p : Setting) (S : Sound p) where
       where
         zero : Element (p .q)
         zero = fieldOf p S .ops .zero
+
         w' : ℕ → ℕ → Element (p .q)
         w' = lifted p S (view (p .n) reception)
+
         before : ℕ → ℕ → Element (p .q)
         before s i = sub (fieldOf p S .ops) (w' s i) (sentSymbol (overField p S) (lifted p S (view (p .k) g)) s i)
+
         whole : (s i : ℕ) → sub (opsOf (p .q)) (view (p .n) reception s i) (sentSymbol (codeOf p) (view (p .k) h) s i)
             ≡ number (sub (fieldOf p S .ops) (before s i) (contribution (fieldOf p S) (rootOf p S) (p .n) (p .k) (p .m) x' j s i))
         whole s i =
             sym (number-sub p S (w' s i) (sentSymbol (overField p S) (lifted p S (view (p .k) h)) s i)
-              ∙ ap₂ (sub (opsOf (p .q))) (number-lifted p S (view (p .n) reception) s i (R (s * p .n + i))) (sent-number p S (view (p .k) h) (λ b r. H (b * p .k + r)) s i))
+            ∙ ap₂ (sub (opsOf (p .q))) (number-lifted p S (view (p .n) reception) s i (R (s * p .n + i))) (sent-number p S (view (p .k) h) (λ b r. H (b * p .k + r)) s i))
             ∙ ap (λ (t : Element (p .q)). number (sub (fieldOf p S .ops) (w' s i) t)) (add-of-sub (fieldOf p S) _ _ _ (sent-less s i))
             ∙ ap number (sub-add (fieldOf p S) (w' s i) (sentSymbol (overField p S) (lifted p S (view (p .k) g)) s i) (contribution (fieldOf p S) (rootOf p S) (p .n) (p .k) (p .m) x' j s i))
+
         number-before : (s i : ℕ) → s < T + p .m → i < p .n → number (before s i) ≡ view (p .n) left s i
         number-before s i l u =
             number-sub p S (w' s i) (sentSymbol (overField p S) (lifted p S (view (p .k) g)) s i)
             ∙ ap₂ (sub (opsOf (p .q))) (number-lifted p S (view (p .n) reception) s i (R (s * p .n + i))) (sent-number p S (view (p .k) g) (λ b r. G (b * p .k + r)) s i)
             ∙ sym (residual .symbol s i l u)
+
         unchanged : (s i : ℕ) → s < T + p .m → i < p .n → view (p .n) left s i ≡ number (sub (fieldOf p S .ops) (before s i) zero)
         unchanged s i l u =
             sym (number-before s i l u) ∙ ap number (sym (ap (fieldOf p S .ops .add (before s i)) (neg-zero (fieldOf p S)) ∙ add-zero (fieldOf p S) (before s i)))
+
         at : (s i : ℕ) → s < T + p .m → i < p .n → Dec (j ≤ s) → Dec (s - j ≤ p .m)
             → lessened left x j s i ≡ number (sub (fieldOf p S .ops) (before s i) (contribution (fieldOf p S) (rootOf p S) (p .n) (p .k) (p .m) x' j s i))
         at s i l u (yes a) (yes b) =
             ap₂ (λ (c d : Bool). pick c (pick d (sub (opsOf (p .q)) (view (p .n) left s i) (timesG (codeOf p) x (s - j) i)) (view (p .n) left s i)) (view (p .n) left s i))
-              (le-leb j s a) (le-leb (s - j) (p .m) b)
+            (le-leb j s a) (le-leb (s - j) (p .m) b)
             ∙ sym (ap₂ (λ (c d : Bool). number (sub (fieldOf p S .ops) (before s i) (pick c (pick d (timesG (overField p S) x' (s - j) i) zero) zero)))
-                (le-leb j s a) (le-leb (s - j) (p .m) b)
-              ∙ number-sub p S (before s i) (timesG (overField p S) x' (s - j) i)
-              ∙ ap₂ (sub (opsOf (p .q))) (number-before s i l u) (timesG-number p S x X (s - j) i))
+            (le-leb j s a) (le-leb (s - j) (p .m) b)
+            ∙ number-sub p S (before s i) (timesG (overField p S) x' (s - j) i)
+            ∙ ap₂ (sub (opsOf (p .q))) (number-before s i l u) (timesG-number p S x X (s - j) i))
         at s i l u (yes a) (no b) =
             let past : p .m < s - j = omega arith in
             ap₂ (λ (c d : Bool). pick c (pick d (sub (opsOf (p .q)) (view (p .n) left s i) (timesG (codeOf p) x (s - j) i)) (view (p .n) left s i)) (view (p .n) left s i))
-              (le-leb j s a) (lt-leb (s - j) (p .m) past)
+            (le-leb j s a) (lt-leb (s - j) (p .m) past)
             ∙ unchanged s i l u
             ∙ sym (ap₂ (λ (c d : Bool). number (sub (fieldOf p S .ops) (before s i) (pick c (pick d (timesG (overField p S) x' (s - j) i) zero) zero)))
-                (le-leb j s a) (lt-leb (s - j) (p .m) past))
+            (le-leb j s a) (lt-leb (s - j) (p .m) past))
         at s i l u (no a) b =
             let past : s < j = omega arith in
             ap (λ (c : Bool). pick c (pick (leb (s - j) (p .m)) (sub (opsOf (p .q)) (view (p .n) left s i) (timesG (codeOf p) x (s - j) i)) (view (p .n) left s i)) (view (p .n) left s i))
-              (lt-leb j s past)
+            (lt-leb j s past)
             ∙ unchanged s i l u
             ∙ sym (ap (λ (c : Bool). number (sub (fieldOf p S .ops) (before s i) (pick c (pick (leb (s - j) (p .m)) (timesG (overField p S) x' (s - j) i) zero) zero)))
-                (lt-leb j s past))
+            (lt-leb j s past))
 
   -- The reception itself is the residual of the zero message.
   pub residual-start : (T : ℕ) (reception g : List ℕ) → ((i : ℕ) → getD reception i 0 < p .q) → ((i : ℕ) → getD g i 0 ≡ 0) → Residual p T reception g reception
   unfolding lifted
   residual-start T reception g R zeros =
-      record { symbol = λ s i l u.
-        let sent : sentSymbol (codeOf p) (view (p .k) g) s i ≡ number (fieldOf p S .ops .zero) =
+      record {
+        symbol = λ s i l u.
+            let sent : sentSymbol (codeOf p) (view (p .k) g) s i ≡ number (fieldOf p S .ops .zero) =
             sym (sent-number p S (view (p .k) g) (λ b r. subst (λ (t : ℕ). t < p .q) (sym (zeros (b * p .k + r))) (positive p S)) s i)
             ∙ ap number (sent-ext (lifted p S (view (p .k) g)) (λ b r. fieldOf p S .ops .zero) (λ b r h. zero-element (b * p .k + r)) s i
-              ∙ sent-zeros (fieldOf p S) (rootOf p S) (p .n) (p .k) (p .m) s i) in
-        sym (ap₂ (sub (opsOf (p .q))) (sym (number-lifted p S (view (p .n) reception) s i (R (s * p .n + i)))) sent
-          ∙ sym (number-sub p S (lifted p S (view (p .n) reception) s i) (fieldOf p S .ops .zero))
-          ∙ ap number (ap (fieldOf p S .ops .add (lifted p S (view (p .n) reception) s i)) (neg-zero (fieldOf p S)) ∙ add-zero (fieldOf p S) (lifted p S (view (p .n) reception) s i))
-          ∙ number-lifted p S (view (p .n) reception) s i (R (s * p .n + i))) }
+            ∙ sent-zeros (fieldOf p S) (rootOf p S) (p .n) (p .k) (p .m) s i) in
+            sym (ap₂ (sub (opsOf (p .q))) (sym (number-lifted p S (view (p .n) reception) s i (R (s * p .n + i)))) sent
+            ∙ sym (number-sub p S (lifted p S (view (p .n) reception) s i) (fieldOf p S .ops .zero))
+            ∙ ap number (ap (fieldOf p S .ops .add (lifted p S (view (p .n) reception) s i)) (neg-zero (fieldOf p S)) ∙ add-zero (fieldOf p S) (lifted p S (view (p .n) reception) s i))
+            ∙ number-lifted p S (view (p .n) reception) s i (R (s * p .n + i)));
+      }
     where
       zero-element : (i : ℕ) → element (p .q) (positive p S) (getD g i 0) ≡ fieldOf p S .ops .zero
       zero-element i =
@@ -232,8 +244,8 @@ module _ (p : Setting) (S : Sound p) where
             → eqb (view (p .n) reception s i) (sentSymbol (codeOf p) (view (p .k) g) s i) ≡ eqb (view (p .n) left s i) 0
         at (yes e) =
             eq-eqb _ _ e ∙ sym (eq-eqb _ _ (sym number-left
-              ∙ (ap (λ (a : Element (p .q)). number (sub (fieldOf p S .ops) a sent)) (number-injective received sent (number-received ∙ e ∙ sym number-sent))
-              ∙ ap number (sub-self (fieldOf p S) sent) ∙ number-zero p S)))
+            ∙ (ap (λ (a : Element (p .q)). number (sub (fieldOf p S .ops) a sent)) (number-injective received sent (number-received ∙ e ∙ sym number-sent))
+            ∙ ap number (sub-self (fieldOf p S) sent) ∙ number-zero p S)))
         at (no d) =
             ne-eqb _ _ d ∙ sym (ne-eqb _ _ (λ z. d (sym number-received
-              ∙ (ap number (eq-of-sub (fieldOf p S) received sent (number-injective _ _ (number-left ∙ z ∙ sym (number-zero p S)))) ∙ number-sent))))
+            ∙ (ap number (eq-of-sub (fieldOf p S) received sent (number-injective _ _ (number-left ∙ z ∙ sym (number-zero p S)))) ∙ number-sent))))

@@ -64,10 +64,13 @@ module _ (p : Setting) (S : Sound p) where
     where
       a' : Element (p .q)
       a' = element (p .q) (positive p S) a
+
       b' : Element (p .q)
       b' = element (p .q) (positive p S) b
+
       same-a : number a' ≡ a
       same-a = number-element (p .q) (positive p S) a la
+
       same-b : number b' ≡ b
       same-b = number-element (p .q) (positive p S) b lb
 
@@ -89,7 +92,7 @@ module _ (p : Setting) (S : Sound p) where
         number-injective _ _
         (number-lifted p S (view (p .n) left) s i (W (s * p .n + i)) ∙ residual .symbol s i l h
         ∙ sym (number-sub (w' s i) (sentSymbol (overField p S) g' s i)
-          ∙ ap₂ (sub (opsOf (p .q))) (number-lifted p S (view (p .n) reception) s i (R (s * p .n + i))) (sent-number p S (view (p .k) g) (λ b r. G (b * p .k + r)) s i)))
+        ∙ ap₂ (sub (opsOf (p .q))) (number-lifted p S (view (p .n) reception) s i (R (s * p .n + i))) (sent-number p S (view (p .k) g) (λ b r. G (b * p .k + r)) s i)))
 
     module _ (x : List ℕ) (X : Message p T x) (j : ℕ) (l : j < T) (agree : (i : ℕ) → i < j * p .k → getD x i 0 ≡ getD g i 0) where
       x' : ℕ → ℕ → Element (p .q)
@@ -101,8 +104,8 @@ module _ (p : Setting) (S : Sound p) where
           number-injective _ _
           (number-lifted p S (ahead p x g j) s r (ahead-below x g j (λ i. message-place i) G s r)
           ∙ sym (number-sub (x' (j + s) r) (g' (j + s) r)
-            ∙ ap₂ (sub (opsOf (p .q))) (number-lifted p S (view (p .k) x) (j + s) r (message-below p S T x X (j + s) r))
-              (number-lifted p S (view (p .k) g) (j + s) r (G ((j + s) * p .k + r)))))
+          ∙ ap₂ (sub (opsOf (p .q))) (number-lifted p S (view (p .k) x) (j + s) r (message-below p S T x X (j + s) r))
+          (number-lifted p S (view (p .k) g) (j + s) r (G ((j + s) * p .k + r)))))
         where
           message-place : (i : ℕ) → getD x i 0 < p .q
           message-place i = symbol-below (p .q) x (X .symbols) (positive p S) i
@@ -115,15 +118,15 @@ module _ (p : Setting) (S : Sound p) where
 
       symbol-cost : (s i : ℕ) → s ≤ p .m → i < p .n
           → elementCost p S (lifted p S (view (p .n) (take (windowLength p) (drop (j * p .n) left))) s i) (combination (overField p S) s (lifted p S (ahead p x g j)) i)
-            ≡ elementCost p S (w' (j + s) i) (sentSymbol (overField p S) x' (j + s) i)
+          ≡ elementCost p S (w' (j + s) i) (sentSymbol (overField p S) x' (j + s) i)
       unfolding lifted
       symbol-cost s i low h =
           ap₂ (elementCost p S)
-            (ap (element (p .q) (positive p S)) (window-view (p .n) (p .m) left j s i low h) ∙ left-element (j + s) i (omega arith) h)
-            (combination-ext (fieldOf p S) (rootOf p S) (p .n) (p .k) (p .m) s (lifted p S (ahead p x g j)) (λ t r. sub (fieldOf p S .ops) (x' (j + t) r) (g' (j + t) r)) i
-                (λ t r u v. ahead-element t r)
-            ∙ sym (sent-ahead (fieldOf p S) (rootOf p S) (p .n) (p .k) (p .m) (λ t r. sub (fieldOf p S .ops) (x' t r) (g' t r)) j s i low before)
-            ∙ sym (sent-sub (fieldOf p S) (rootOf p S) (p .n) (p .k) (p .m) x' g' (j + s) i))
+          (ap (element (p .q) (positive p S)) (window-view (p .n) (p .m) left j s i low h) ∙ left-element (j + s) i (omega arith) h)
+          (combination-ext (fieldOf p S) (rootOf p S) (p .n) (p .k) (p .m) s (lifted p S (ahead p x g j)) (λ t r. sub (fieldOf p S .ops) (x' (j + t) r) (g' (j + t) r)) i
+          (λ t r u v. ahead-element t r)
+          ∙ sym (sent-ahead (fieldOf p S) (rootOf p S) (p .n) (p .k) (p .m) (λ t r. sub (fieldOf p S .ops) (x' t r) (g' t r)) j s i low before)
+          ∙ sym (sent-sub (fieldOf p S) (rootOf p S) (p .n) (p .k) (p .m) x' g' (j + s) i))
           ∙ element-shift p S (w' (j + s) i) (sentSymbol (overField p S) x' (j + s) i) (sentSymbol (overField p S) g' (j + s) i)
 
       -- Window j of the residual is as far from what x has beyond g as the reception is from the transmission of x in window j.
@@ -133,15 +136,17 @@ module _ (p : Setting) (S : Sound p) where
         where
           window : List ℕ
           window = take (windowLength p) (drop (j * p .n) left)
+
           window-below : (i : ℕ) → getD window i 0 < p .q
           window-below i = part-below (p .q) left W (positive p S) (windowLength p) (j * p .n) i
+
           twice : 2 * rebuiltDistance p window (p .m) (ahead p x g j) ≡ 2 * windowDistance p reception (transmission p x) j
           twice =
               rebuilt-cost p S window window-below (ahead p x g j) (ahead-below x g j (λ i. symbol-below (p .q) x (X .symbols) (positive p S) i) G) (p .m)
               ∙ total-ext (suc (p .m)) _ _ (λ s h. total-ext (p .n) _ _ (λ i u.
-                  let same : 0 + s ≡ s = omega arith in
-                  ap (λ (a : ℕ). elementCost p S (lifted p S (view (p .n) window) a i) (combination (overField p S) s (lifted p S (ahead p x g j)) i)) same
-                  ∙ symbol-cost s i (omega arith) u
-                  ∙ ap (λ (v : ℕ). byteCost p S v (sentSymbol (overField p S) x' (j + s) i))
-                    (number-lifted p S (view (p .n) reception) (j + s) i (R ((j + s) * p .n + i)))))
+              let same : 0 + s ≡ s = omega arith in
+              ap (λ (a : ℕ). elementCost p S (lifted p S (view (p .n) window) a i) (combination (overField p S) s (lifted p S (ahead p x g j)) i)) same
+              ∙ symbol-cost s i (omega arith) u
+              ∙ ap (λ (v : ℕ). byteCost p S v (sentSymbol (overField p S) x' (j + s) i))
+              (number-lifted p S (view (p .n) reception) (j + s) i (R ((j + s) * p .n + i)))))
               ∙ sym (window-cost p S T reception x X j l)

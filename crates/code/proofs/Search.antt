@@ -34,8 +34,8 @@ pub sent-of-beginning : (c : Code ℕ) (u v : ℕ → ℕ → ℕ) (s i : ℕ) �
 unfolding sentSymbol timesG
 sent-of-beginning c u v s i same =
     sum-ext (c .ops) (suc (c .m)) (λ j. timesG c (earlier (c .ops) u s j) j i) (λ j. timesG c (earlier (c .ops) v s j) j i)
-      (λ j h. sum-ext (c .ops) (c .k) (λ r. c .ops .mul (earlier (c .ops) u s j r) (rowSymbol c j r i)) (λ r. c .ops .mul (earlier (c .ops) v s j r) (rowSymbol c j r i))
-        (λ r l. ap (λ (t : ℕ). c .ops .mul t (rowSymbol c j r i)) (block j r l (leb j s))))
+    (λ j h. sum-ext (c .ops) (c .k) (λ r. c .ops .mul (earlier (c .ops) u s j r) (rowSymbol c j r i)) (λ r. c .ops .mul (earlier (c .ops) v s j r) (rowSymbol c j r i))
+    (λ r l. ap (λ (t : ℕ). c .ops .mul t (rowSymbol c j r i)) (block j r l (leb j s))))
   where
     block : (j r : ℕ) → r < c .k → (t : Bool) → pick t (u (s - j) r) (c .ops .zero) ≡ pick t (v (s - j) r) (c .ops .zero)
     block j r l true = same (s - j) r (omega arith) l
@@ -71,8 +71,8 @@ unfoldable pub noneBegins : Setting → ℕ → List ℕ → ℕ → List ℕ �
 noneBegins p T reception zero beginning = not (windowsTest p T reception beginning)
 noneBegins p T reception (suc left) beginning =
     elim (finishedFar p reception beginning) [
-      true ↦ true
-    | false ↦ all (p .q) (λ a. noneBegins p T reception left (beginning ++ a ∷ []))
+      | true ↦ true
+      | false ↦ all (p .q) (λ a. noneBegins p T reception left (beginning ++ a ∷ []))
     ]
 
 unfoldable pub noneFits : Setting → ℕ → List ℕ → Bool
@@ -95,8 +95,8 @@ pub window-of-beginning : (p : Setting) → Sound p → (T : ℕ) (reception x :
 unfolding windowFrom transmission
 window-of-beginning p S T reception x M u j l same =
     countOf-ext (windowLength p) (λ i. not (eqb (getD reception (j * p .n + i) 0) (getD (transmission p x) (j * p .n + i) 0)))
-      (λ i. not (eqb (getD reception (j * p .n + i) 0) (sentSymbol (codeOf p) u ((j * p .n + i) / p .n) ((j * p .n + i) % p .n))))
-      (λ i h. ap (λ (t : ℕ). not (eqb (getD reception (j * p .n + i) 0) t)) (symbol i h))
+    (λ i. not (eqb (getD reception (j * p .n + i) 0) (sentSymbol (codeOf p) u ((j * p .n + i) / p .n) ((j * p .n + i) % p .n))))
+    (λ i h. ap (λ (t : ℕ). not (eqb (getD reception (j * p .n + i) 0) t)) (symbol i h))
   where
     symbol : (i : ℕ) → i < windowLength p
         → getD (transmission p x) (j * p .n + i) 0 ≡ sentSymbol (codeOf p) u ((j * p .n + i) / p .n) ((j * p .n + i) % p .n)
@@ -106,9 +106,9 @@ window-of-beginning p S T reception x M u j l same =
         let place : j * p .n + i < (j + p .m + 1) * p .n = omega arith in
         let block : (j * p .n + i) / p .n < j + p .m + 1 = div-lt-iff-lt-mul (block-positive p S) .1 place in
         getD-tabulate ((length x / p .k + p .m) * p .n) (λ s. sentSymbol (codeOf p) (view (p .k) x) (s / p .n) (s % p .n)) (j * p .n + i) 0
-          (subst (λ (t : ℕ). j * p .n + i < (t + p .m) * p .n) (sym (message-blocks p S T x M)) inside)
+        (subst (λ (t : ℕ). j * p .n + i < (t + p .m) * p .n) (sym (message-blocks p S T x M)) inside)
         ∙ sent-of-beginning (codeOf p) (view (p .k) x) u ((j * p .n + i) / p .n) ((j * p .n + i) % p .n)
-          (λ b r a c. sym (same b r (omega arith) c))
+        (λ b r a c. sym (same b r (omega arith) c))
 
 -- A message that passes the test fits.
 pub fits-of-test : (p : Setting) → Sound p → (T : ℕ) (reception message : List ℕ) → Passes (fitsTest p T reception message) → Fits p T reception message
@@ -118,27 +118,32 @@ fits-of-test p S T reception message t =
       message-of = M;
       long = eqb→eq (length reception) ((T + p .m) * p .n) (and-left long windows (and-right symbols (long && windows) rest));
       near = λ j l.
-        subst (λ (d : ℕ). d ≤ limit (p .n) (p .k) (p .m)) (sym (window-of-beginning p S T reception message M (view (p .k) message) j l (λ b r a c. refl)))
-        (leb→le (windowFrom p reception (view (p .k) message) j) (limit (p .n) (p .k) (p .m))
-          (all-at T (windowTest p reception (view (p .k) message)) (and-right long windows (and-right symbols (long && windows) rest)) j l))
+          subst (λ (d : ℕ). d ≤ limit (p .n) (p .k) (p .m)) (sym (window-of-beginning p S T reception message M (view (p .k) message) j l (λ b r a c. refl)))
+          (leb→le (windowFrom p reception (view (p .k) message) j) (limit (p .n) (p .k) (p .m))
+          (all-at T (windowTest p reception (view (p .k) message)) (and-right long windows (and-right symbols (long && windows) rest)) j l));
     }
   where
     shape : Bool
     shape = leb 1 T && eqb (length message) (T * p .k)
+
     symbols : Bool
     symbols = all (length message) (λ i. ltb (getD message i 0) (p .q))
+
     long : Bool
     long = eqb (length reception) ((T + p .m) * p .n)
+
     windows : Bool
     windows = windowsTest p T reception message
+
     rest : Passes (symbols && (long && windows))
     rest = and-right shape (symbols && (long && windows)) t
+
     M : Message p T message
     M =
         record {
           blocks = leb→le 1 T (and-left (leb 1 T) (eqb (length message) (T * p .k)) (and-left shape (symbols && (long && windows)) t));
           long = eqb→eq (length message) (T * p .k) (and-right (leb 1 T) (eqb (length message) (T * p .k)) (and-left shape (symbols && (long && windows)) t));
-          symbols = record { below = λ i l. ltb→lt (getD message i 0) (p .q) (all-at (length message) (λ i. ltb (getD message i 0) (p .q)) (and-left symbols (long && windows) rest) i l) }
+          symbols = record { below = λ i l. ltb→lt (getD message i 0) (p .q) (all-at (length message) (λ i. ltb (getD message i 0) (p .q)) (and-left symbols (long && windows) rest) i l) };
         }
 
 -- A message that fits is not dropped.
@@ -164,15 +169,15 @@ module _ (p : Setting) (S : Sound p) (T : ℕ) (reception x : List ℕ) (F : Fit
       let ends : Bool = eqb (length beginning % p .k) 0 && leb (p .m + 1) (length beginning / p .k) in
       let finished : Passes ends = and-left ends far t in
       let whole : length beginning % p .k ≡ 0 =
-          eqb→eq (length beginning % p .k) 0 (and-left (eqb (length beginning % p .k) 0) (leb (p .m + 1) (length beginning / p .k)) finished) in
+      eqb→eq (length beginning % p .k) 0 (and-left (eqb (length beginning % p .k) 0) (leb (p .m + 1) (length beginning / p .k)) finished) in
       let enough : p .m + 1 ≤ length beginning / p .k =
-          leb→le (p .m + 1) (length beginning / p .k) (and-right (eqb (length beginning % p .k) 0) (leb (p .m + 1) (length beginning / p .k)) finished) in
+      leb→le (p .m + 1) (length beginning / p .k) (and-right (eqb (length beginning % p .k) 0) (leb (p .m + 1) (length beginning / p .k)) finished) in
       let long : length beginning / p .k * p .k ≡ length beginning = omega (arith, div-add-mod' (length beginning) (p .k)) in
       let few : length beginning < (T + 1) * p .k = omega (arith, F .message-of .long, S .information) in
       let most : length beginning / p .k < T + 1 = div-lt-iff-lt-mul (S .information) .1 few in
       T-not (windowTest p reception (view (p .k) beginning) (length beginning / p .k - (p .m + 1))) (and-right ends far t)
       (near-window (view (p .k) beginning) (length beginning / p .k - (p .m + 1)) (omega arith)
-        (λ b r a c. let inside : b < length beginning / p .k = omega arith in begins (b * p .k + r) (omega (arith, digits-lt inside c))))
+      (λ b r a c. let inside : b < length beginning / p .k = omega arith in begins (b * p .k + r) (omega (arith, digits-lt inside c))))
 
   more-begins : (beginning : List ℕ) → Begins beginning → Begins (beginning ++ getD x (length beginning) 0 ∷ [])
   unfolding Begins
@@ -199,7 +204,7 @@ module _ (p : Setting) (S : Sound p) (T : ℕ) (reception x : List ℕ) (F : Fit
       at more true e t = finished-near beginning (omega arith) begins (subst Passes (sym e) tt)
       at more false e t =
           more (all-at (p .q) (λ a. noneBegins p T reception left (beginning ++ a ∷ [])) t (getD x (length beginning) 0)
-            (symbol-below (p .q) x (F .message-of .symbols) (positive p S) (length beginning)))
+          (symbol-below (p .q) x (F .message-of .symbols) (positive p S) (length beginning)))
 
 -- The search finds no message: none fits.
 pub no-message-fits : (p : Setting) → Sound p → (T : ℕ) (reception : List ℕ) → Passes (noneFits p T reception) → (x : List ℕ) → Fits p T reception x → ⊥

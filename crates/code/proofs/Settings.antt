@@ -25,10 +25,10 @@ each-at (next p rest) (suc i) d h = each-at rest i d (le-of-suc-le-suc h)
 
 -- A setting's number is in the list's range.
 pub setting-range : (s : ℕ) → T (isSetting s) → (1 ≤ s) × (s ≤ length settings)
-setting-range s t =
-    ( leb→le 1 s (and-left (leb 1 s) (leb s (length settings)) t)
-    , leb→le s (length settings) (and-right (leb 1 s) (leb s (length settings)) t)
-    )
+setting-range s t = (
+  leb→le 1 s (and-left (leb 1 s) (leb s (length settings)) t),
+  leb→le s (length settings) (and-right (leb 1 s) (leb s (length settings)) t),
+)
 
 sound : (q k m : ℕ) → Good q → 1 ≤ k → (m + 1) * k ≤ q - 1 → Sound (setting q k m)
 sound q k m g i r = record { good = g; block = refl; information = i; room = r }

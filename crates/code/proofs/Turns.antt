@@ -57,12 +57,14 @@ module _ {F : Type 0} (K : Field F) (α : F) (n k m : ℕ) where
     where
       terms : ℕ → F
       terms j = timesG c (earlier (K .ops) (single x b) s j) j i
+
       zeros : ((j : ℕ) → j < suc m → j ≤ s → s - j ≡ b → ⊥) → sum (K .ops) (suc m) terms ≡ 𝟘
       zeros d = sum-zeros K (suc m) terms (λ j h. timesG-zeros K α n k m (earlier (K .ops) (single x b) s j) j i (λ r l. earlier-off x b s j r (d j h)))
+
       inside : b ≤ s → Dec (s - b ≤ m) → sum (K .ops) (suc m) terms ≡ pick (leb (s - b) m) (timesG c x (s - b) i) 𝟘
       inside h (yes l) =
           sum-single K (suc m) (s - b) terms (omega arith)
-            (λ j u d. timesG-zeros K α n k m (earlier (K .ops) (single x b) s j) j i (λ r q. earlier-off x b s j r (λ v e. d (omega arith))))
+          (λ j u d. timesG-zeros K α n k m (earlier (K .ops) (single x b) s j) j i (λ r q. earlier-off x b s j r (λ v e. d (omega arith))))
           ∙ timesG-ext K α n k m (earlier (K .ops) (single x b) s (s - b)) x (s - b) i (λ r q. there r)
           ∙ sym (ap (λ (t : Bool). pick t (timesG c x (s - b) i) 𝟘) (le-leb (s - b) m l))
         where
@@ -75,6 +77,7 @@ module _ {F : Type 0} (K : Field F) (α : F) (n k m : ℕ) where
       inside h (no l) =
           let past : m < s - b = omega arith in
           zeros (λ j u v e. omega arith) ∙ sym (ap (λ (t : Bool). pick t (timesG c x (s - b) i) 𝟘) (lt-leb (s - b) m past))
+
       at : Dec (b ≤ s) → sum (K .ops) (suc m) terms ≡ pick (leb b s) (pick (leb (s - b) m) (timesG c x (s - b) i) 𝟘) 𝟘
       at (yes h) = inside h (decLe (s - b) m) ∙ sym (ap (λ (t : Bool). pick t (pick (leb (s - b) m) (timesG c x (s - b) i) 𝟘) 𝟘) (le-leb b s h))
       at (no h) =
@@ -86,12 +89,11 @@ module _ {F : Type 0} (K : Field F) (α : F) (n k m : ℕ) where
   unfolding costTo rebuiltCost blockCost
   sent-cost cost w y l low =
       total-ext (suc l) _ _ (λ s h. total-ext n _ _ (λ i q. ap (cost (w (0 + s) i))
-        (sent-ahead K α n k m y 0 s i (omega arith) (λ t r u v. absurd (omega arith))
-        ∙ combination-ext K α n k m s (λ t r. y (0 + t) r) y i (λ t r u v. let same : 0 + t ≡ t = omega arith in ap (λ (a : ℕ). y a r) same))))
+      (sent-ahead K α n k m y 0 s i (omega arith) (λ t r u v. absurd (omega arith))
+      ∙ combination-ext K α n k m s (λ t r. y (0 + t) r) y i (λ t r u v. let same : 0 + t ≡ t = omega arith in ap (λ (a : ℕ). y a r) same))))
 
   module _ (cost : F → F → ℕ) (shift : (v a s : F) → cost (sub (K .ops) v s) (sub (K .ops) a s) ≡ cost v a)
       (order : Order (K .ops) n α) (fits : (m + 1) * k ≤ n) (apart : (v a b : F) → (a ≡ b → ⊥) → 2 ≤ cost v a + cost v b) (w : ℕ → ℕ → F) where
-
     -- A window near zero: every near y has a zero first block.
     pub turn-zero : (y : ℕ → ℕ → F) → rebuiltCost c cost w 0 y m < distancesTo n k m → costTo n cost w (λ s i. 𝟘) 0 m < distancesTo n k m
         → (r : ℕ) → r < k → y 0 r ≡ 𝟘
@@ -114,12 +116,12 @@ module _ {F : Type 0} (K : Field F) (α : F) (n k m : ℕ) where
     turn-refused y z l low near close bad =
         let same : 0 + l ≡ l = omega arith in
         subst (λ (t : ℕ). levelDistance n k l ≤ t)
-          (total-ext n _ _ (λ i q. ap₂ cost (ap (λ (a : ℕ). w a i) same)
-            (sent-ahead K α n k m y 0 l i low (λ t r u v. absurd (omega arith))
-            ∙ combination-ext K α n k m l (λ t r. y (0 + t) r) y i (λ t r u v. let place : 0 + t ≡ t = omega arith in ap (λ (a : ℕ). y a r) place))))
+        (total-ext n _ _ (λ i q. ap₂ cost (ap (λ (a : ℕ). w a i) same)
+        (sent-ahead K α n k m y 0 l i low (λ t r u v. absurd (omega arith))
+        ∙ combination-ext K α n k m l (λ t r. y (0 + t) r) y i (λ t r u v. let place : 0 + t ≡ t = omega arith in ap (λ (a : ℕ). y a r) place))))
         (refused-costs K α n k m cost shift order fits apart w y z 0 l low (λ s r u v. absurd (omega arith))
-          (subst (λ (t : ℕ). t < distancesTo n k l) (sym (sent-cost cost w y l low)) near)
-          (subst (λ (a : ℕ). blockCost c cost (w a) l z < levelDistance n k l) (sym same) close) bad)
+        (subst (λ (t : ℕ). t < distancesTo n k l) (sym (sent-cost cost w y l low)) near)
+        (subst (λ (a : ℕ). blockCost c cost (w a) l z < levelDistance n k l) (sym same) close) bad)
 
   module _ (cost : F → F → ℕ) (w : ℕ → ℕ → F) where
     -- After a refused level the blocks below it are near..

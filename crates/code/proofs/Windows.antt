@@ -61,16 +61,16 @@ module _ {F : Type 0} (K : Field F) (α : F) (n k m : ℕ) where
   sent-sub x g s i =
       sum-sub K α n k m (suc m) (λ j. timesG c (earlier (K .ops) x s j) j i) (λ j. timesG c (earlier (K .ops) g s j) j i)
       ∙ sum-ext (K .ops) (suc m) (λ j. sub (K .ops) (timesG c (earlier (K .ops) x s j) j i) (timesG c (earlier (K .ops) g s j) j i))
-        (λ j. timesG c (earlier (K .ops) (λ b r. sub (K .ops) (x b r) (g b r)) s j) j i)
-        (λ j h. timesG-sub K α n k m (earlier (K .ops) x s j) (earlier (K .ops) g s j) j i
-          ∙ timesG-ext K α n k m (λ r. sub (K .ops) (earlier (K .ops) x s j r) (earlier (K .ops) g s j r))
-            (earlier (K .ops) (λ b r. sub (K .ops) (x b r) (g b r)) s j) j i (λ r l. earlier-sub x g s j r))
+      (λ j. timesG c (earlier (K .ops) (λ b r. sub (K .ops) (x b r) (g b r)) s j) j i)
+      (λ j h. timesG-sub K α n k m (earlier (K .ops) x s j) (earlier (K .ops) g s j) j i
+      ∙ timesG-ext K α n k m (λ r. sub (K .ops) (earlier (K .ops) x s j r) (earlier (K .ops) g s j r))
+      (earlier (K .ops) (λ b r. sub (K .ops) (x b r) (g b r)) s j) j i (λ r l. earlier-sub x g s j r))
 
   pub sent-zeros : (s i : ℕ) → sentSymbol c (λ b r. 𝟘) s i ≡ 𝟘
   unfolding sentSymbol
   sent-zeros s i =
       sum-zeros K (suc m) (λ j. timesG c (earlier (K .ops) (λ b r. 𝟘) s j) j i)
-        (λ j h. timesG-zeros K α n k m (earlier (K .ops) (λ b r. 𝟘) s j) j i (λ r l. at (leb j s)))
+      (λ j h. timesG-zeros K α n k m (earlier (K .ops) (λ b r. 𝟘) s j) j i (λ r l. at (leb j s)))
     where
       at : (b : Bool) → pick b 𝟘 𝟘 ≡ 𝟘
       at true = refl
@@ -80,7 +80,7 @@ module _ {F : Type 0} (K : Field F) (α : F) (n k m : ℕ) where
   unfolding combination
   combination-ext l x y i same =
       sum-ext (K .ops) (suc l) (λ j. timesG c (x (l - j)) j i) (λ j. timesG c (y (l - j)) j i)
-        (λ j h. timesG-ext K α n k m (x (l - j)) (y (l - j)) j i (λ r s. same (l - j) r (omega arith) s))
+      (λ j h. timesG-ext K α n k m (x (l - j)) (y (l - j)) j i (λ r s. same (l - j) r (omega arith) s))
 
   pub combination-sub : (l : ℕ) (x y : ℕ → ℕ → F) (i : ℕ)
       → sub (K .ops) (combination c l x i) (combination c l y i) ≡ combination c l (λ b r. sub (K .ops) (x b r) (y b r)) i
@@ -88,7 +88,7 @@ module _ {F : Type 0} (K : Field F) (α : F) (n k m : ℕ) where
   combination-sub l x y i =
       sum-sub K α n k m (suc l) (λ j. timesG c (x (l - j)) j i) (λ j. timesG c (y (l - j)) j i)
       ∙ sum-ext (K .ops) (suc l) (λ j. sub (K .ops) (timesG c (x (l - j)) j i) (timesG c (y (l - j)) j i))
-        (λ j. timesG c (λ r. sub (K .ops) (x (l - j) r) (y (l - j) r)) j i) (λ j h. timesG-sub K α n k m (x (l - j)) (y (l - j)) j i)
+      (λ j. timesG c (λ r. sub (K .ops) (x (l - j) r) (y (l - j) r)) j i) (λ j h. timesG-sub K α n k m (x (l - j)) (y (l - j)) j i)
 
   -- A message that is zero before block b sends combinations from block b on.
   pub sent-ahead : (y : ℕ → ℕ → F) (b l i : ℕ) → l ≤ m → ((s r : ℕ) → s < b → r < k → y s r ≡ 𝟘)
@@ -119,16 +119,15 @@ module _ {F : Type 0} (K : Field F) (α : F) (n k m : ℕ) where
       ∙ combination-ext l (λ s r. placed b z (b + s) r) z i (λ s r h q. placed-at b z s r)
 
   module _ (cost : F → F → ℕ) (shift : (v a s : F) → cost (sub (K .ops) v s) (sub (K .ops) a s) ≡ cost v a) where
-
     -- What message x costs for what was received is what x - g costs for the residual of g.
     pub residual-cost : (w x g : ℕ → ℕ → F) (b l : ℕ)
         → costTo n cost (λ s i. sub (K .ops) (w s i) (sentSymbol c g s i)) (sentSymbol c (λ s r. sub (K .ops) (x s r) (g s r))) b l
-          ≡ costTo n cost w (sentSymbol c x) b l
+        ≡ costTo n cost w (sentSymbol c x) b l
     unfolding costTo
     residual-cost w x g b l =
         total-ext (suc l) _ _ (λ s h. total-ext n _ _
-          (λ i q. ap (cost (sub (K .ops) (w (b + s) i) (sentSymbol c g (b + s) i))) (sym (sent-sub x g (b + s) i))
-            ∙ shift (w (b + s) i) (sentSymbol c x (b + s) i) (sentSymbol c g (b + s) i)))
+        (λ i q. ap (cost (sub (K .ops) (w (b + s) i) (sentSymbol c g (b + s) i))) (sym (sent-sub x g (b + s) i))
+        ∙ shift (w (b + s) i) (sentSymbol c x (b + s) i) (sentSymbol c g (b + s) i)))
 
     placed-cost : (w : ℕ → ℕ → F) (b : ℕ) (z : ℕ → ℕ → F) (l : ℕ) → l ≤ m → costTo n cost w (sentSymbol c (placed b z)) b l ≡ rebuiltCost c cost w b z l
     unfolding costTo rebuiltCost blockCost
@@ -136,7 +135,6 @@ module _ {F : Type 0} (K : Field F) (α : F) (n k m : ℕ) where
         total-ext (suc l) _ _ (λ s h. total-ext n _ _ (λ i q. ap (cost (w (b + s) i)) (sent-placed b z s i (omega arith))))
 
     module _ (order : Order (K .ops) n α) (fits : (m + 1) * k ≤ n) (apart : (v a b : F) → (a ≡ b → ⊥) → 2 ≤ cost v a + cost v b) where
-
       -- A window near the zero frame: a near message that is zero before it is zero in its first block.
       pub zero-window : (w y : ℕ → ℕ → F) (b : ℕ) → ((s r : ℕ) → s < b → r < k → y s r ≡ 𝟘)
           → costTo n cost w (sentSymbol c y) b m < distancesTo n k m → costTo n cost w (λ s i. 𝟘) b m < distancesTo n k m
@@ -145,7 +143,7 @@ module _ {F : Type 0} (K : Field F) (α : F) (n k m : ℕ) where
       zero-window w y b zeros near clean =
           let m-le : m ≤ m = omega arith in
           let same : costTo n cost w (sentSymbol c (λ s r. 𝟘)) b m ≡ costTo n cost w (λ s i. 𝟘) b m =
-              total-ext (suc m) _ _ (λ s h. total-ext n _ _ (λ i q. ap (cost (w (b + s) i)) (sent-zeros (b + s) i))) in
+          total-ext (suc m) _ _ (λ s h. total-ext n _ _ (λ i q. ap (cost (w (b + s) i)) (sent-zeros (b + s) i))) in
           block-certain K α n k m order fits cost apart y (λ s r. 𝟘) w b m m-le zeros (omega arith)
 
       -- A candidate whose rebuilt blocks are near has the first block of every near message.
@@ -155,7 +153,7 @@ module _ {F : Type 0} (K : Field F) (α : F) (n k m : ℕ) where
       candidate-right w y z b l low zeros near good r inside =
           let place : b + 0 ≡ b = omega arith in
           block-certain K α n k m order fits cost apart y (placed b z) w b l low
-            (λ s t h q. zeros s t h q ∙ sym (placed-before b z s t h)) (omega (arith, placed-cost w b z l low)) r inside
+          (λ s t h q. zeros s t h q ∙ sym (placed-before b z s t h)) (omega (arith, placed-cost w b z l low)) r inside
           ∙ ap (λ (s : ℕ). placed b z s r) (sym place) ∙ placed-at b z 0 r
 
       -- Two combinations of one level that are both near a block have the same information.
@@ -166,6 +164,7 @@ module _ {F : Type 0} (K : Field F) (α : F) (n k m : ℕ) where
         where
           difference : ℕ → ℕ → F
           difference b t = sub (K .ops) (y b t) (z b t)
+
           symbol : (i : ℕ) → 2 * pick (not (K .ops .isZero (combination c l difference i))) 1 0 ≤ cost (v i) (combination c l y i) + cost (v i) (combination c l z i)
           symbol i =
               subst (λ (t : F). 2 * pick (not (K .ops .isZero t)) 1 0 ≤ cost (v i) (combination c l y i) + cost (v i) (combination c l z i))
@@ -174,16 +173,21 @@ module _ {F : Type 0} (K : Field F) (α : F) (n k m : ℕ) where
               of : {t : Bool} → Tested 𝟘 (sub (K .ops) (combination c l y i) (combination c l z i)) t
                   → 2 * pick (not t) 1 0 ≤ cost (v i) (combination c l y i) + cost (v i) (combination c l z i)
               of (is-zero e) = omega arith
-              of (non-zero h) = omega (arith, apart (v i) (combination c l y i) (combination c l z i)
-                (λ e. h (ap (λ (t : F). sub (K .ops) t (combination c l z i)) e ∙ sub-self K (combination c l z i))))
+              of (non-zero h) = omega (
+                arith,
+                apart (v i) (combination c l y i) (combination c l z i)
+                    (λ e. h (ap (λ (t : F). sub (K .ops) t (combination c l z i)) e ∙ sub-self K (combination c l z i))),
+              )
+
           light : 2 * weight (K .ops) n (combination c l difference) ≤ total n (λ i. cost (v i) (combination c l y i)) + total n (λ i. cost (v i) (combination c l z i))
           light =
               subst (λ (t : ℕ). t ≤ total n (λ i. cost (v i) (combination c l y i)) + total n (λ i. cost (v i) (combination c l z i)))
-                (total-scale n 2 (λ i. pick (not (K .ops .isZero (combination c l difference i))) 1 0))
+              (total-scale n 2 (λ i. pick (not (K .ops .isZero (combination c l difference i))) 1 0))
               (subst (λ (t : ℕ). total n (λ i. 2 * pick (not (K .ops .isZero (combination c l difference i))) 1 0) ≤ t)
-                (total-add n (λ i. cost (v i) (combination c l y i)) (λ i. cost (v i) (combination c l z i)))
+              (total-add n (λ i. cost (v i) (combination c l y i)) (λ i. cost (v i) (combination c l z i)))
               (total-mono n (λ i. 2 * pick (not (K .ops .isZero (combination c l difference i))) 1 0)
-                (λ i. cost (v i) (combination c l y i) + cost (v i) (combination c l z i)) (λ i h. symbol i)))
+              (λ i. cost (v i) (combination c l y i) + cost (v i) (combination c l z i)) (λ i h. symbol i)))
+
           at : {t : Bool} → Tested 𝟘 (difference s r) t → y s r ≡ z s r
           at (is-zero e) = eq-of-sub K (y s r) (z s r) e
           at (non-zero h) =
@@ -200,19 +204,20 @@ module _ {F : Type 0} (K : Field F) (α : F) (n k m : ℕ) where
         where
           ahead : ℕ → ℕ → F
           ahead s r = y (b + s) r
+
           at : Dec (levelDistance n k l ≤ total n (λ i. cost (w (b + l) i) (sentSymbol c y (b + l) i)))
               → levelDistance n k l ≤ total n (λ i. cost (w (b + l) i) (sentSymbol c y (b + l) i))
           at (yes h) = h
           at (no d) =
               let small : blockCost c cost (w (b + l)) l ahead < levelDistance n k l =
-                  subst (λ (t : ℕ). t < levelDistance n k l)
-                    (total-ext n _ _ (λ i q. ap (cost (w (b + l) i)) (sent-ahead y b l i low zeros)))
-                    (omega arith) in
+              subst (λ (t : ℕ). t < levelDistance n k l)
+              (total-ext n _ _ (λ i q. ap (cost (w (b + l) i)) (sent-ahead y b l i low zeros)))
+              (omega arith) in
               let same : (s r : ℕ) → s ≤ l → r < k → ahead s r ≡ z s r = combination-certain (w (b + l)) l ahead z low small close in
               let equal : costTo n cost w (sentSymbol c y) b l ≡ rebuiltCost c cost w b z l =
-                  total-ext (suc l) _ _ (λ s h. total-ext n _ _
-                    (λ i q. ap (cost (w (b + s) i)) (sent-ahead y b s i (omega arith) zeros
-                      ∙ combination-ext s ahead z i (λ t r u v. same t r (omega arith) v)))) in
+              total-ext (suc l) _ _ (λ s h. total-ext n _ _
+              (λ i q. ap (cost (w (b + s) i)) (sent-ahead y b s i (omega arith) zeros
+              ∙ combination-ext s ahead z i (λ t r u v. same t r (omega arith) v)))) in
               absurd (omega arith)
 
       -- No candidate at level l: the same.

@@ -43,7 +43,7 @@ module _ (p : Setting) (S : Sound p) (T : ℕ) (reception : List ℕ) (R : Symbo
       → Added p T j (λ r. getD information r 0) message left message' left' → Advanced p T reception (j + 1) message' left' true
   advance-found message' left' (served found some few area first) e D =
       advanced (progress-found p S T reception R long j message left P (λ r. getD information r 0) message' left' l
-        (λ y Y near r u. first y Y (subst (λ (w : List ℕ). Near p w (p .m) y) (sym same-window) near) r u) D)
+      (λ y Y near r u. first y Y (subst (λ (w : List ℕ). Near p w (p .m) y) (sym same-window) near) r u) D)
   advance-found message' left' (none-serves far) e D = absurd (e refl)
 
 module _ (p : Setting) (T : ℕ) (reception : List ℕ) (j : ℕ) (message left : List ℕ) where

@@ -55,8 +55,8 @@ module _ (p : Setting) (S : Sound p) (T : ℕ) (reception message left : List �
   pub left-window : (j : ℕ) → j < T → windowDistance p reception (transmission p message) j ≡ windowWeight p (take (windowLength p) (drop (j * p .n) left))
   left-window j l =
       countOf-ext (windowLength p) _ _ (λ i h. ap not
-        (left-test (j * p .n + i) (inside i h)
-        ∙ sym (ap (λ (t : ℕ). eqb t 0) (getD-take (windowLength p) (drop (j * p .n) left) i 0 h ∙ getD-drop (j * p .n) left i 0))))
+      (left-test (j * p .n + i) (inside i h)
+      ∙ sym (ap (λ (t : ℕ). eqb t 0) (getD-take (windowLength p) (drop (j * p .n) left) i 0 h ∙ getD-drop (j * p .n) left i 0))))
     where
       inside : (i : ℕ) → i < windowLength p → j * p .n + i < (T + p .m) * p .n
       inside i h =
@@ -76,20 +76,20 @@ module _ (p : Setting) (S : Sound p) (T : ℕ) (reception message left : List �
   pub frame-fits : ((j : ℕ) → j < T → windowWeight p (take (windowLength p) (drop (j * p .n) left)) ≤ limit (p .n) (p .k) (p .m)) → FrameRead p T reception message left true
   frame-fits near =
       fits
-        (record {
-          message-of = whole;
-          long = long;
-          near = λ j l. subst (λ (t : ℕ). t ≤ limit (p .n) (p .k) (p .m)) (sym (left-window p S T reception message left R whole (P .residual) j l)) (near j l)
-        })
-        (P .areas .left-symbols) (P .areas .left-long ∙ sym long) (P .residual)
+      (record {
+        message-of = whole;
+        long = long;
+        near = λ j l. subst (λ (t : ℕ). t ≤ limit (p .n) (p .k) (p .m)) (sym (left-window p S T reception message left R whole (P .residual) j l)) (near j l);
+      })
+      (P .areas .left-symbols) (P .areas .left-long ∙ sym long) (P .residual)
 
   -- Far in one window: no message fits, since it could only be this one.
   pub frame-none : (j : ℕ) → j < T → limit (p .n) (p .k) (p .m) < windowWeight p (take (windowLength p) (drop (j * p .n) left)) → NoneFits p T reception
   frame-none j l far x F =
       let same : x ≡ message =
-          ext-getD 0 x message (F .message-of .long ∙ sym (P .areas .message-long)) (λ i u. P .begins x F i (omega (arith, F .message-of .long))) in
+      ext-getD 0 x message (F .message-of .long ∙ sym (P .areas .message-long)) (λ i u. P .begins x F i (omega (arith, F .message-of .long))) in
       let near : windowDistance p reception (transmission p message) j ≤ limit (p .n) (p .k) (p .m) =
-          subst (λ (t : List ℕ). windowDistance p reception (transmission p t) j ≤ limit (p .n) (p .k) (p .m)) same (F .near j l) in
+      subst (λ (t : List ℕ). windowDistance p reception (transmission p t) j ≤ limit (p .n) (p .k) (p .m)) same (F .near j l) in
       omega (arith, left-window p S T reception message left R whole (P .residual) j l)
 
   -- The last comparison decides.

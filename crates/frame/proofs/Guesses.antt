@@ -79,7 +79,7 @@ module _ (p : Setting) (T : ℕ) where
       record {
         areas = B .areas;
         before = λ a l. B .before a (omega (arith, mul-le-mul-right (p .k) low)) ∙ A .before a l;
-        residual = λ w W R. B .residual w W (A .residual w W R)
+        residual = λ w W R. B .residual w W (A .residual w W R);
       }
 
 module _ (p : Setting) (S : Sound p) (T j r v : ℕ) (message left : List ℕ) (A : Areas p T message left) (lj : j < T) (lr : r < p .k) (lv : v < p .q)
@@ -149,6 +149,7 @@ module _ (p : Setting) (S : Sound p) (T j r v : ℕ) (message left : List ℕ) (
     where
       x : ℕ → ℕ
       x = only r v
+
       at : Dec (j ≤ s) → Dec (s - j ≤ p .m) → view (p .n) (putMid (j * p .n) (windowLength p) left window') s i ≡ lessened p S left x j s i
       at (yes a) (yes b) =
           let top : s - j < p .m + 1 = omega arith in
@@ -159,7 +160,7 @@ module _ (p : Setting) (S : Sound p) (T j r v : ℕ) (message left : List ℕ) (
           ∙ L .inside (s - j) i top e
           ∙ ap (λ (t : ℕ). sub (opsOf (p .q)) t (timesG (codeOf p) x (s - j) i)) (window-view (p .n) (p .m) left j (s - j) i b e ∙ ap (λ (t : ℕ). view (p .n) left t i) back)
           ∙ sym (ap₂ (λ (c d : Bool). pick c (pick d (sub (opsOf (p .q)) (view (p .n) left s i) (timesG (codeOf p) x (s - j) i)) (view (p .n) left s i)) (view (p .n) left s i))
-              (le-leb j s a) (le-leb (s - j) (p .m) b))
+          (le-leb j s a) (le-leb (s - j) (p .m) b))
         where
           scaled : (s j n : ℕ) → j ≤ s → s * n ≡ j * n + (s - j) * n
           scaled s j n q = let same : s ≡ j + (s - j) = omega arith in ap (λ (t : ℕ). t * n) same ∙ omega arith
@@ -168,12 +169,12 @@ module _ (p : Setting) (S : Sound p) (T j r v : ℕ) (message left : List ℕ) (
           let past : j + (p .m + 1) ≤ s = omega arith in
           put-after (j * p .n) (windowLength p) left window' left-room window-long (s * p .n + i) (omega (arith, mul-le-mul-right (p .n) past))
           ∙ sym (ap₂ (λ (c d : Bool). pick c (pick d (sub (opsOf (p .q)) (view (p .n) left s i) (timesG (codeOf p) x (s - j) i)) (view (p .n) left s i)) (view (p .n) left s i))
-              (le-leb j s a) (lt-leb (s - j) (p .m) far))
+          (le-leb j s a) (lt-leb (s - j) (p .m) far))
       at (no a) b =
           let past : s < j = omega arith in
           put-before (j * p .n) (windowLength p) left window' left-room window-long (s * p .n + i) (digits-lt past e)
           ∙ sym (ap (λ (c : Bool). pick c (pick (leb (s - j) (p .m)) (sub (opsOf (p .q)) (view (p .n) left s i) (timesG (codeOf p) x (s - j) i)) (view (p .n) left s i)) (view (p .n) left s i))
-              (lt-leb j s past))
+          (lt-leb j s past))
 
   pub adjusted-exact : Adjusted p T j r v message left (set message (j * p .k + r) w) (putMid (j * p .n) (windowLength p) left window')
   unfolding h left'
@@ -184,13 +185,13 @@ module _ (p : Setting) (S : Sound p) (T j r v : ℕ) (message left : List ℕ) (
             message-long = length-set message (j * p .k + r) w ∙ A .message-long;
             message-symbols = h-symbols;
             left-long = put-length (j * p .n) (windowLength p) left window' left-room window-long ∙ A .left-long;
-            left-symbols = put-symbols (j * p .n) (windowLength p) left window' left-room window-long (p .q) (A .left-symbols) (L .symbols)
+            left-symbols = put-symbols (j * p .n) (windowLength p) left window' left-room window-long (p .q) (A .left-symbols) (L .symbols);
           };
           before = λ a l. getD-set-other message (j * p .k + r) a w 0 (omega arith);
           residual = λ reception R residual. residual-step p S T reception message left h left' (symbol-below (p .q) reception R (positive p S)) message-below
-            (symbol-below (p .q) h h-symbols (positive p S)) residual (only r v) only-below j placed others changed
+              (symbol-below (p .q) h h-symbols (positive p S)) residual (only r v) only-below j placed others changed;
         };
-        added = ap (set message (j * p .k + r)) sum
+        added = ap (set message (j * p .k + r)) sum;
       }
 
 -- The same with the sizes as the code computes them.
@@ -201,7 +202,7 @@ pub adjusted : (p : Setting) → Sound p → (T j r v : ℕ) (message left : Lis
 adjusted p S T j r v message left A lj lr lv w sum window' =
     let wide : j * p .n + windowLength p - j * p .n ≡ windowLength p = omega arith in
     subst (λ (t : ℕ). LessenedTo p (only r v) (p .m + 1) (take t (drop (j * p .n) left)) window'
-        → Adjusted p T j r v message left (set message (j * p .k + r) w) (putMid (j * p .n) t left window')) (sym wide)
+    → Adjusted p T j r v message left (set message (j * p .k + r) w) (putMid (j * p .n) t left window')) (sym wide)
     (adjusted-exact p S T j r v message left A lj lr lv w sum window')
 
 -- The first r symbols of the information block x were added to block j.
@@ -235,11 +236,12 @@ module _ (p : Setting) (T j : ℕ) (x : ℕ → ℕ) (message left : List ℕ) w
       record {
         revised = revised-then p T j j message left message' left' message'' left'' (omega arith) (D .revised) (B .revised);
         symbol = λ a l. at a (ℕ-discrete a r) l;
-        rest = λ a l. elsewhere a (omega arith) ∙ D .rest a (omega arith)
+        rest = λ a l. elsewhere a (omega arith) ∙ D .rest a (omega arith);
       }
     where
       elsewhere : (a : ℕ) → (a ≡ j * p .k + r → ⊥) → getD message'' a 0 ≡ getD message' a 0
       elsewhere a d = ap (λ (t : List ℕ). getD t a 0) (B .added) ∙ getD-set-other message' (j * p .k + r) a _ 0 d
+
       at : (a : ℕ) → Dec (a ≡ r) → a < r + 1 → getD message'' (j * p .k + a) 0 ≡ opsOf (p .q) .add (getD message (j * p .k + a) 0) (x a)
       at a (yes s) l =
           let past : j * p .k + r ≤ j * p .k + r = omega arith in
@@ -263,5 +265,5 @@ module _ (p : Setting) (T j : ℕ) (x : ℕ → ℕ) (message left : List ℕ) w
   added-then i message' left' message'' left'' later D B =
       record {
         revised = revised-then p T j i message left message' left' message'' left'' (omega arith) (D .revised) B;
-        symbol = λ a l u. B .before (j * p .k + a) (omega (arith, mul-le-mul-right (p .k) later)) ∙ D .symbol a l u
+        symbol = λ a l u. B .before (j * p .k + a) (omega (arith, mul-le-mul-right (p .k) later)) ∙ D .symbol a l u;
       }

@@ -43,7 +43,7 @@ module _ (p : Setting) (x : ℕ → ℕ) (j : ℕ) (before : List ℕ) where
         long = length-set after i v ∙ L .long;
         symbols = record { below = λ a h. at-symbol a (ℕ-discrete a i) (omega (arith, length-set after i v)) };
         inside = λ a h. at-inside a (ℕ-discrete a i) h;
-        outside = λ a h. getD-set-other after i a v 0 (omega arith) ∙ L .outside a (omega arith)
+        outside = λ a h. getD-set-other after i a v 0 (omega arith) ∙ L .outside a (omega arith);
       }
     where
       at-symbol : (a : ℕ) → Dec (a ≡ i) → a < length after → getD (set after i v) a 0 < p .q
@@ -51,6 +51,7 @@ module _ (p : Setting) (x : ℕ → ℕ) (j : ℕ) (before : List ℕ) where
           let past : i < length after = omega (arith, L .long) in
           subst (λ (t : ℕ). t < p .q) (sym (ap (λ (t : ℕ). getD (set after i v) t 0) s ∙ getD-set-same after i v 0 past)) below
       at-symbol a (no d) h = subst (λ (t : ℕ). t < p .q) (sym (getD-set-other after i a v 0 d)) (L .symbols .below a h)
+
       at-inside : (a : ℕ) → Dec (a ≡ i) → a < i + 1 → getD (set after i v) a 0 ≡ sub (opsOf (p .q)) (getD before a 0) (timesG (codeOf p) x j a)
       at-inside a (yes s) h =
           let past : i < length after = omega (arith, L .long) in
@@ -72,17 +73,21 @@ module _ (p : Setting) (x : ℕ → ℕ) (before : List ℕ) where
         long = put-length start size window part fits part-long ∙ L .long;
         symbols = put-symbols start size window part fits part-long (p .q) (L .symbols) (M .symbols);
         inside = λ b i l h. at b i l h (ℕ-discrete b s);
-        outside = λ a h. put-after start size window part fits part-long a (omega (arith, same)) ∙ L .outside a (omega arith)
+        outside = λ a h. put-after start size window part fits part-long a (omega (arith, same)) ∙ L .outside a (omega arith);
       }
     where
       size : ℕ
       size = start + p .n - start
+
       same : size ≡ p .n
       same = omega arith
+
       fits : start + size ≤ length window
       fits = omega (arith, same)
+
       part-long : length part ≡ size
       part-long = M .long ∙ (part-length (p .n) start window room ∙ sym same)
+
       at : (b i : ℕ) → b < s + 1 → i < p .n → Dec (b ≡ s)
           → view (p .n) (putMid start size window part) b i ≡ sub (opsOf (p .q)) (view (p .n) before b i) (timesG (codeOf p) x b i)
       at b i l h (yes d) =
@@ -92,9 +97,9 @@ module _ (p : Setting) (x : ℕ → ℕ) (before : List ℕ) where
           ∙ put-inside start size window part fits part-long i (omega (arith, same))
           ∙ M .inside i h
           ∙ ap₂ (λ (t v : ℕ). sub (opsOf (p .q)) t (timesG (codeOf p) x v i))
-            (part-symbol (p .n) start window i h ∙ ap (λ (t : ℕ). getD window (t + i) 0) e ∙ L .outside (s * p .n + i) past
-              ∙ ap (λ (t : ℕ). getD before (t * p .n + i) 0) (sym d))
-            (sym d)
+          (part-symbol (p .n) start window i h ∙ ap (λ (t : ℕ). getD window (t + i) 0) e ∙ L .outside (s * p .n + i) past
+          ∙ ap (λ (t : ℕ). getD before (t * p .n + i) 0) (sym d))
+          (sym d)
       at b i l h (no d) =
           let lower : b < s = omega arith in
           put-before start size window part fits part-long (b * p .n + i) (subst (λ (t : ℕ). b * p .n + i < t) (sym e) (digits-lt lower h))

@@ -89,7 +89,7 @@ rebuilt-few p window y l = subst (λ (t : ℕ). t ≤ (l + 1) * p .n) (rebuilt-a
 -- The nonzero symbols of a part.
 pub part-weight : (n start : ℕ) (window : List ℕ) → start + n ≤ length window
     → countOf (length (take (start + n - start) (drop start window))) (λ i. not (eqb (getD (take (start + n - start) (drop start window)) i 0) 0))
-      ≡ countOf n (λ i. not (eqb (getD (take n (drop start window)) i 0) 0))
+    ≡ countOf n (λ i. not (eqb (getD (take n (drop start window)) i 0) 0))
 part-weight n start window h =
     ap (λ (t : ℕ). countOf t (λ i. not (eqb (getD (take (start + n - start) (drop start window)) i 0) 0))) (part-length n start window h)
     ∙ ap (λ (t : ℕ). countOf n (λ i. not (eqb (getD (take t (drop start window)) i 0) 0))) (same-size n start window)

@@ -43,15 +43,16 @@ module _ (p : Setting) (S : Sound p) (T : ℕ) (reception : List ℕ) (R : Symbo
           message-long = ap length e ∙ length-replicate (T * p .k) 0;
           message-symbols = record { below = λ i l. subst (λ (t : ℕ). t < p .q) (sym (zeros i)) (positive p S) };
           left-long = long;
-          left-symbols = R
+          left-symbols = R;
         };
         residual = residual-start p S T reception message received zeros;
-        begins = λ x f i l. absurd (omega arith)
+        begins = λ x f i l. absurd (omega arith);
       }
     where
       at : (i : ℕ) → Dec (i < T * p .k) → _≡_ {A = ℕ} (getD (replicate (T * p .k) 0) i 0) 0
       at i (yes l) = getD-replicate (T * p .k) i 0 0 l
       at i (no d) = List·getD-eq-default (replicate (T * p .k) 0) 0 (omega (arith, length-replicate {A = ℕ} (T * p .k) 0))
+
       zeros : (i : ℕ) → getD message i 0 ≡ 0
       zeros i = ap (λ (l : List ℕ). getD l i 0) e ∙ at i (decLt i (T * p .k))
 
@@ -66,7 +67,7 @@ module _ (p : Setting) (S : Sound p) (T : ℕ) (reception : List ℕ) (R : Symbo
     pub near-of-fits : j < T → (x : List ℕ) → Fits p T reception x → Near p (windowAt p left j) (p .m) (ahead p x message j)
     near-of-fits l x F =
         subst (λ (t : ℕ). 2 * t < distancesTo (p .n) (p .k) (p .m))
-          (sym (residual-window p S T reception message left received found-below left-below (P .residual) x (F .message-of) j l (P .begins x F)))
+        (sym (residual-window p S T reception message left received found-below left-below (P .residual) x (F .message-of) j l (P .begins x F)))
         (within (windowDistance p reception (transmission p x) j) (distancesTo (p .n) (p .k) (p .m)) (distances-positive (p .n) (p .k) (p .m)) (F .near j l))
       where
         within : (a d : ℕ) → 1 ≤ d → a ≤ (d - 1) / 2 → 2 * a < d
@@ -103,7 +104,7 @@ module _ (p : Setting) (S : Sound p) (T : ℕ) (reception : List ℕ) (R : Symbo
         record {
           areas = N .areas;
           residual = N .residual reception R (P .residual);
-          begins = λ x F a u. P .begins x F a u ∙ sym (N .before a (omega (arith, mul-le-mul-right (p .k) low)))
+          begins = λ x F a u. P .begins x F a u ∙ sym (N .before a (omega (arith, mul-le-mul-right (p .k) low)));
         }
 
     -- Block j was found beyond the guess: it goes into the message, and its contribution out of what is left.
@@ -115,7 +116,7 @@ module _ (p : Setting) (S : Sound p) (T : ℕ) (reception : List ℕ) (R : Symbo
           areas = D .revised .areas;
           residual = D .revised .residual reception R (P .residual);
           begins = begins-more message' (D .revised .before) (λ x F r u.
-            sym (add-back p S (getD x (j * p .k + r) 0) (getD message (j * p .k + r) 0) (symbol-below (p .q) x (F .message-of .symbols) (positive p S) (j * p .k + r)) (found-below (j * p .k + r)))
-            ∙ ap (opsOf (p .q) .add (getD message (j * p .k + r) 0)) (sym (ahead-first x r) ∙ first (ahead p x message j) (fits-below x F) (near-of-fits l x F) r u)
-            ∙ sym (D .symbol r l u))
+              sym (add-back p S (getD x (j * p .k + r) 0) (getD message (j * p .k + r) 0) (symbol-below (p .q) x (F .message-of .symbols) (positive p S) (j * p .k + r)) (found-below (j * p .k + r)))
+              ∙ ap (opsOf (p .q) .add (getD message (j * p .k + r) 0)) (sym (ahead-first x r) ∙ first (ahead p x message j) (fits-below x F) (near-of-fits l x F) r u)
+              ∙ sym (D .symbol r l u));
         }

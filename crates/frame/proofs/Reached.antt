@@ -41,9 +41,9 @@ module _ (p : Setting) (S : Sound p) (window information : List ℕ) (symbols : 
   unfolding Reached reach
   reached-served l low (serves area good) e reached =
       served (suc l) (omega arith) (omega arith) area (λ y Y near r h.
-        first-certain p S window (symbol-below (p .q) window symbols (positive p S)) y (view (p .k) information) Y (λ s t. area .below (s * p .k + t)) l low
-          (reached y Y near) good r h
-        ∙ (let place : 0 * p .k + r ≡ r = omega arith in ap (λ (t : ℕ). getD information t 0) place))
+      first-certain p S window (symbol-below (p .q) window symbols (positive p S)) y (view (p .k) information) Y (λ s t. area .below (s * p .k + t)) l low
+      (reached y Y near) good r h
+      ∙ (let place : 0 * p .k + r ≡ r = omega arith in ap (λ (t : ℕ). getD information t 0) place))
   reached-served l low (fails heavy) e reached = absurd (subst (λ (b : Bool). T (not b)) e tt)
 
 pub reached-none : (p : Setting) (window information : List ℕ) → Reached p window 0 → Levels p window information 0

@@ -39,15 +39,15 @@ module _ (p : Setting) (S : Sound p) (window : List ℕ) (symbols : Symbols (p .
   tried-far (near area close) e = absurd (absurd-bool e)
   tried-far (far none) e =
       fails (λ y Y h. subst (λ (t : ℕ). levelDistance (p .n) (p .k) l ≤ 2 * t)
-        (part-distance (p .n) l (l * p .n) window (combination (codeOf p) l y) refl) (none y (λ b r u v. Y b r)))
+      (part-distance (p .n) l (l * p .n) window (combination (codeOf p) l y) refl) (none y (λ b r u v. Y b r)))
 
   pub tried-refused : {r : Bool} → Step p l block information r → not r ≡ false
       → distancesTo (p .n) (p .k) l ≤ 2 * rebuiltDistance p window l (view (p .k) information) → Tried p window l information false
   tried-refused (near area close) h bad =
       fails (λ y Y good. level-refused p S window (symbol-below (p .q) window symbols (positive p S)) y (view (p .k) information) Y (λ s r. area .below (s * p .k + r))
-        l level good
-        (subst (λ (t : ℕ). 2 * t < levelDistance (p .n) (p .k) l) (part-distance (p .n) l (l * p .n) window (combination (codeOf p) l (view (p .k) information)) refl) close)
-        bad)
+      l level good
+      (subst (λ (t : ℕ). 2 * t < levelDistance (p .n) (p .k) l) (part-distance (p .n) l (l * p .n) window (combination (codeOf p) l (view (p .k) information)) refl) close)
+      bad)
   tried-refused (far none) h bad = absurd (absurd-bool (sym h))
 
   pub tried-serves : {r : Bool} → Step p l block information r → not r ≡ false

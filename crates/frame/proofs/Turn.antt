@@ -35,9 +35,9 @@ module _ (p : Setting) (S : Sound p) (window : List ℕ) (symbols : Symbols (p .
       → 2 * weight < distancesTo (p .n) (p .k) (p .m) → Levels p window (replicate 16 0) 1
   window-clean weight long counted few =
       served 1 (omega arith) (omega arith) (record { size = refl; below = λ i. subst (λ (t : ℕ). t < p .q) (sym (zeros-at 16 i)) (positive p S) })
-        (λ y Y near r l. first-zero p S window (symbol-below (p .q) window symbols (positive p S)) y Y near
-          (subst (λ (t : ℕ). 2 * t < distancesTo (p .n) (p .k) (p .m)) (counted ∙ ap (λ (t : ℕ). countOf t (λ i. not (eqb (getD window i 0) 0))) long) few) r l
-          ∙ sym (zeros-at 16 r))
+      (λ y Y near r l. first-zero p S window (symbol-below (p .q) window symbols (positive p S)) y Y near
+      (subst (λ (t : ℕ). 2 * t < distancesTo (p .n) (p .k) (p .m)) (counted ∙ ap (λ (t : ℕ). countOf t (λ i. not (eqb (getD window i 0) 0))) long) few) r l
+      ∙ sym (zeros-at 16 r))
 
 module _ (p : Setting) (window information : List ℕ) where
   pub levels-area : {found : ℕ} → Levels p window information found → (found ≡ 0 → ⊥) → Area (p .q) information

@@ -9,7 +9,6 @@ ghost use Rattle.code.specs.Reading.{only};
 ghost use Rattle.tables.specs.Tables.{Ready, Small};
 ghost use Rattle.frame.specs.Window.{Lessened, LessenedTo};
 ghost use Rattle.frame.specs.Frame.{Areas, Revised, Adjusted, Added};
-
 use code::Setting;
 use field::Tables;
 use tables::Rows;
@@ -38,14 +37,7 @@ fn subtract_row(
 }
 
 // Takes v × row r of G_0, .., G_m out of the blocks of a window.
-fn subtract_rows(
-    p: Setting,
-    products: &Tables,
-    rows: &Rows,
-    r: usize,
-    v: u8,
-    window: &mut [u8],
-)
+fn subtract_rows(p: Setting, products: &Tables, rows: &Rows, r: usize, v: u8, window: &mut [u8])
     requires { ⌜ Ready p (now products) (now rows) × (r < p .k) × (v < p .q) × (length (now window) ≡ windowLength p) × Symbols (p .q) (now window) ⌝ }
     ensures { λ _. ⌜ LessenedTo p (only r v) (p .m + 1) (now (window .entry)) (now (window .exit)) ⌝ }
 {
@@ -136,7 +128,17 @@ pub fn add_found(
     add_block(p, products, rows, blocks, j, information, 0, message, left);
     let mut a: usize = 1;
     while a < found {
-        add_block(p, products, rows, blocks, j + a, information, a * k, message, left);
+        add_block(
+            p,
+            products,
+            rows,
+            blocks,
+            j + a,
+            information,
+            a * k,
+            message,
+            left,
+        );
         a += 1;
     }
 }

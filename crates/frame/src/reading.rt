@@ -7,10 +7,10 @@ ghost use Rattle.code.specs.Code as distances;
 ghost use Rattle.code.specs.Settings.{Sound};
 ghost use Rattle.tables.specs.Tables.{Ready, Small, MatrixOf};
 ghost use Rattle.frame.specs.Frame.{Progress, Advanced, Compared, FrameRead};
-
 use code::Setting;
 use field::Tables;
-use tables::{Matrix, Rows};
+use tables::Matrix;
+use tables::Rows;
 
 // One turn: the blocks of window j are guessed, and then block j made certain by what the window says.
 fn turn(
@@ -33,11 +33,28 @@ fn turn(
     let end = start + size;
     super::guess::guess_window(p, products, rows, scale, blocks, j, message, left);
     let mut information = [0u8; 16];
-    let found = super::window::read_window(p, products, rows, matrix, &left[start..end], &mut information);
+    let found = super::window::read_window(
+        p,
+        products,
+        rows,
+        matrix,
+        &left[start..end],
+        &mut information,
+    );
     if found == 0 {
         return false;
     }
-    super::guess::add_found(p, products, rows, blocks, j, &information, found, message, left);
+    super::guess::add_found(
+        p,
+        products,
+        rows,
+        blocks,
+        j,
+        &information,
+        found,
+        message,
+        left,
+    );
     true
 }
 
@@ -58,7 +75,18 @@ fn read_windows(
 {
     let mut j: usize = 0;
     while j < blocks {
-        if !turn(p, products, rows, matrix, scale, blocks, reception, j, message, left) {
+        if !turn(
+            p,
+            products,
+            rows,
+            matrix,
+            scale,
+            blocks,
+            reception,
+            j,
+            message,
+            left,
+        ) {
             return false;
         }
         j += 1;
@@ -103,7 +131,17 @@ pub fn read(
     super::area::clear(message);
     bytes::copy(reception, left);
     let scale = field::inverse(p.q, products, rows[0]);
-    if !read_windows(p, products, rows, matrix, scale, blocks, reception, message, left) {
+    if !read_windows(
+        p,
+        products,
+        rows,
+        matrix,
+        scale,
+        blocks,
+        reception,
+        message,
+        left,
+    ) {
         return false;
     }
     let m = p.m;

@@ -11,11 +11,11 @@ ghost use Rattle.code.specs.Reading.{rebuiltDistance};
 ghost use Rattle.tables.specs.Tables.{Ready, Small, MatrixOf};
 ghost use Rattle.block.specs.Area.{Area};
 ghost use Rattle.frame.specs.Window.{Tried, Levels};
-
+use block::Series;
 use code::Setting;
 use field::Tables;
-use tables::{Matrix, Rows};
-use block::Series;
+use tables::Matrix;
+use tables::Rows;
 
 // d_0 + .. + d_l
 pub fn distances_to(p: Setting, l: usize) -> usize
@@ -53,7 +53,14 @@ fn rebuilt_distance(
     let mut s: usize = 0;
     while s <= l {
         let end = start + n;
-        count += block::information::differing(p, products, rows, information, s, &window[start..end]);
+        count += block::information::differing(
+            p,
+            products,
+            rows,
+            information,
+            s,
+            &window[start..end],
+        );
         start = end;
         s += 1;
     }
@@ -76,7 +83,15 @@ fn try_level(
     let n = p.n;
     let start = l * n;
     let end = start + n;
-    let near = block::repair(p, products, rows, matrix, &window[start..end], l, information);
+    let near = block::repair(
+        p,
+        products,
+        rows,
+        matrix,
+        &window[start..end],
+        l,
+        information,
+    );
     if !near {
         return false;
     }

@@ -35,7 +35,7 @@ pub count-bound : (number : ℕ) (reception message sent : List ℕ) (r : Answer
     → r .altered ≤ mostAltered (settingOf number) (blocksOf (settingOf number) (length reception))
 count-bound number reception message sent r message' sent' (refused h e f g) =
     zero-count r (mostAltered (settingOf number) (blocksOf (settingOf number) (length reception)))
-      (ap (λ (a : Answer). a .altered) e ∙ first-no-count (decodingQuestions number reception (length message) (length sent)))
+    (ap (λ (a : Answer). a .altered) e ∙ first-no-count (decodingQuestions number reception (length message) (length sent)))
 count-bound number reception message sent r message' sent' (found asked x F e f g) =
     subst (λ (t : ℕ). t ≤ mostAltered (settingOf number) (blocksOf (settingOf number) (length reception))) (sym (ap (λ (a : Answer). a .altered) e))
     (altered-bound (settingOf number) (blocksOf (settingOf number) (length reception)) reception x F)

@@ -123,7 +123,7 @@ encoding-room number message room room' e h =
     let yes-to = all-yes (encodingQuestions number message room) tt e in
     let p = settingOf number in
     yes-all (encodingQuestions number message room')
-      (yes-to .0, (yes-to .1 .0, (yes-to .1 .1 .0, (yes-to .1 .1 .1 .0, (room-more ((length message / p .k + p .m) * p .n) room room' (yes-to .1 .1 .1 .1 .0) h, tt)))))
+    (yes-to .0, (yes-to .1 .0, (yes-to .1 .1 .0, (yes-to .1 .1 .1 .0, (room-more ((length message / p .k + p .m) * p .n) room room' (yes-to .1 .1 .1 .1 .0) h, tt)))))
 
 decoding-room : (number : ℕ) (reception : List ℕ) (a a' b b' : ℕ) → firstNo (decodingQuestions number reception a b) .number ≡ 0 → a ≤ a' → b ≤ b'
     → firstNo (decodingQuestions number reception a' b') ≡ answer 0 0 0
@@ -131,9 +131,19 @@ decoding-room number reception a a' b b' e ha hb =
     let yes-to = all-yes (decodingQuestions number reception a b) tt e in
     let p = settingOf number in
     let T = blocksOf p (length reception) in
-    yes-all (decodingQuestions number reception a' b')
-      (yes-to .0, (yes-to .1 .0, (yes-to .1 .1 .0, (yes-to .1 .1 .1 .0,
-        (room-more (T * p .k) a a' (yes-to .1 .1 .1 .1 .0) ha, (room-more ((T + p .m) * p .n) b b' (yes-to .1 .1 .1 .1 .1 .0) hb, tt))))))
+    yes-all (decodingQuestions number reception a' b') (
+      yes-to .0,
+      (
+        yes-to .1 .0,
+        (
+          yes-to .1 .1 .0,
+          (
+            yes-to .1 .1 .1 .0,
+            (room-more (T * p .k) a a' (yes-to .1 .1 .1 .1 .0) ha, (room-more ((T + p .m) * p .n) b b' (yes-to .1 .1 .1 .1 .1 .0) hb, tt)),
+          ),
+        ),
+      ),
+    )
 
 same-answer : {r : Answer} {a b c a' b' c' : ℕ} → r ≡ answer a b c → a' ≡ a → b' ≡ b → c' ≡ c → r ≡ answer a' b' c'
 same-answer {r} {a} {b} {c} {a'} {b'} {c'} e ea eb ec =
@@ -153,35 +163,46 @@ zeros-long n l e = ap length e ∙ length-replicate n 0
 -- The lemma of each kind of order.
 encoding-order : (o : Order) → Passes (encodingTest o) → Promised encoding o
 unfolding encodingTest
-encoding-order o t before after r room E =
-    ( same-answer (E .answered ∙ clear) zero-number zero-place zero-count
-    , begun (o .sent) (transmission p (o .given)) before after ((length (o .given) / p .k + p .m) * p .n) written sent-is (ap length sent-is ∙ transmission-length p (o .given))
-    )
+encoding-order o t before after r room E = (
+  same-answer (E .answered ∙ clear) zero-number zero-place zero-count,
+  begun (o .sent) (transmission p (o .given)) before after ((length (o .given) / p .k + p .m) * p .n) written sent-is (ap length sent-is ∙ transmission-length p (o .given)),
+)
   where
     p : Setting
     p = settingOf (o .setting)
+
     asked : Bool
     asked = eqb (firstNo (encodingQuestions (o .setting) (o .given) (length (o .sent))) .number) 0
+
     zeros : Bool
     zeros = eqb (o .number) 0 && (eqb (o .place) 0 && eqb (o .count) 0)
+
     same : Bool
     same = sameList (o .sent) (transmission p (o .given))
+
     later : Passes (zeros && same)
     later = and-right asked (zeros && same) t
+
     clear : firstNo (encodingQuestions (o .setting) (o .given) (length before)) ≡ answer 0 0 0
     clear =
         encoding-room (o .setting) (o .given) (length (o .sent)) (length before)
-          (eqb→eq (firstNo (encodingQuestions (o .setting) (o .given) (length (o .sent))) .number) 0 (and-left asked (zeros && same) t)) room
+        (eqb→eq (firstNo (encodingQuestions (o .setting) (o .given) (length (o .sent))) .number) 0 (and-left asked (zeros && same) t)) room
+
     zero-number : o .number ≡ 0
     zero-number = eqb→eq (o .number) 0 (and-left (eqb (o .number) 0) (eqb (o .place) 0 && eqb (o .count) 0) (and-left zeros same later))
+
     rest : Passes (eqb (o .place) 0 && eqb (o .count) 0)
     rest = and-right (eqb (o .number) 0) (eqb (o .place) 0 && eqb (o .count) 0) (and-left zeros same later)
+
     zero-place : o .place ≡ 0
     zero-place = eqb→eq (o .place) 0 (and-left (eqb (o .place) 0) (eqb (o .count) 0) rest)
+
     zero-count : o .count ≡ 0
     zero-count = eqb→eq (o .count) 0 (and-right (eqb (o .place) 0) (eqb (o .count) 0) rest)
+
     sent-is : o .sent ≡ transmission p (o .given)
     sent-is = same-list (o .sent) (transmission p (o .given)) (and-right zeros same later)
+
     written : after ≡ encodedArea p (o .given) before
     written =
         E .area ∙ ap (λ (b : Bool). pick b (encodedArea p (o .given) before) before) (eq-eqb (r .number) 0 (ap (λ (a : Answer). a .number) (E .answered ∙ clear)))
@@ -205,30 +226,37 @@ module _ (o : Order) (asked : firstNo (decodingQuestions (o .setting) (o .given)
     where
       fit : Bool
       fit = fitsTest p (blocks o) (o .given) (o .message)
+
       same : Bool
       same = sameList (o .sent) (transmission p (o .message))
+
       count : Bool
       count = eqb (o .count) (altered p (blocks o) (o .given) (o .sent))
+
       fits : Fits p (blocks o) (o .given) (o .message)
       fits = fits-of-test p sound (blocks o) (o .given) (o .message) (and-left fit (same && count) t)
+
       sent-is : o .sent ≡ transmission p (o .message)
       sent-is = same-list (o .sent) (transmission p (o .message)) (and-left same count (and-right fit (same && count) t))
+
       count-is : o .count ≡ altered p (blocks o) (o .given) (o .sent)
       count-is = eqb→eq (o .count) (altered p (blocks o) (o .given) (o .sent)) (and-right same count (and-right fit (same && count) t))
+
       sent-long : length (o .sent) ≡ (blocks o + p .m) * p .n
       sent-long =
           ap length sent-is
           ∙ (transmission-length p (o .message) ∙ ap (λ (T : ℕ). (T + p .m) * p .n) (message-blocks p sound (blocks o) (o .message) (fits .message-of)))
+
       at : Decoded (o .setting) (o .given) message sent r message' sent'
           → (r ≡ answer (o .number) (o .place) (o .count)) × Begun (o .message) message message' × Begun (o .sent) sent sent'
       at (refused h e f g) = absurd (never-refused message sent hm hs h)
       at (none-fits a none e f g) = absurd (none (o .message) fits)
       at (found a x F e f g) =
           let one : o .message ≡ x = at-most-one-fits p sound (blocks o) (o .given) (o .message) x fits F in
-          let sent-one : o .sent ≡ transmission p x = sent-is ∙ ap (transmission p) one in
-          ( same-answer e zero-number clear-place (count-is ∙ ap (altered p (blocks o) (o .given)) sent-one)
-          , begun (o .message) x message message' (blocks o * p .k) f one (fits .message-of .long)
-          , begun (o .sent) (transmission p x) sent sent' ((blocks o + p .m) * p .n) g sent-one sent-long
+          let sent-one : o .sent ≡ transmission p x = sent-is ∙ ap (transmission p) one in (
+            same-answer e zero-number clear-place (count-is ∙ ap (altered p (blocks o) (o .given)) sent-one),
+            begun (o .message) x message message' (blocks o * p .k) f one (fits .message-of .long),
+            begun (o .sent) (transmission p x) sent sent' ((blocks o + p .m) * p .n) g sent-one sent-long,
           )
 
   seven-order : o .number ≡ 7 → Passes (sevenTest o) → Promised decoding o
@@ -237,29 +265,37 @@ module _ (o : Order) (asked : firstNo (decodingQuestions (o .setting) (o .given)
     where
       none : Bool
       none = noneFits p (blocks o) (o .given)
+
       no-message : Bool
       no-message = sameList (o .message) (replicate (blocks o * p .k) 0)
+
       no-sent : Bool
       no-sent = sameList (o .sent) (replicate ((blocks o + p .m) * p .n) 0)
+
       no-count : Bool
       no-count = eqb (o .count) 0
+
       later : Passes (no-message && (no-sent && no-count))
       later = and-right none (no-message && (no-sent && no-count)) t
+
       message-is : o .message ≡ replicate (blocks o * p .k) 0
       message-is = same-list (o .message) (replicate (blocks o * p .k) 0) (and-left no-message (no-sent && no-count) later)
+
       sent-is : o .sent ≡ replicate ((blocks o + p .m) * p .n) 0
       sent-is = same-list (o .sent) (replicate ((blocks o + p .m) * p .n) 0) (and-left no-sent no-count (and-right no-message (no-sent && no-count) later))
+
       count-is : o .count ≡ 0
       count-is = eqb→eq (o .count) 0 (and-right no-sent no-count (and-right no-message (no-sent && no-count) later))
+
       at : Decoded (o .setting) (o .given) message sent r message' sent'
           → (r ≡ answer (o .number) (o .place) (o .count)) × Begun (o .message) message message' × Begun (o .sent) sent sent'
       at (refused h e f g) = absurd (never-refused message sent hm hs h)
       at (found a x F e f g) = absurd (no-message-fits p sound (blocks o) (o .given) (and-left none (no-message && (no-sent && no-count)) t) x F)
-      at (none-fits a far e f g) =
-          ( same-answer e seven clear-place count-is
-          , begun (o .message) (replicate (blocks o * p .k) 0) message message' (blocks o * p .k) f message-is (zeros-long (blocks o * p .k) (o .message) message-is)
-          , begun (o .sent) (replicate ((blocks o + p .m) * p .n) 0) sent sent' ((blocks o + p .m) * p .n) g sent-is (zeros-long ((blocks o + p .m) * p .n) (o .sent) sent-is)
-          )
+      at (none-fits a far e f g) = (
+        same-answer e seven clear-place count-is,
+        begun (o .message) (replicate (blocks o * p .k) 0) message message' (blocks o * p .k) f message-is (zeros-long (blocks o * p .k) (o .message) message-is),
+        begun (o .sent) (replicate ((blocks o + p .m) * p .n) 0) sent sent' ((blocks o + p .m) * p .n) g sent-is (zeros-long ((blocks o + p .m) * p .n) (o .sent) sent-is),
+      )
 
 order-kept : (c : Call) (o : Order) → Passes (testOf c o) → Promised c o
 unfolding decodingTest
@@ -268,14 +304,19 @@ order-kept decoding o t = at (eqb (o .number) 0) refl (and-right place kind (and
   where
     asked : Bool
     asked = eqb (firstNo (decodingQuestions (o .setting) (o .given) (length (o .message)) (length (o .sent))) .number) 0
+
     place : Bool
     place = eqb (o .place) 0
+
     kind : Bool
     kind = elim (eqb (o .number) 0) [ true ↦ readTest o | false ↦ eqb (o .number) 7 && sevenTest o ]
+
     yes-to : firstNo (decodingQuestions (o .setting) (o .given) (length (o .message)) (length (o .sent))) .number ≡ 0
     yes-to = eqb→eq (firstNo (decodingQuestions (o .setting) (o .given) (length (o .message)) (length (o .sent))) .number) 0 (and-left asked (place && kind) t)
+
     clear-place : o .place ≡ 0
     clear-place = eqb→eq (o .place) 0 (and-left place kind (and-right asked (place && kind) t))
+
     at : (b : Bool) → eqb (o .number) 0 ≡ b → Passes (elim b [ true ↦ readTest o | false ↦ eqb (o .number) 7 && sevenTest o ]) → Promised decoding o
     at true e t = read-order o yes-to clear-place (eqb-true (o .number) 0 e) t
     at false e t =
@@ -290,4 +331,3 @@ each-kept (x ∷ rest) t o h = at (List·Memᴰ·cases-cons h) (each-kept rest (
     at : (o ≡ x) ⊎ List·Memᴰ o rest → (List·Memᴰ o rest → Kept o) → Kept o
     at (inl e) more = subst Kept (sym e) (order-kept (x .call) x (and-left (testOf (x .call) x) (ordersTest rest) t))
     at (inr m) more = more m
-

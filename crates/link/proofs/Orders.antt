@@ -38,7 +38,7 @@ orders =
     encodes 1 (1 ∷ []) (2 ∷ 4 ∷ 3 ∷ 1 ∷ 2 ∷ 3 ∷ 2 ∷ 3 ∷ 2 ∷ 1 ∷ 3 ∷ 4 ∷ [])
     -- "Setting 1, 12214334 (000, section 4)"
     ∷ encodes 1 (1 ∷ 2 ∷ 2 ∷ 1 ∷ 4 ∷ 3 ∷ 3 ∷ 4 ∷ [])
-      (2 ∷ 4 ∷ 3 ∷ 1 ∷ 1 ∷ 1 ∷ 3 ∷ 0 ∷ 0 ∷ 0 ∷ 3 ∷ 2 ∷ 0 ∷ 2 ∷ 3 ∷ 0 ∷ 4 ∷ 1 ∷ 0 ∷ 0 ∷ 1 ∷ 0 ∷ 0 ∷ 4 ∷ 0 ∷ 0 ∷ 2 ∷ 3 ∷ 0 ∷ 3 ∷ 2 ∷ 0 ∷ 4 ∷ 0 ∷ 2 ∷ 4 ∷ 3 ∷ 4 ∷ 2 ∷ 1 ∷ [])
+    (2 ∷ 4 ∷ 3 ∷ 1 ∷ 1 ∷ 1 ∷ 3 ∷ 0 ∷ 0 ∷ 0 ∷ 3 ∷ 2 ∷ 0 ∷ 2 ∷ 3 ∷ 0 ∷ 4 ∷ 1 ∷ 0 ∷ 0 ∷ 1 ∷ 0 ∷ 0 ∷ 4 ∷ 0 ∷ 0 ∷ 2 ∷ 3 ∷ 0 ∷ 3 ∷ 2 ∷ 0 ∷ 4 ∷ 0 ∷ 2 ∷ 4 ∷ 3 ∷ 4 ∷ 2 ∷ 1 ∷ [])
     -- "Setting 2, message 10"
     ∷ encodes 2 (1 ∷ 0 ∷ []) (3 ∷ 1 ∷ 3 ∷ 2 ∷ 2 ∷ 1 ∷ 0 ∷ 3 ∷ 4 ∷ 1 ∷ 1 ∷ 4 ∷ 3 ∷ 0 ∷ 3 ∷ 6 ∷ 6 ∷ 5 ∷ 3 ∷ 5 ∷ 0 ∷ [])
     -- "Setting 3, message 100"
@@ -47,12 +47,12 @@ orders =
     ∷ encodes 3 (0 ∷ 1 ∷ 0 ∷ []) (0 ∷ 5 ∷ 7 ∷ 7 ∷ 4 ∷ 1 ∷ 0 ∷ 0 ∷ 4 ∷ 6 ∷ 1 ∷ 1 ∷ 2 ∷ 0 ∷ [])
     -- "Setting 1, 2400 1100 0000 0230 4100 0000 0023 0320 0000 3400: eight zeros, count 14"
     ∷ reads 1
-      (2 ∷ 4 ∷ 0 ∷ 0 ∷ 1 ∷ 1 ∷ 0 ∷ 0 ∷ 0 ∷ 0 ∷ 0 ∷ 0 ∷ 0 ∷ 2 ∷ 3 ∷ 0 ∷ 4 ∷ 1 ∷ 0 ∷ 0 ∷ 0 ∷ 0 ∷ 0 ∷ 0 ∷ 0 ∷ 0 ∷ 2 ∷ 3 ∷ 0 ∷ 3 ∷ 2 ∷ 0 ∷ 0 ∷ 0 ∷ 0 ∷ 0 ∷ 3 ∷ 4 ∷ 0 ∷ 0 ∷ [])
-      (replicate 8 0) (replicate 40 0) 14
+    (2 ∷ 4 ∷ 0 ∷ 0 ∷ 1 ∷ 1 ∷ 0 ∷ 0 ∷ 0 ∷ 0 ∷ 0 ∷ 0 ∷ 0 ∷ 2 ∷ 3 ∷ 0 ∷ 4 ∷ 1 ∷ 0 ∷ 0 ∷ 0 ∷ 0 ∷ 0 ∷ 0 ∷ 0 ∷ 0 ∷ 2 ∷ 3 ∷ 0 ∷ 3 ∷ 2 ∷ 0 ∷ 0 ∷ 0 ∷ 0 ∷ 0 ∷ 3 ∷ 4 ∷ 0 ∷ 0 ∷ [])
+    (replicate 8 0) (replicate 40 0) 14
     -- "Setting 1, 2431 1130 0000 0200 4100 0004 0003 0020 0004 3400: number 7"
     ∷ getsSeven 1
-      (2 ∷ 4 ∷ 3 ∷ 1 ∷ 1 ∷ 1 ∷ 3 ∷ 0 ∷ 0 ∷ 0 ∷ 0 ∷ 0 ∷ 0 ∷ 2 ∷ 0 ∷ 0 ∷ 4 ∷ 1 ∷ 0 ∷ 0 ∷ 0 ∷ 0 ∷ 0 ∷ 4 ∷ 0 ∷ 0 ∷ 0 ∷ 3 ∷ 0 ∷ 0 ∷ 2 ∷ 0 ∷ 0 ∷ 0 ∷ 0 ∷ 4 ∷ 3 ∷ 4 ∷ 0 ∷ 0 ∷ [])
-      8 40
+    (2 ∷ 4 ∷ 3 ∷ 1 ∷ 1 ∷ 1 ∷ 3 ∷ 0 ∷ 0 ∷ 0 ∷ 0 ∷ 0 ∷ 0 ∷ 2 ∷ 0 ∷ 0 ∷ 4 ∷ 1 ∷ 0 ∷ 0 ∷ 0 ∷ 0 ∷ 0 ∷ 4 ∷ 0 ∷ 0 ∷ 0 ∷ 3 ∷ 0 ∷ 0 ∷ 2 ∷ 0 ∷ 0 ∷ 0 ∷ 0 ∷ 4 ∷ 3 ∷ 4 ∷ 0 ∷ 0 ∷ [])
+    8 40
     -- "Setting 1, 0000 0000 0000: message 0, count 0"
     ∷ reads 1 (replicate 12 0) (0 ∷ []) (replicate 12 0) 0
     -- "Setting 1, 2431 2323 0000: message 1, count 4, just t"
@@ -63,7 +63,7 @@ orders =
 
 orders-pass : Passes (ordersTest orders)
 unfolding ordersTest orders encodingTest decodingTest readTest sevenTest sameList fitsTest noneFits noneBegins finishedFar windowsTest windowTest windowFrom all total
-  distancesTo symbolsTo transmission tabulate sentSymbol sum timesG rowSymbol base points fromRoots timesRootAfter power opsOf five eight modular binary timesBits timesAlpha
+    distancesTo symbolsTo transmission tabulate sentSymbol sum timesG rowSymbol base points fromRoots timesRootAfter power opsOf five eight modular binary timesBits timesAlpha
 orders-pass = tt
 
 -- Every order of the list is kept.

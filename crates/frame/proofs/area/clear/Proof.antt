@@ -31,10 +31,10 @@ loop-less c = omega arith
 
 loop-again : tie.Need-loop-again Inv-loop μ-loop
 loop-again c =
-    let l = c .before .loop in
-    ( omega arith
-    , length-set (l .area) (l .i) 0 ∙ l .inv .1
-    , ap (λ (t : List ℕ). set t (l .i) 0) (l .inv .2) ∙ fill-more (l .i) 0 (now (c .before .before .args .area)) (omega arith)
+    let l = c .before .loop in (
+      omega arith,
+      length-set (l .area) (l .i) 0 ∙ l .inv .1,
+      ap (λ (t : List ℕ). set t (l .i) 0) (l .inv .2) ∙ fill-more (l .i) 0 (now (c .before .before .args .area)) (omega arith),
     )
 
 same-length : tie.Need-same-length Inv-loop μ-loop

@@ -45,22 +45,22 @@ loop-again : tie.Need-loop-again Inv-loop μ-loop
 loop-again c =
     let entry = c .before .before .before .before .before .before .before .before in
     let a = entry .args in
-    let l = c .before .before .before .loop in
-    ( omega arith
-    , adding-zero (a .p) (a .blocks) (a .i) (λ r. getD (now (a .information)) (a .from + r) 0) (now (a .message)) (now (a .left)) (entry .pre .0 .sound) (l .next) (l .message) (l .left)
-      (entry .pre .3) (c .if2 .taken) (l .inv .1)
+    let l = c .before .before .before .loop in (
+      omega arith,
+      adding-zero (a .p) (a .blocks) (a .i) (λ r. getD (now (a .information)) (a .from + r) 0) (now (a .message)) (now (a .left)) (entry .pre .0 .sound) (l .next) (l .message) (l .left)
+          (entry .pre .3) (c .if2 .taken) (l .inv .1),
     )
 
 adjust-requires : tie.Need-adjust-requires Inv-loop μ-loop
 adjust-requires c κs =
     let entry = c .before .before .before .before .before .before .before .before .before .before in
     let a = entry .args in
-    let l = c .before .before .before .before .before .loop in
-    ( entry .pre .0
-    , omega (arith, c .before .before .before .before .before .before .if1 .left)
-    , c .before .before .before .before .loop-test .taken
-    , symbol-below (a .p .q) (now (a .information)) (entry .pre .1) (positive (a .p) (entry .pre .0 .sound)) (a .from + l .next)
-    , l .inv .1 .revised .areas
+    let l = c .before .before .before .before .before .loop in (
+      entry .pre .0,
+      omega (arith, c .before .before .before .before .before .before .if1 .left),
+      c .before .before .before .before .loop-test .taken,
+      symbol-below (a .p .q) (now (a .information)) (entry .pre .1) (positive (a .p) (entry .pre .0 .sound)) (a .from + l .next),
+      l .inv .1 .revised .areas,
     )
 
 loop-less-2 : tie.Need-loop-less-2 Inv-loop μ-loop
@@ -71,11 +71,11 @@ loop-again-2 c =
     let entry = c .before .before .before .before .before .before .before .before .before .before .before .before .before .before .before in
     let a = entry .args in
     let l = c .before .before .before .before .before .before .before .before .before .before .loop in
-    let some : a .i < a .blocks = omega (arith, c .before .before .before .before .before .before .before .before .before .before .before .if1 .left) in
-    ( omega arith
-    , adding-more (a .p) (a .blocks) (a .i) (λ r. getD (now (a .information)) (a .from + r) 0) (now (a .message)) (now (a .left)) (l .next)
-      (getD (now (a .information)) (a .from + l .next) 0) (l .message) (l .left) (c .before .before .before .before .adjust .last .1 .1 .1 .1 .1 .1 .1 .0) (c .before .before .before .before .adjust .last .1 .1 .1 .1 .1 .1 .1 .1 .0)
-      some (c .before .before .before .before .before .before .before .before .before .loop-test .taken) refl (l .inv .1) (c .before .before .before .before .adjust .ensures)
+    let some : a .i < a .blocks = omega (arith, c .before .before .before .before .before .before .before .before .before .before .before .if1 .left) in (
+      omega arith,
+      adding-more (a .p) (a .blocks) (a .i) (λ r. getD (now (a .information)) (a .from + r) 0) (now (a .message)) (now (a .left)) (l .next)
+          (getD (now (a .information)) (a .from + l .next) 0) (l .message) (l .left) (c .before .before .before .before .adjust .last .1 .1 .1 .1 .1 .1 .1 .0) (c .before .before .before .before .adjust .last .1 .1 .1 .1 .1 .1 .1 .1 .0)
+          some (c .before .before .before .before .before .before .before .before .before .loop-test .taken) refl (l .inv .1) (c .before .before .before .before .adjust .ensures),
     )
 
 same-length : tie.Need-same-length Inv-loop μ-loop

@@ -54,10 +54,10 @@ loop-less c = omega arith
 loop-again : tie.Need-loop-again Inv-loop μ-loop
 loop-again c =
     let a = c .before .before .before .before .before .before .before .before .before .before .before .before .before .before .before .before .before .before .before .args in
-    let l = c .before .before .before .before .before .before .before .before .loop in
-    ( omega arith
-    , revised-then (a .p) (a .blocks) (a .j + 1) (a .j + l .a) (c .before .before .before .before .before .before .before .before .before .before .before .before .before .add-block .last .1 .1 .1 .1 .1 .1 .1 .0) (c .before .before .before .before .before .before .before .before .before .before .before .before .before .add-block .last .1 .1 .1 .1 .1 .1 .1 .1 .0) (l .message) (l .left) (c .before .before .before .before .add-block2 .last .1 .1 .1 .1 .1 .1 .1 .0) (c .before .before .before .before .add-block2 .last .1 .1 .1 .1 .1 .1 .1 .1 .0)
-      (omega arith) (l .inv .1) (c .before .before .before .before .add-block2 .ensures .revised)
+    let l = c .before .before .before .before .before .before .before .before .loop in (
+      omega arith,
+      revised-then (a .p) (a .blocks) (a .j + 1) (a .j + l .a) (c .before .before .before .before .before .before .before .before .before .before .before .before .before .add-block .last .1 .1 .1 .1 .1 .1 .1 .0) (c .before .before .before .before .before .before .before .before .before .before .before .before .before .add-block .last .1 .1 .1 .1 .1 .1 .1 .1 .0) (l .message) (l .left) (c .before .before .before .before .add-block2 .last .1 .1 .1 .1 .1 .1 .1 .0) (c .before .before .before .before .add-block2 .last .1 .1 .1 .1 .1 .1 .1 .1 .0)
+          (omega arith) (l .inv .1) (c .before .before .before .before .add-block2 .ensures .revised),
     )
 
 same-length : tie.Need-same-length Inv-loop μ-loop

@@ -65,12 +65,12 @@ part-subtract-rows-end c = room (c .before .before .before .before .before .befo
 subtract-rows-requires : tie.Need-subtract-rows-requires
 subtract-rows-requires c κs =
     let entry = c .before .before .before .before .before .before .before in
-    let a = entry .args in
-    ( entry .pre .0
-    , entry .pre .2
-    , entry .pre .3
-    , part-length (windowLength (a .p)) (a .i * a .p .n) (now (a .left)) (room entry)
-    , symbols-part (a .p .q) (windowLength (a .p)) (a .i * a .p .n) (now (a .left)) (entry .pre .4 .left-symbols) (positive (a .p) (entry .pre .0 .sound))
+    let a = entry .args in (
+      entry .pre .0,
+      entry .pre .2,
+      entry .pre .3,
+      part-length (windowLength (a .p)) (a .i * a .p .n) (now (a .left)) (room entry),
+      symbols-part (a .p .q) (windowLength (a .p)) (a .i * a .p .n) (now (a .left)) (entry .pre .4 .left-symbols) (positive (a .p) (entry .pre .0 .sound)),
     )
 
 same-length : tie.Need-same-length

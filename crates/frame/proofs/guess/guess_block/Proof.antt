@@ -31,10 +31,10 @@ is-light-requires-2 : tie.Need-is-light-requires-2
 is-light-requires-2 c κs =
     let entry = c .before .before .before .before .before .before .before .before .before .before .before .before .before .before in
     let a = entry .args in
-    let some : a .i < a .blocks = omega (arith, c .before .before .before .before .before .before .before .before .before .before .before .if1 .left) in
-    ( entry .pre .0 .sound
-    , entry .pre .0 .small
-    , block-room (a .p) (a .blocks) (a .i) (c .before .before .before .before .before .guess-from-start .last .1 .1 .1 .1 .1 .1 .0) (c .before .before .before .before .before .guess-from-start .last .1 .1 .1 .1 .1 .1 .1 .0) (c .before .before .before .before .before .guess-from-start .ensures .areas) some
+    let some : a .i < a .blocks = omega (arith, c .before .before .before .before .before .before .before .before .before .before .before .if1 .left) in (
+      entry .pre .0 .sound,
+      entry .pre .0 .small,
+      block-room (a .p) (a .blocks) (a .i) (c .before .before .before .before .before .guess-from-start .last .1 .1 .1 .1 .1 .1 .0) (c .before .before .before .before .before .guess-from-start .last .1 .1 .1 .1 .1 .1 .1 .0) (c .before .before .before .before .before .guess-from-start .ensures .areas) some,
     )
 
 same-length-2 : tie.Need-same-length-2

@@ -44,8 +44,13 @@ inside : (c : tie.In-loop Inv-loop μ-loop) → c .before .before .before .befor
 inside c =
     let entry = c .before .before .before .before .before .before in
     let a = entry .args in
-    omega (arith, block-room (a .p) (a .blocks) (a .i) (c .before .loop .message) (c .before .loop .left) (c .before .loop .inv .1 .areas) (entry .pre .1),
-      information-short (a .p) (entry .pre .0 .sound), c .before .loop .inv .0, c .loop-test .taken)
+    omega (
+      arith,
+      block-room (a .p) (a .blocks) (a .i) (c .before .loop .message) (c .before .loop .left) (c .before .loop .inv .1 .areas) (entry .pre .1),
+      information-short (a .p) (entry .pre .0 .sound),
+      c .before .loop .inv .0,
+      c .loop-test .taken,
+    )
 
 add-v : tie.Need-add-v Inv-loop μ-loop
 add-v c =
@@ -59,12 +64,12 @@ adjust-requires : tie.Need-adjust-requires Inv-loop μ-loop
 adjust-requires c κs =
     let entry = c .before .before .before .before .before .before .before .before .before in
     let a = entry .args in
-    let l = c .before .before .before .before .loop in
-    ( entry .pre .0
-    , entry .pre .1
-    , omega (arith, l .inv .0, c .before .before .before .loop-test .taken)
-    , symbol-below (a .p .q) (l .left) (l .inv .1 .areas .left-symbols) (positive (a .p) (entry .pre .0 .sound)) (a .i * a .p .n + (a .p .n - a .p .k) + (l .r - 1))
-    , l .inv .1 .areas
+    let l = c .before .before .before .before .loop in (
+      entry .pre .0,
+      entry .pre .1,
+      omega (arith, l .inv .0, c .before .before .before .loop-test .taken),
+      symbol-below (a .p .q) (l .left) (l .inv .1 .areas .left-symbols) (positive (a .p) (entry .pre .0 .sound)) (a .i * a .p .n + (a .p .n - a .p .k) + (l .r - 1)),
+      l .inv .1 .areas,
     )
 
 loop-less : tie.Need-loop-less Inv-loop μ-loop
@@ -73,10 +78,10 @@ loop-less c = omega arith
 loop-again : tie.Need-loop-again Inv-loop μ-loop
 loop-again c =
     let a = c .before .before .before .before .before .before .before .before .before .before .before .before .before .before .args in
-    let l = c .before .before .before .before .before .before .before .before .before .loop in
-    ( omega arith
-    , revised-then (a .p) (a .blocks) (a .i) (a .i) (now (a .message)) (now (a .left)) (l .message) (l .left) (c .before .before .before .before .adjust .last .1 .1 .1 .1 .1 .1 .1 .0) (c .before .before .before .before .adjust .last .1 .1 .1 .1 .1 .1 .1 .1 .0)
-      (omega arith) (l .inv .1) (c .before .before .before .before .adjust .ensures .revised)
+    let l = c .before .before .before .before .before .before .before .before .before .loop in (
+      omega arith,
+      revised-then (a .p) (a .blocks) (a .i) (a .i) (now (a .message)) (now (a .left)) (l .message) (l .left) (c .before .before .before .before .adjust .last .1 .1 .1 .1 .1 .1 .1 .0) (c .before .before .before .before .adjust .last .1 .1 .1 .1 .1 .1 .1 .1 .0)
+          (omega arith) (l .inv .1) (c .before .before .before .before .adjust .ensures .revised),
     )
 
 same-length : tie.Need-same-length Inv-loop μ-loop

@@ -32,8 +32,12 @@ inside : (c : tie.In-loop Inv-loop μ-loop) → c .before .before .before .befor
 inside c =
     let entry = c .before .before .before .before .before in
     let a = entry .args in
-    omega (arith, block-room (a .p) (a .blocks) (a .i) (c .before .loop .message) (c .before .loop .left) (c .before .loop .inv .1 .areas) (entry .pre .2),
-      information-short (a .p) (entry .pre .0 .sound), c .loop-test .taken)
+    omega (
+      arith,
+      block-room (a .p) (a .blocks) (a .i) (c .before .loop .message) (c .before .loop .left) (c .before .loop .inv .1 .areas) (entry .pre .2),
+      information-short (a .p) (entry .pre .0 .sound),
+      c .loop-test .taken,
+    )
 
 add-multiply : tie.Need-add-multiply Inv-loop μ-loop
 add-multiply c =
@@ -47,11 +51,11 @@ multiply-requires : tie.Need-multiply-requires Inv-loop μ-loop
 multiply-requires c κs =
     let entry = c .before .before .before .before .before .before in
     let a = entry .args in
-    let l = c .before .before .loop in
-    ( entry .pre .0 .sound .good
-    , entry .pre .0 .products
-    , entry .pre .1
-    , symbol-below (a .p .q) (l .left) (l .inv .1 .areas .left-symbols) (positive (a .p) (entry .pre .0 .sound)) (a .i * a .p .n + l .r)
+    let l = c .before .before .loop in (
+      entry .pre .0 .sound .good,
+      entry .pre .0 .products,
+      entry .pre .1,
+      symbol-below (a .p .q) (l .left) (l .inv .1 .areas .left-symbols) (positive (a .p) (entry .pre .0 .sound)) (a .i * a .p .n + l .r),
     )
 
 adjust-requires : tie.Need-adjust-requires Inv-loop μ-loop
@@ -68,10 +72,10 @@ loop-less c = omega arith
 loop-again : tie.Need-loop-again Inv-loop μ-loop
 loop-again c =
     let a = c .before .before .before .before .before .before .before .before .before .before .before .before .before .before .args in
-    let l = c .before .before .before .before .before .before .before .before .before .before .loop in
-    ( omega arith
-    , revised-then (a .p) (a .blocks) (a .i) (a .i) (now (a .message)) (now (a .left)) (l .message) (l .left) (c .before .before .before .before .adjust .last .1 .1 .1 .1 .1 .1 .1 .0) (c .before .before .before .before .adjust .last .1 .1 .1 .1 .1 .1 .1 .1 .0)
-      (omega arith) (l .inv .1) (c .before .before .before .before .adjust .ensures .revised)
+    let l = c .before .before .before .before .before .before .before .before .before .before .loop in (
+      omega arith,
+      revised-then (a .p) (a .blocks) (a .i) (a .i) (now (a .message)) (now (a .left)) (l .message) (l .left) (c .before .before .before .before .adjust .last .1 .1 .1 .1 .1 .1 .1 .0) (c .before .before .before .before .adjust .last .1 .1 .1 .1 .1 .1 .1 .1 .0)
+          (omega arith) (l .inv .1) (c .before .before .before .before .adjust .ensures .revised),
     )
 
 same-length : tie.Need-same-length Inv-loop μ-loop

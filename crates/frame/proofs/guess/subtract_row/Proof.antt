@@ -50,12 +50,12 @@ element-copy-out-multiply c = placed c .place
 
 multiply-requires : tie.Need-multiply-requires Inv-loop μ-loop
 multiply-requires c κs =
-    let entry = c .before .before .before .before .before in
-    ( entry .pre .0 .sound .good
-    , entry .pre .0 .products
-    , entry .pre .2
-    , symbol-below (entry .args .p .q) (now (entry .args .rows)) (entry .pre .0 .rows .symbols) (positive (entry .args .p) (entry .pre .0 .sound))
-      ((entry .args .j * entry .args .p .k + entry .args .r) * entry .args .p .n + c .before .before .before .loop .i)
+    let entry = c .before .before .before .before .before in (
+      entry .pre .0 .sound .good,
+      entry .pre .0 .products,
+      entry .pre .2,
+      symbol-below (entry .args .p .q) (now (entry .args .rows)) (entry .pre .0 .rows .symbols) (positive (entry .args .p) (entry .pre .0 .sound))
+          ((entry .args .j * entry .args .p .k + entry .args .r) * entry .args .p .n + c .before .before .before .loop .i),
     )
 
 slice-read-subtract : tie.Need-slice-read-subtract Inv-loop μ-loop
@@ -64,10 +64,10 @@ slice-read-subtract c = omega (arith, c .before .before .before .before .before 
 subtract-requires : tie.Need-subtract-requires Inv-loop μ-loop
 subtract-requires c κs =
     let entry = c .before .before .before .before .before .before .before in
-    let l = c .before .before .before .before .before .loop in
-    ( entry .pre .0 .sound .good
-    , symbol-below (entry .args .p .q) (l .block) (l .inv .1 .symbols) (positive (entry .args .p) (entry .pre .0 .sound)) (l .i)
-    , c .before .multiply .ensures .below
+    let l = c .before .before .before .before .before .loop in (
+      entry .pre .0 .sound .good,
+      symbol-below (entry .args .p .q) (l .block) (l .inv .1 .symbols) (positive (entry .args .p) (entry .pre .0 .sound)) (l .i),
+      c .before .multiply .ensures .below,
     )
 
 slice-write-block : tie.Need-slice-write-block Inv-loop μ-loop
@@ -83,14 +83,14 @@ loop-again : tie.Need-loop-again Inv-loop μ-loop
 loop-again c =
     let entry = c .before .before .before .before .before .before .before .before in
     let a = entry .args in
-    let l = c .before .before .before .before .before .before .loop in
-    ( omega arith
-    , lessened-more (a .p) (only (a .r) (a .v)) (a .j) (now (a .block)) (l .i) (l .block) (c .subtract .result) (l .inv .1) (omega (arith, entry .pre .4))
-      (c .subtract .ensures .same
-      ∙ ap (sub (opsOf (a .p .q)) (getD (l .block) (l .i) 0))
-        (c .before .before .multiply .ensures .same
-        ∙ row-multiple (a .p) (entry .pre .0 .sound) (now (a .rows)) (entry .pre .0 .rows) (a .r) (a .v) (a .j) (l .i) (entry .pre .1) (entry .pre .2) (entry .pre .3) (c .before .before .before .before .before .loop-test .taken)))
-      (c .subtract .ensures .below)
+    let l = c .before .before .before .before .before .before .loop in (
+      omega arith,
+      lessened-more (a .p) (only (a .r) (a .v)) (a .j) (now (a .block)) (l .i) (l .block) (c .subtract .result) (l .inv .1) (omega (arith, entry .pre .4))
+          (c .subtract .ensures .same
+          ∙ ap (sub (opsOf (a .p .q)) (getD (l .block) (l .i) 0))
+          (c .before .before .multiply .ensures .same
+          ∙ row-multiple (a .p) (entry .pre .0 .sound) (now (a .rows)) (entry .pre .0 .rows) (a .r) (a .v) (a .j) (l .i) (entry .pre .1) (entry .pre .2) (entry .pre .3) (c .before .before .before .before .before .loop-test .taken)))
+          (c .subtract .ensures .below),
     )
 
 same-length : tie.Need-same-length Inv-loop μ-loop

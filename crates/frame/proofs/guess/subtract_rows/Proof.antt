@@ -48,13 +48,13 @@ subtract-row-requires : tie.Need-subtract-row-requires Inv-loop μ-loop
 subtract-row-requires c κs =
     let entry = c .before .before .before .before in
     let l = c .before .before .loop in
-    let a = entry .args in
-    ( entry .pre .0
-    , entry .pre .1
-    , entry .pre .2
-    , omega arith
-    , part-length (a .p .n) (l .start) (l .window) (inside (c .before))
-    , symbols-part (a .p .q) (a .p .n) (l .start) (l .window) (l .inv .2 .symbols) (positive (a .p) (entry .pre .0 .sound))
+    let a = entry .args in (
+      entry .pre .0,
+      entry .pre .1,
+      entry .pre .2,
+      omega arith,
+      part-length (a .p .n) (l .start) (l .window) (inside (c .before)),
+      symbols-part (a .p .q) (a .p .n) (l .start) (l .window) (l .inv .2 .symbols) (positive (a .p) (entry .pre .0 .sound)),
     )
 
 add-s : tie.Need-add-s Inv-loop μ-loop
@@ -67,11 +67,11 @@ loop-again : tie.Need-loop-again Inv-loop μ-loop
 loop-again c =
     let entry = c .before .before .before .before .before .before .before in
     let l = c .before .before .before .before .before .loop in
-    let a = entry .args in
-    ( omega arith
-    , omega (arith, l .inv .1)
-    , lessenedTo-more (a .p) (only (a .r) (a .v)) (now (a .window)) (l .s) (l .start) (l .window) (c .before .before .subtract-row .last .1 .1 .1 .1 .1 .1 .0)
-      (l .inv .1) (inside (c .before .before .before .before)) (l .inv .2) (c .before .before .subtract-row .ensures)
+    let a = entry .args in (
+      omega arith,
+      omega (arith, l .inv .1),
+      lessenedTo-more (a .p) (only (a .r) (a .v)) (now (a .window)) (l .s) (l .start) (l .window) (c .before .before .subtract-row .last .1 .1 .1 .1 .1 .1 .0)
+          (l .inv .1) (inside (c .before .before .before .before)) (l .inv .2) (c .before .before .subtract-row .ensures),
     )
 
 same-length : tie.Need-same-length Inv-loop μ-loop

@@ -33,14 +33,14 @@ inverse-requires c κs =
 read-windows-requires : tie.Need-read-windows-requires
 read-windows-requires c κs =
     let entry = c .before .before .before .before .before .before .before .before .before .before .before .before .before .before .before in
-    let a = entry .args in
-    ( entry .pre .0
-    , entry .pre .1
-    , c .before .before .inverse .ensures .below
-    , entry .pre .3
-    , entry .pre .4
-    , begin (a .p) (entry .pre .0 .sound) (a .blocks) (now (a .reception)) (now (a .left)) (c .before .before .before .before .before .before .before .before .before .before .clear .last .0) (now (a .message)) (c .before .before .before .before .before .before .copy .last .1 .0)
-      (entry .pre .4) (entry .pre .3) (entry .pre .5) (c .before .before .before .before .before .before .before .before .before .before .clear .ensures) (entry .pre .6) (c .before .before .before .before .before .before .copy .ensures .1)
+    let a = entry .args in (
+      entry .pre .0,
+      entry .pre .1,
+      c .before .before .inverse .ensures .below,
+      entry .pre .3,
+      entry .pre .4,
+      begin (a .p) (entry .pre .0 .sound) (a .blocks) (now (a .reception)) (now (a .left)) (c .before .before .before .before .before .before .before .before .before .before .clear .last .0) (now (a .message)) (c .before .before .before .before .before .before .copy .last .1 .0)
+          (entry .pre .4) (entry .pre .3) (entry .pre .5) (c .before .before .before .before .before .before .before .before .before .before .clear .ensures) (entry .pre .6) (c .before .before .before .before .before .before .copy .ensures .1),
     )
 
 same-length : tie.Need-same-length

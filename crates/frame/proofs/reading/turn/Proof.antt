@@ -62,11 +62,11 @@ part-read-window-end c = still-room (c .before .before .before .before .before)
 read-window-requires : tie.Need-read-window-requires
 read-window-requires c κs =
     let entry = c .before .before .before .before .before .before .before .before .before .before .before .before .before .before .before .before in
-    let a = entry .args in
-    ( entry .pre .0
-    , entry .pre .1
-    , part-length (windowLength (a .p)) (a .j * a .p .n) (c .before .before .before .before .before .before .before .guess-window .last .1 .1 .1 .1 .1 .1 .1 .0) (still-room (c .before .before .before .before .before .before .before))
-    , symbols-part (a .p .q) (windowLength (a .p)) (a .j * a .p .n) (c .before .before .before .before .before .before .before .guess-window .last .1 .1 .1 .1 .1 .1 .1 .0) (c .before .before .before .before .before .before .before .guess-window .ensures .areas .left-symbols) (positive (a .p) (entry .pre .0 .sound))
+    let a = entry .args in (
+      entry .pre .0,
+      entry .pre .1,
+      part-length (windowLength (a .p)) (a .j * a .p .n) (c .before .before .before .before .before .before .before .guess-window .last .1 .1 .1 .1 .1 .1 .1 .0) (still-room (c .before .before .before .before .before .before .before)),
+      symbols-part (a .p .q) (windowLength (a .p)) (a .j * a .p .n) (c .before .before .before .before .before .before .before .guess-window .last .1 .1 .1 .1 .1 .1 .1 .0) (c .before .before .before .before .before .before .before .guess-window .ensures .areas .left-symbols) (positive (a .p) (entry .pre .0 .sound)),
     )
 
 same-length : tie.Need-same-length
@@ -92,13 +92,13 @@ slice-aggregate-add-found c = sym (found-area c .size)
 add-found-requires : tie.Need-add-found-requires
 add-found-requires c κs =
     let entry = c .before .before .before .before .before .before .before .before .before .before .before .before .before .before .before .before .before .before .before .before .before in
-    let a = entry .args in
-    ( entry .pre .0
-    , record { below = λ i l. found-area (c .before .before) .below i }
-    , levels-few (a .p) _ (c .before .before .before .before .read-window .last .1 .1 .1 .1 .1 .0) (c .before .before .before .before .read-window .ensures)
-    , omega (arith, entry .pre .0 .sound .room, entry .pre .0 .sound .block, entry .pre .0 .small .elements, found-area (c .before .before) .size)
-    , entry .pre .5
-    , c .before .before .before .before .before .before .before .before .before .before .before .before .guess-window .ensures .areas
+    let a = entry .args in (
+      entry .pre .0,
+      record { below = λ i l. found-area (c .before .before) .below i },
+      levels-few (a .p) _ (c .before .before .before .before .read-window .last .1 .1 .1 .1 .1 .0) (c .before .before .before .before .read-window .ensures),
+      omega (arith, entry .pre .0 .sound .room, entry .pre .0 .sound .block, entry .pre .0 .small .elements, found-area (c .before .before) .size),
+      entry .pre .5,
+      c .before .before .before .before .before .before .before .before .before .before .before .before .guess-window .ensures .areas,
     )
 
 same-length-3 : tie.Need-same-length-3

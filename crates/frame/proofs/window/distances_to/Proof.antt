@@ -33,11 +33,11 @@ add-sum c = omega (arith, c .pre .0 .block, c .pre .1 .elements)
 
 loop-holds : tie.Need-loop-holds Inv-loop μ-loop
 loop-holds c =
-    let once : 1 * c .args .p .k ≡ c .args .p .k = omega arith in
-    ( omega arith
-    , ap (λ (t : ℕ). c .args .p .n - t) (sym once)
-    , omega (arith, c .pre .0 .block, c .pre .1 .elements)
-    , ap (λ (t : ℕ). c .args .p .n - t + 1) (sym once) ∙ distances-none (c .args .p .n) (c .args .p .k)
+    let once : 1 * c .args .p .k ≡ c .args .p .k = omega arith in (
+      omega arith,
+      ap (λ (t : ℕ). c .args .p .n - t) (sym once),
+      omega (arith, c .pre .0 .block, c .pre .1 .elements),
+      ap (λ (t : ℕ). c .args .p .n - t + 1) (sym once) ∙ distances-none (c .args .p .n) (c .args .p .k),
     )
 
 sub-zeros-2 : tie.Need-sub-zeros-2 Inv-loop μ-loop
@@ -63,11 +63,11 @@ loop-again c =
     let entry = c .before .before in
     let l = c .before .loop in
     let fewer : l .zeros - entry .args .p .k ≡ entry .args .p .n - (l .i + 1 + 1) * entry .args .p .k =
-        omega (arith, room (entry .args .l) (entry .args .p .n) (entry .args .p .k) (l .i) (entry .pre .2) (c .loop-test .taken), l .inv .1) in
-    ( omega arith
-    , fewer
-    , omega (arith, entry .pre .0 .block, entry .pre .1 .elements, l .inv .1, l .inv .2)
-    , ap₂ (λ (a b : ℕ). a + (b + 1)) (l .inv .3) fewer ∙ distances-more (entry .args .p .n) (entry .args .p .k) (l .i)
+    omega (arith, room (entry .args .l) (entry .args .p .n) (entry .args .p .k) (l .i) (entry .pre .2) (c .loop-test .taken), l .inv .1) in (
+      omega arith,
+      fewer,
+      omega (arith, entry .pre .0 .block, entry .pre .1 .elements, l .inv .1, l .inv .2),
+      ap₂ (λ (a b : ℕ). a + (b + 1)) (l .inv .3) fewer ∙ distances-more (entry .args .p .n) (entry .args .p .k) (l .i),
     )
 
 returns : tie.Need-returns Inv-loop μ-loop

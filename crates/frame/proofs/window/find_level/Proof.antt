@@ -44,10 +44,10 @@ loop-again : tie.Need-loop-again Inv-loop μ-loop
 loop-again c =
     let entry = c .before .before .before .before .before .before .before in
     let l = c .before .before .before .before .loop in
-    let back : l .blocks ≡ suc (l .blocks - 1) = omega arith in
-    ( omega arith
-    , reached-next (entry .args .p) (entry .pre .0 .sound) (now (entry .args .window)) (c .before .try-level .last .1 .1 .1 .1 .1 .1 .0) (entry .pre .3) (l .blocks - 1)
-      (c .before .try-level .ensures) (c .if1 .left) (subst (Reached (entry .args .p) (now (entry .args .window))) back (l .inv .1))
+    let back : l .blocks ≡ suc (l .blocks - 1) = omega arith in (
+      omega arith,
+      reached-next (entry .args .p) (entry .pre .0 .sound) (now (entry .args .window)) (c .before .try-level .last .1 .1 .1 .1 .1 .1 .0) (entry .pre .3) (l .blocks - 1)
+          (c .before .try-level .ensures) (c .if1 .left) (subst (Reached (entry .args .p) (now (entry .args .window))) back (l .inv .1)),
     )
 
 returns-2 : tie.Need-returns-2 Inv-loop μ-loop

@@ -70,13 +70,13 @@ loop-again : tie.Need-loop-again Inv-loop μ-loop
 loop-again c =
     let entry = c .before .before .before .before .before in
     let l = c .before .before .before .loop in
-    let a = entry .args in
-    ( omega arith
-    , omega (arith, l .inv .1)
-    , omega (arith, at-most c, l .inv .2)
-    , ap₂ _+_ (l .inv .3)
-        (c .differing .ensures ∙ part-distance (a .p .n) (l .s) (l .start) (now (a .window)) (combination (codeOf (a .p)) (l .s) (view (a .p .k) (now (a .information)))) (l .inv .1))
-      ∙ rebuilt-more (a .p) (now (a .window)) (view (a .p .k) (now (a .information))) (l .s)
+    let a = entry .args in (
+      omega arith,
+      omega (arith, l .inv .1),
+      omega (arith, at-most c, l .inv .2),
+      ap₂ _+_ (l .inv .3)
+          (c .differing .ensures ∙ part-distance (a .p .n) (l .s) (l .start) (now (a .window)) (combination (codeOf (a .p)) (l .s) (view (a .p .k) (now (a .information)))) (l .inv .1))
+          ∙ rebuilt-more (a .p) (now (a .window)) (view (a .p .k) (now (a .information))) (l .s),
     )
 
 returns : tie.Need-returns Inv-loop μ-loop

@@ -39,12 +39,12 @@ part-repair-end c = inside c
 repair-requires : tie.Need-repair-requires
 repair-requires c κs =
     let entry = c .before .before .before in
-    let a = entry .args in
-    ( entry .pre .0
-    , entry .pre .1
-    , part-length (a .p .n) (a .l * a .p .n) (now (a .window)) (inside (c .before .before))
-    , symbols-part (a .p .q) (a .p .n) (a .l * a .p .n) (now (a .window)) (entry .pre .3) (positive (a .p) (entry .pre .0 .sound))
-    , entry .pre .4
+    let a = entry .args in (
+      entry .pre .0,
+      entry .pre .1,
+      part-length (a .p .n) (a .l * a .p .n) (now (a .window)) (inside (c .before .before)),
+      symbols-part (a .p .q) (a .p .n) (a .l * a .p .n) (now (a .window)) (entry .pre .3) (positive (a .p) (entry .pre .0 .sound)),
+      entry .pre .4,
     )
 
 returns : tie.Need-returns
@@ -56,11 +56,11 @@ returns c =
 rebuilt-distance-requires : tie.Need-rebuilt-distance-requires
 rebuilt-distance-requires c κs =
     let entry = c .before .before .before .before .before .before in
-    let a = entry .args in
-    ( entry .pre .0
-    , step-area (a .p) (a .l) _ (c .before .before .repair .last .1 .1 .1 .1 .1 .1 .0) (c .before .before .repair .ensures) (c .before .if1 .left)
-    , entry .pre .4
-    , entry .pre .2
+    let a = entry .args in (
+      entry .pre .0,
+      step-area (a .p) (a .l) _ (c .before .before .repair .last .1 .1 .1 .1 .1 .1 .0) (c .before .before .repair .ensures) (c .before .if1 .left),
+      entry .pre .4,
+      entry .pre .2,
     )
 
 distances-to-requires : tie.Need-distances-to-requires
@@ -73,8 +73,13 @@ mul-if2 : tie.Need-mul-if2
 mul-if2 c =
     let entry = c .before .before .before .before .before .before .before .before in
     let a = entry .args in
-    omega (arith, c .before .rebuilt-distance .ensures, inside (c .before .before .before .before .before .before .before),
-      rebuilt-few (a .p) (now (a .window)) (view (a .p .k) (c .before .before .before .before .repair .last .1 .1 .1 .1 .1 .1 .0)) (a .l), entry .good .1 .1 .1 .1 .0 .1)
+    omega (
+      arith,
+      c .before .rebuilt-distance .ensures,
+      inside (c .before .before .before .before .before .before .before),
+      rebuilt-few (a .p) (now (a .window)) (view (a .p .k) (c .before .before .before .before .repair .last .1 .1 .1 .1 .1 .1 .0)) (a .l),
+      entry .good .1 .1 .1 .1 .0 .1,
+    )
 
 returns-2 : tie.Need-returns-2
 returns-2 c =
@@ -82,7 +87,7 @@ returns-2 c =
     let a = entry .args in
     let information = c .before .before .before .before .before .repair .last .1 .1 .1 .1 .1 .1 .0 in
     let good : 2 * rebuiltDistance (a .p) (now (a .window)) (a .l) (view (a .p .k) information) < distancesTo (a .p .n) (a .p .k) (a .l) =
-        omega (arith, c .if2 .taken, c .before .before .rebuilt-distance .ensures, c .before .distances-to .ensures) in
+    omega (arith, c .if2 .taken, c .before .before .rebuilt-distance .ensures, c .before .distances-to .ensures) in
     tried-serves (a .p) (entry .pre .0 .sound) (now (a .window)) (entry .pre .3) (a .l) (entry .pre .4) information
     (c .before .before .before .before .before .repair .ensures) (c .before .before .before .before .if1 .left) good
 
@@ -92,7 +97,7 @@ returns-3 c =
     let a = entry .args in
     let information = c .before .before .before .before .before .repair .last .1 .1 .1 .1 .1 .1 .0 in
     let bad : distancesTo (a .p .n) (a .p .k) (a .l) ≤ 2 * rebuiltDistance (a .p) (now (a .window)) (a .l) (view (a .p .k) information) =
-        omega (arith, c .if2 .left, c .before .before .rebuilt-distance .ensures, c .before .distances-to .ensures) in
+    omega (arith, c .if2 .left, c .before .before .rebuilt-distance .ensures, c .before .distances-to .ensures) in
     tried-refused (a .p) (entry .pre .0 .sound) (now (a .window)) (entry .pre .3) (a .l) (entry .pre .4) information
     (c .before .before .before .before .before .repair .ensures) (c .before .before .before .before .if1 .left) bad
 
