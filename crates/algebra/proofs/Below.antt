@@ -8,7 +8,7 @@ use Prim.Native.Nat.{ℕ, zero, suc, _<_, _%_}
 use native.Mathlib.Nat.{mod-lt, mod-eq-of-lt}
 use native.Mathlib.Bridge.{le-prop}
 use native.Mathlib.Omega.{arith}
-use lib.Dec.{eqb, eqb→eq, eqb-refl, T}
+use lib.Dec.{eqb}
 use borrow.Author.Tests.{eqb-true, eqb-false}
 use Rattle.algebra.specs.Ops.{Ops}
 use Rattle.algebra.specs.Sum.{power}

@@ -1,6 +1,6 @@
 -- The laws of a field over the operations `Ops`, flat and unconditional, and the first facts from them.
 -- Holds: `Field`, the zero test's meaning `Tested`; in the section over a field: its laws by name, the ruleset `ring`, cancellation.
-use mathlib.Core.Path.{_≡_, refl, sym, ap, _∙_}
+use mathlib.Core.Path.{_≡_, sym, ap, _∙_}
 use mathlib.Core.Bool.{Bool, true, false}
 use Rattle.algebra.specs.Ops.{Ops, sub}
 

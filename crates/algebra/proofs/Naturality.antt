@@ -1,7 +1,7 @@
 -- Every definition of `specs/` goes through a map that keeps the operations: what is computed and then mapped is what is computed from the mapped.
 -- Holds: `Homomorphism`, and a lemma for each definition: `sum-natural`, `power-natural`, `value-natural`, `valueOf-natural`, `fromRoots-natural`, `weight-natural`.
-use mathlib.Core.Path.{_≡_, refl, sym, ap, ap₂, _∙_}
-use mathlib.Core.Bool.{Bool, not}
+use mathlib.Core.Path.{_≡_, refl, ap, ap₂, _∙_}
+use mathlib.Core.Bool.{not}
 use mathlib.Core.List.{List, [], _∷_, map}
 use Prim.Native.Nat.{ℕ, zero, suc}
 use Rattle.algebra.specs.Ops.{Ops}

@@ -1,8 +1,8 @@
 -- Pairing (the discrete Fourier transform's symmetry): the sum of b_i g(α^i) equals the sum of g_s b(α^s).
 -- Holds: `pairing`.
-use mathlib.Core.Path.{_≡_, refl, sym, ap, ap₂, _∙_}
+use mathlib.Core.Path.{_≡_, sym, ap, ap₂, _∙_}
 use mathlib.Core.List.{List, [], _∷_}
-use Prim.Native.Nat.{ℕ, zero, suc}
+use Prim.Native.Nat.{ℕ, zero}
 use lib.ListN.{length, getD}
 use Rattle.algebra.specs.Ops.{Ops}
 use Rattle.algebra.specs.Sum.{sum, power}

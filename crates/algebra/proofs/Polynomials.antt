@@ -1,17 +1,16 @@
 -- Polynomial values over a field (01, "The value of a polynomial"): sums, multiples, shorter sequences, the twist, products with (x - a) and with powers of x.
 -- Holds: `valueOf-ext`, `valueOf-add`, `valueOf-scale`, `valueOf-neg`, `valueOf-zeros`, `valueOf-is-sum`, `valueOf-of-sum`, `valueOf-twist`,
 -- `value-is-valueOf`, `value-timesRoot`, `value-shift`, `value-at-root`, `value-off-roots`, `length-fromRoots`.
-use mathlib.Core.Path.{_≡_, refl, sym, ap, ap₂, subst, fun-ext, _∙_}
+use mathlib.Core.Path.{_≡_, refl, sym, ap, ap₂, _∙_}
 use mathlib.Core.List.{List, [], _∷_, _++_}
 use Prim.Native.Nat.{ℕ, zero, suc, _+_, _<_, _≤_}
-use native.Mathlib.Nat.{not-suc-le-zero, le-of-suc-le-suc}
 use native.Mathlib.Omega.{arith}
 use lib.ListN.{length, getD, replicate}
 use Rattle.algebra.specs.Ops.{Ops, sub}
 use Rattle.algebra.specs.Sum.{sum, power}
 use Rattle.algebra.specs.Polynomial.{value, valueOf, timesRoot, timesRootAfter, fromRoots}
-use Rattle.algebra.proofs.Laws.{Field, add-assoc, add-comm, add-zero, zero-add, mul-zero, zero-mul, mul-one, one-mul, mul-assoc, mul-comm, distrib, add-neg, mul-eq-zero, eq-of-sub, ring}
-use Rattle.algebra.proofs.Sums.{sum-ext, sum-add, sum-scale, sum-zeros, sum-first}
+use Rattle.algebra.proofs.Laws.{Field, add-zero, zero-add, mul-zero, zero-mul, mul-one, add-neg, mul-eq-zero, eq-of-sub, ring}
+use Rattle.algebra.proofs.Sums.{sum-ext, sum-scale, sum-first}
 use Rattle.algebra.proofs.Powers.{power-of-one}
 
 -- Equal coefficients have equal values, over any operations.

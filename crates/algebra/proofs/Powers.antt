@@ -1,12 +1,12 @@
 -- Powers over a field, and the powers of an element of order n.
 -- Holds: `power-add`, `power-power`, `power-product`, `power-of-one`, `power-nonzero`; with an element of order n: `root-nonzero`, `power-wraps`.
-use mathlib.Core.Path.{_≡_, refl, sym, ap, ap₂, subst, _∙_}
+use mathlib.Core.Path.{_≡_, refl, sym, ap, _∙_}
 use Prim.Native.Nat.{ℕ, zero, suc, _+_, _*_, _<_}
-use native.Mathlib.Nat.{zero-add as nat-zero-add, suc-add as nat-suc-add, zero-mul as nat-zero-mul, mul-zero as nat-mul-zero, mul-suc as nat-mul-suc, add-comm as nat-add-comm}
+use native.Mathlib.Nat.{zero-add as nat-zero-add, suc-add as nat-suc-add, mul-zero as nat-mul-zero, mul-suc as nat-mul-suc, add-comm as nat-add-comm}
 use native.Mathlib.Omega.{arith}
 use Rattle.algebra.specs.Ops.{Ops}
 use Rattle.algebra.specs.Sum.{power}
-use Rattle.algebra.proofs.Laws.{Field, mul-assoc, mul-comm, one-mul, mul-one, zero-mul, mul-eq-zero, ring}
+use Rattle.algebra.proofs.Laws.{Field, mul-assoc, one-mul, mul-one, zero-mul, mul-eq-zero, ring}
 use Rattle.algebra.proofs.Order.{Order}
 
 module _ {F : Type 0} (K : Field F) where

@@ -1,13 +1,13 @@
 -- Finite sums over a field: equal terms, zero terms, sums and multiples, the first term, one term alone, exchange.
 -- Holds: `sum-ext`, `sum-add`, `sum-scale`, `sum-neg`, `sum-zeros`, `sum-first`, `sum-split`, `sum-single`, `sum-exchange`.
-use mathlib.Core.Path.{_≡_, refl, sym, ap, ap₂, subst, _∙_}
+use mathlib.Core.Path.{_≡_, refl, sym, ap, ap₂, _∙_}
 use Prim.Native.Nat.{ℕ, zero, suc, _+_, _<_}
 use native.Mathlib.Nat.{add-zero as nat-add-zero, add-suc as nat-add-suc}
 use native.Mathlib.Omega.{arith}
 use native.Mathlib.Decide.{ℕ-discrete}
 use Rattle.algebra.specs.Ops.{Ops}
 use Rattle.algebra.specs.Sum.{sum}
-use Rattle.algebra.proofs.Laws.{Field, add-assoc, add-comm, add-left-comm, add-zero, zero-add, mul-zero, distrib, neg-zero, neg-add, ring}
+use Rattle.algebra.proofs.Laws.{Field, add-assoc, add-comm, add-zero, zero-add, mul-zero, distrib, neg-zero, neg-add, ring}
 
 -- Sums with equal terms are equal, over any operations.
 pub sum-ext : {F : Type 0} (o : Ops F) (n : ℕ) (f g : ℕ → F) → ((i : ℕ) → i < n → f i ≡ g i) → sum o n f ≡ sum o n g

@@ -1,6 +1,6 @@
 -- The two answers of the block step, from what its parts promise (the chain: distance lemma, locator, spectrum of the error, information).
 -- Holds: `Known`, what they promise up to the locator; `step-long`; `Parts`, what all of them promise; `step-near`, `step-far`.
-use mathlib.Core.Path.{_≡_, ap, subst, _∙_}
+use mathlib.Core.Path.{_≡_, ap, _∙_}
 use mathlib.Core.Bool.{true, false, not}
 use mathlib.Core.List.{List}
 use Prim.Native.Nat.{ℕ, _+_, _-_, _*_, _≤_, _<_}

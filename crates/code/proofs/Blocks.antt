@@ -1,17 +1,17 @@
 -- Block facts over any field, α of order n and 1 ≤ k ≤ n (000, section 2 and Theorem 3.1; BLUEPRINT of the proof: zeros of f, twist, spectrum).
 -- Holds: `codeOver`; `base-zero` and `base-nonzero` (the zeros of f); `valueOf-timesG` (the value of x × G_j); `timesG-twist` (G_(a+j) from G_j);
 -- `spectrum-combination`, `combination-vanishes` and `combination-on-stretch` (the spectrum of a combination).
-use mathlib.Core.Path.{_≡_, refl, sym, ap, ap₂, subst, _∙_}
-use mathlib.Core.List.{List, [], _∷_, _++_}
+use mathlib.Core.Path.{_≡_, refl, sym, ap, ap₂, _∙_}
+use mathlib.Core.List.{List, _∷_, _++_}
 use Prim.Native.Nat.{ℕ, zero, suc, _+_, _-_, _*_, _≤_, _<_}
 use native.Mathlib.Nat.{mul-le-mul-right}
 use native.Mathlib.Omega.{arith}
 use native.Mathlib.Decide.{decLt}
 use lib.ListN.{length, getD, replicate, length-append, length-replicate, List·getD-eq-default}
-use Rattle.algebra.specs.Ops.{Ops, sub}
+use Rattle.algebra.specs.Ops.{Ops}
 use Rattle.algebra.specs.Sum.{sum, power}
 use Rattle.algebra.specs.Polynomial.{value, valueOf}
-use Rattle.algebra.proofs.Laws.{Field, mul-zero, zero-mul, mul-comm, ring}
+use Rattle.algebra.proofs.Laws.{Field, mul-zero, mul-comm, ring}
 use Rattle.algebra.proofs.Order.{Order}
 use Rattle.algebra.proofs.Sums.{sum-ext, sum-scale, sum-zeros, sum-single}
 use Rattle.algebra.proofs.Powers.{power-add, power-power, power-wraps}

@@ -3,22 +3,21 @@
 -- symbols cost at least 2 together. So a later meaning of cost changes no proof here.
 -- Holds: `costTo`; `sent-difference` (transmissions that agree so far differ by combinations); `first-block-certain`;
 -- `agree-through` (near windows 0 .. j determine blocks 0 .. j).
-use mathlib.Core.Path.{_≡_, refl, sym, ap, ap₂, subst, _∙_}
+use mathlib.Core.Path.{_≡_, sym, ap, ap₂, subst, _∙_}
 use mathlib.Core.Logic.{_⊎_, inl, inr}
-use mathlib.Core.Bool.{Bool, true, false, not}
+use mathlib.Core.Bool.{Bool, not}
 use Prim.Native.Nat.{ℕ, zero, suc, _+_, _-_, _*_, _≤_, _<_}
 use native.Mathlib.Nat.{mul-le-mul-right}
 use native.Mathlib.Omega.{arith}
 use native.Mathlib.Decide.{decLt, decLe}
-use lib.Dec.{leb}
 use borrow.Author.Tests.{le-leb, lt-leb}
 use Rattle.algebra.specs.Ops.{Ops, sub, pick}
 use Rattle.algebra.specs.Sum.{sum}
-use Rattle.algebra.specs.Weight.{total, countOf, weight}
-use Rattle.algebra.proofs.Laws.{Field, Tested, is-zero, non-zero, add-zero, mul-zero, zero-mul, add-neg, eq-of-sub, sub-self, ring}
+use Rattle.algebra.specs.Weight.{total, weight}
+use Rattle.algebra.proofs.Laws.{Field, Tested, is-zero, non-zero, add-zero, zero-mul, eq-of-sub, sub-self, ring}
 use Rattle.algebra.proofs.Order.{Order}
 use Rattle.algebra.proofs.Sums.{sum-ext, sum-add, sum-neg, sum-zeros, sum-split}
-use Rattle.algebra.proofs.Weights.{total-mono, total-add, total-scale, total-ext}
+use Rattle.algebra.proofs.Weights.{total-mono, total-add, total-scale}
 use Rattle.code.specs.Code.{Code, levelDistance, distancesTo}
 use Rattle.code.specs.Generator.{rowSymbol, timesG}
 use Rattle.code.specs.Transmission.{earlier, sentSymbol}

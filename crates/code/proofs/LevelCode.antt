@@ -1,21 +1,20 @@
 -- The level codes over any field, α of order n and (l+1)k ≤ n (01: "It consists exactly of the blocks whose polynomials vanish at
 -- α^0 .. α^(n-(l+1)k-1). Its nonzero blocks have at least d_l nonzero symbols"; 000, Theorem 2.1).
 -- Holds: `combination-injective`, `combination-weight`, `information-of-spectrum` (the matrix gives the information back), `level-code` (exactly those blocks).
-use mathlib.Core.Path.{_≡_, refl, sym, ap, ap₂, subst, _∙_}
-use mathlib.Core.Bool.{Bool, true, false}
+use mathlib.Core.Path.{_≡_, refl, sym, ap, ap₂, _∙_}
+use mathlib.Core.Bool.{Bool}
 use Prim.Native.Nat.{ℕ, zero, suc, _+_, _-_, _*_, _≤_, _<_}
 use native.Mathlib.Nat.{mul-le-mul-right}
 use native.Mathlib.Omega.{arith}
 use native.Mathlib.Decide.{decLt}
-use lib.Dec.{eqb}
 use borrow.Author.Tests.{eq-eqb, ne-eqb}
 use Rattle.algebra.specs.Ops.{Ops, pick}
 use Rattle.algebra.specs.Sum.{sum, power}
 use Rattle.algebra.specs.Polynomial.{value, valueOf}
 use Rattle.algebra.specs.Weight.{weight}
-use Rattle.algebra.proofs.Laws.{Field, mul-zero, zero-mul, one-mul, mul-comm, mul-assoc, mul-eq-zero, ring}
+use Rattle.algebra.proofs.Laws.{Field, mul-zero, one-mul, mul-comm, mul-eq-zero, ring}
 use Rattle.algebra.proofs.Order.{Order}
-use Rattle.algebra.proofs.Sums.{sum-ext, sum-scale, sum-zeros, sum-single, sum-exchange}
+use Rattle.algebra.proofs.Sums.{sum-ext, sum-scale, sum-single, sum-exchange}
 use Rattle.algebra.proofs.Powers.{power-power}
 use Rattle.algebra.proofs.Polynomials.{valueOf-zeros, valueOf-is-sum}
 use Rattle.algebra.proofs.Distance.{zero-of-vanishing, coefficients-of-vanishing, spectrum-injective}

@@ -1,12 +1,12 @@
 -- Lists as blocks: tabulated lists, symbols of a list, equal parts.
 -- Holds: `length-tabulate`, `getD-tabulate`, `tabulate-ext`, `view-tabulate`, `symbol-below`, `part-below`, `equal-part`, `part-equal`.
 use mathlib.Core.Path.{_≡_, refl, sym, ap, subst, _∙_}
-use mathlib.Core.List.{List, [], _∷_}
+use mathlib.Core.List.{List, _∷_}
 use Prim.Native.Nat.{ℕ, zero, suc, _+_, _-_, _*_, _/_, _%_, _≤_, _<_}
 use native.Mathlib.Omega.{arith}
 use native.Mathlib.Decide.{decLt}
 use lib.Arith.{digits-div, digits-mod, digits-lt}
-use lib.ListN.{length, getD, take, drop, length-take, length-drop, List·getD-eq-default}
+use lib.ListN.{length, getD, take, drop, length-take, List·getD-eq-default}
 use lib.Seq.{ext-getD, getD-take, getD-drop}
 use Rattle.field.specs.Symbols.{Symbols}
 use Rattle.code.specs.Transmission.{view, tabulate}

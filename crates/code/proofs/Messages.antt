@@ -1,15 +1,14 @@
 -- Two messages of one setting and length against what was received, on lists of bytes.
 -- Holds: `messages-agree` (near windows determine blocks), `block-determined` (one near window determines its first block), `alike-window`.
-use mathlib.Core.Path.{_≡_, refl, sym, ap, ap₂, subst, _∙_}
-use mathlib.Core.Bool.{Bool, not}
+use mathlib.Core.Path.{_≡_, sym, ap, ap₂, subst, _∙_}
+use mathlib.Core.Bool.{not}
 use mathlib.Core.List.{List}
 use Prim.Native.Nat.{ℕ, zero, suc, _+_, _-_, _*_, _/_, _%_, _≤_, _<_}
 use native.Mathlib.Nat.{mul-le-mul-right, div-add-mod', mod-lt, div-lt-iff-lt-mul}
 use native.Mathlib.Omega.{arith}
 use lib.Arith.{digits-lt}
 use lib.Dec.{eqb}
-use lib.ListN.{length, getD, take}
-use Rattle.algebra.specs.Ops.{pick}
+use lib.ListN.{getD, take}
 use Rattle.algebra.proofs.Below.{number}
 use Rattle.algebra.proofs.Weights.{countOf-ext}
 use Rattle.code.specs.declared.Setting.{Setting}

@@ -7,7 +7,7 @@ use Prim.Native.Nat.{ℕ, zero, suc, _+_, _-_, _*_}
 use lib.Dec.{leb}
 use lib.ListN.{getD, replicate, List·getD-map}
 use Rattle.algebra.specs.Ops.{Ops, pick}
-use Rattle.algebra.specs.Sum.{sum, power}
+use Rattle.algebra.specs.Sum.{power}
 use Rattle.algebra.specs.Polynomial.{value}
 use Rattle.algebra.proofs.Sums.{sum-ext}
 use Rattle.algebra.proofs.Naturality.{Homomorphism, sum-natural, power-natural, value-natural, fromRoots-natural}

@@ -3,28 +3,26 @@
 use mathlib.Core.Path.{_≡_, refl, sym, ap, ap₂, subst, fun-ext, _∙_}
 use mathlib.Core.Bool.{Bool, true, false, not}
 use mathlib.Core.List.{List}
-use Prim.Native.Nat.{ℕ, zero, suc, _+_, _-_, _*_, _/_, _%_, _≤_, _<_}
-use native.Mathlib.Nat.{zero-add as nat-zero-add}
+use Prim.Native.Nat.{ℕ, suc, _+_, _-_, _*_, _/_, _≤_, _<_}
 use native.Mathlib.Numerals.{add-one}
 use native.Mathlib.Omega.{arith}
 use lib.Arith.{digits-div}
 use lib.Dec.{eqb}
 use lib.ListN.{length, getD}
 use borrow.Author.Tests.{eqb-true}
-use Rattle.algebra.specs.Ops.{Ops, sub, pick}
-use Rattle.algebra.specs.Weight.{total, distance}
+use Rattle.algebra.specs.Ops.{pick}
+use Rattle.algebra.specs.Weight.{total}
 use Rattle.algebra.proofs.Laws.{Field}
 use Rattle.algebra.proofs.Order.{Order}
 use Rattle.algebra.proofs.Weights.{total-ext, total-scale, total-blocks}
 use Rattle.algebra.proofs.Naturality.{Homomorphism}
 use Rattle.algebra.proofs.Below.{Below, number, element, number-element, number-injective, fieldBelow, number-keeps, orderBelow, FieldBelow}
 use Rattle.field.specs.Fields.{opsOf, alpha}
-use Rattle.field.specs.Symbols.{Symbols}
 use Rattle.field.proofs.Laws.{lawsOf, orderOf}
 use Rattle.code.specs.declared.Setting.{Setting}
 use Rattle.code.specs.Code.{Code}
 use Rattle.code.specs.Generator.{rowSymbol, timesG}
-use Rattle.code.specs.Transmission.{view, sentSymbol, tabulate}
+use Rattle.code.specs.Transmission.{view, sentSymbol}
 use Rattle.code.specs.Level.{combination}
 use Rattle.code.specs.Settings.{codeOf}
 use Rattle.code.specs.Windows.{transmission, windowLength, windowDistance, Message}

@@ -9,12 +9,11 @@ use native.Mathlib.Omega.{arith}
 use lib.Dec.{eqb}
 use lib.ListN.{getD}
 use borrow.Author.Tests.{eqb-true, eqb-false, eq-eqb, ne-eqb}
-use Rattle.algebra.specs.Ops.{Ops, sub, pick}
-use Rattle.algebra.specs.Weight.{total, countOf, distance}
-use Rattle.algebra.proofs.Laws.{Field, ring, eq-of-sub, add-cancel, add-comm}
+use Rattle.algebra.specs.Ops.{sub, pick}
+use Rattle.algebra.specs.Weight.{total}
+use Rattle.algebra.proofs.Laws.{add-cancel, add-comm}
 use Rattle.algebra.proofs.Weights.{total-ext, total-scale, total-blocks}
-use Rattle.algebra.proofs.Below.{Below as Element, number, number-injective, element, number-element}
-use Rattle.field.specs.Fields.{opsOf}
+use Rattle.algebra.proofs.Below.{Below as Element, number, number-injective}
 use Rattle.code.specs.declared.Setting.{Setting}
 use Rattle.code.specs.Code.{levelDistance, distancesTo}
 use Rattle.code.specs.Transmission.{view}
@@ -24,8 +23,8 @@ use Rattle.code.specs.Windows.{windowLength}
 use Rattle.code.specs.Reading.{Below, blockDistance, rebuiltDistance, windowWeight}
 use Rattle.code.proofs.Certainty.{costTo}
 use Rattle.code.proofs.Windows.{blockCost, rebuiltCost}
-use Rattle.code.proofs.Turns.{turn-zero, turn-certain, turn-refused, turn-drops, turn-ends}
-use Rattle.code.proofs.Numbers.{laws, positive, fieldOf, rootOf, orderAt, overField, keeps, lifted, number-lifted, combination-number, byteCost, bytes-apart}
+use Rattle.code.proofs.Turns.{turn-zero, turn-certain, turn-refused}
+use Rattle.code.proofs.Numbers.{laws, fieldOf, rootOf, orderAt, overField, keeps, lifted, number-lifted, combination-number, byteCost, bytes-apart}
 
 module _ (p : Setting) (S : Sound p) where
   -- What an element received costs where another was sent.

@@ -1,39 +1,28 @@
 -- The residual of a message g in a reception, on bytes: how it changes when a block of g is changed, how it begins, and what is left at the end.
 -- Holds: `timesG-only`, `lessened`, `residual-step`, `residual-start`, `residual-back`, `residual-test`, `residual-distance`.
 use mathlib.Core.Path.{_≡_, refl, sym, ap, ap₂, subst, _∙_}
-use mathlib.Core.Bool.{Bool, true, false, not}
+use mathlib.Core.Bool.{Bool, true, false}
 use mathlib.Core.List.{List}
 use Prim.Native.Nat.{ℕ, zero, suc, _+_, _-_, _*_, _≤_, _<_}
-use native.Mathlib.Nat.{mul-le-mul-right}
 use native.Mathlib.Omega.{arith}
 use native.Mathlib.Decide.{decLe, ℕ-discrete}
-use lib.Arith.{digits-lt}
 use lib.Dec.{eqb, leb}
-use lib.ListN.{length, getD, take, drop}
-use lib.Seq.{getD-take, getD-drop}
-use borrow.Author.Tests.{le-leb, lt-leb, eq-eqb, ne-eqb, eqb-true, eqb-false}
-use Rattle.algebra.specs.Ops.{Ops, sub, pick}
-use Rattle.algebra.specs.Sum.{sum}
-use Rattle.algebra.specs.Weight.{total, countOf, distance}
-use Rattle.algebra.proofs.Laws.{Field, sub-self, eq-of-sub, add-of-sub, sub-add, sub-sub, neg-zero, add-zero, add-comm, add-assoc, add-neg, zero-mul}
+use lib.ListN.{getD}
+use borrow.Author.Tests.{le-leb, lt-leb, eq-eqb, ne-eqb}
+use Rattle.algebra.specs.Ops.{sub, pick}
+use Rattle.algebra.proofs.Laws.{sub-self, eq-of-sub, add-of-sub, sub-add, sub-sub, neg-zero, add-zero, add-comm, add-assoc, add-neg, zero-mul}
 use Rattle.algebra.proofs.Sums.{sum-ext, sum-single}
-use Rattle.algebra.proofs.Weights.{total-ext, countOf-ext}
 use Rattle.algebra.proofs.Below.{Below as Element, number, number-injective, element, number-element}
 use Rattle.field.specs.Fields.{opsOf}
-use Rattle.field.specs.Symbols.{Symbols}
 use Rattle.code.specs.declared.Setting.{Setting}
-use Rattle.code.specs.Code.{Code, distancesTo}
 use Rattle.code.specs.Generator.{rowSymbol, timesG}
 use Rattle.code.specs.Transmission.{view, earlier, sentSymbol}
-use Rattle.code.specs.Level.{combination}
 use Rattle.code.specs.Settings.{codeOf, Sound}
-use Rattle.code.specs.Windows.{transmission, windowLength, windowDistance, Message}
-use Rattle.code.specs.Reading.{Below, rebuiltDistance, only, Residual}
-use Rattle.code.proofs.Certainty.{costTo, timesG-ext}
-use Rattle.code.proofs.Windows.{blockCost, rebuiltCost, sent-sub, sent-ahead, sent-zeros, combination-ext}
+use Rattle.code.specs.Reading.{only, Residual}
+use Rattle.code.proofs.Certainty.{timesG-ext}
+use Rattle.code.proofs.Windows.{sent-sub, sent-zeros}
 use Rattle.code.proofs.Turns.{contribution, single, sent-single}
-use Rattle.code.proofs.Lists.{symbol-below, part-below}
-use Rattle.code.proofs.Numbers.{laws, positive, fieldOf, rootOf, overField, keeps, lifted, number-lifted, sent-number, timesG-number, rowSymbol-number, message-below, byteCost, window-cost}
+use Rattle.code.proofs.Numbers.{laws, positive, fieldOf, rootOf, overField, keeps, lifted, number-lifted, sent-number, timesG-number, rowSymbol-number}
 use Rattle.code.proofs.Reading.{number-zero}
 use Rattle.code.proofs.Residuals.{number-sub}
 

@@ -1,37 +1,28 @@
 -- The residual of a message g in a reception, on bytes: what one window of it says of a message that fits.
 -- Holds: `window-view`, `ahead`, `sub-below`, `add-back`, `ahead-below`, `number-sub`, `residual-window`.
-use mathlib.Core.Path.{_≡_, refl, sym, ap, ap₂, subst, _∙_}
-use mathlib.Core.Bool.{Bool, true, false, not}
+use mathlib.Core.Path.{_≡_, refl, sym, ap, ap₂, _∙_}
 use mathlib.Core.List.{List}
 use Prim.Native.Nat.{ℕ, zero, suc, _+_, _-_, _*_, _≤_, _<_}
-use native.Mathlib.Nat.{mul-le-mul-right}
 use native.Mathlib.Omega.{arith}
-use native.Mathlib.Decide.{decLe, ℕ-discrete}
 use lib.Arith.{digits-lt}
-use lib.Dec.{eqb, leb}
-use lib.ListN.{length, getD, take, drop}
+use lib.ListN.{getD, take, drop}
 use lib.Seq.{getD-take, getD-drop}
-use borrow.Author.Tests.{le-leb, lt-leb, eq-eqb, ne-eqb, eqb-true, eqb-false}
-use Rattle.algebra.specs.Ops.{Ops, sub, pick}
-use Rattle.algebra.specs.Weight.{total, countOf, distance}
-use Rattle.algebra.proofs.Laws.{Field, ring, sub-self, eq-of-sub, add-neg, add-of-sub, neg-zero, add-zero}
-use Rattle.algebra.proofs.Weights.{total-ext, countOf-ext}
+use Rattle.algebra.specs.Ops.{sub}
+use Rattle.algebra.proofs.Laws.{sub-self, add-of-sub}
+use Rattle.algebra.proofs.Weights.{total-ext}
 use Rattle.algebra.proofs.Below.{Below as Element, number, number-injective, element, number-element}
 use Rattle.field.specs.Fields.{opsOf}
-use Rattle.field.specs.Symbols.{Symbols}
 use Rattle.code.specs.declared.Setting.{Setting}
-use Rattle.code.specs.Code.{Code, distancesTo}
-use Rattle.code.specs.Generator.{timesG}
-use Rattle.code.specs.Transmission.{view, earlier, sentSymbol}
+use Rattle.code.specs.Transmission.{view, sentSymbol}
 use Rattle.code.specs.Level.{combination}
-use Rattle.code.specs.Settings.{codeOf, Sound}
+use Rattle.code.specs.Settings.{Sound}
 use Rattle.code.specs.Windows.{transmission, windowLength, windowDistance, Message}
 use Rattle.code.specs.Reading.{Below, rebuiltDistance, Residual}
 use Rattle.code.proofs.Certainty.{costTo}
-use Rattle.code.proofs.Windows.{blockCost, rebuiltCost, sent-sub, sent-ahead, sent-zeros, combination-ext}
+use Rattle.code.proofs.Windows.{blockCost, rebuiltCost, sent-sub, sent-ahead, combination-ext}
 use Rattle.code.proofs.Lists.{symbol-below, part-below}
-use Rattle.code.proofs.Numbers.{laws, positive, fieldOf, rootOf, overField, keeps, lifted, number-lifted, sent-number, timesG-number, message-below, byteCost, window-cost}
-use Rattle.code.proofs.Reading.{elementCost, element-shift, number-zero, rebuilt-cost}
+use Rattle.code.proofs.Numbers.{laws, positive, fieldOf, rootOf, overField, keeps, lifted, number-lifted, sent-number, message-below, byteCost, window-cost}
+use Rattle.code.proofs.Reading.{elementCost, element-shift, rebuilt-cost}
 
 -- Symbol i of block s of window j of a list of blocks.
 pub window-view : (n m : ℕ) (left : List ℕ) (j s i : ℕ) → s ≤ m → i < n

@@ -1,7 +1,6 @@
 -- What every setting satisfies (`Sound`), shown for each setting of the list.
 -- Holds: `Each`, `each-at`, `setting-range`, `soundOf`, `block-positive`.
-use mathlib.Core.Path.{_≡_, refl}
-use mathlib.Core.Bool.{Bool, true, false}
+use mathlib.Core.Path.{refl}
 use mathlib.Core.List.{List, [], _∷_}
 use Prim.Native.Nat.{ℕ, zero, suc, _+_, _-_, _*_, _≤_, _<_}
 use native.Mathlib.Omega.{arith}

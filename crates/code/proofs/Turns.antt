@@ -2,23 +2,22 @@
 -- The window's blocks are w 0 .. w m; a message block sequence y contributes the combinations of y_0 .. y_l to block l (`rebuiltCost`).
 -- Holds: `turn-zero`, `turn-certain`, `turn-refused`, `turn-drops`, `turn-ends`; `sent-single` (what one information block contributes to a frame).
 use mathlib.Core.Path.{_≡_, refl, sym, ap, ap₂, subst, _∙_}
-use mathlib.Core.Bool.{Bool, true, false}
+use mathlib.Core.Bool.{Bool}
 use Prim.Native.Nat.{ℕ, zero, suc, _+_, _-_, _*_, _≤_, _<_}
 use native.Mathlib.Omega.{arith}
-use native.Mathlib.Decide.{decLt, decLe, ℕ-discrete}
+use native.Mathlib.Decide.{decLe}
 use lib.Dec.{leb, eqb}
 use borrow.Author.Tests.{le-leb, lt-leb, eq-eqb, ne-eqb}
 use Rattle.algebra.specs.Ops.{Ops, sub, pick}
 use Rattle.algebra.specs.Sum.{sum}
 use Rattle.algebra.specs.Weight.{total}
-use Rattle.algebra.proofs.Laws.{Field, add-zero}
+use Rattle.algebra.proofs.Laws.{Field}
 use Rattle.algebra.proofs.Order.{Order}
 use Rattle.algebra.proofs.Sums.{sum-zeros, sum-single}
 use Rattle.algebra.proofs.Weights.{total-ext}
 use Rattle.code.specs.Code.{Code, levelDistance, distancesTo}
 use Rattle.code.specs.Generator.{timesG}
 use Rattle.code.specs.Transmission.{earlier, sentSymbol}
-use Rattle.code.specs.Level.{combination}
 use Rattle.code.proofs.Blocks.{codeOver}
 use Rattle.code.proofs.Certainty.{timesG-zeros, timesG-ext, costTo}
 use Rattle.code.proofs.Windows.{blockCost, rebuiltCost, sent-ahead, combination-ext, zero-window, candidate-right, refused-costs}

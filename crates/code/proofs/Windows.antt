@@ -3,18 +3,17 @@
 -- 2 together, and a cost stays when the same symbol is subtracted on both sides.
 -- Holds: `sent-sub` and `residual-cost` (a message against the residual of a guess); `sent-ahead`; `zero-window`; `candidate-right`;
 -- `refused-costs` and `far-costs` (a refused level: its block alone costs at least d_l), `cost-drops` and `no-level-left` (the chain of refusals).
-use mathlib.Core.Path.{_≡_, refl, sym, ap, ap₂, subst, _∙_}
+use mathlib.Core.Path.{_≡_, refl, sym, ap, subst, _∙_}
 use mathlib.Core.Bool.{Bool, true, false, not}
 use Prim.Native.Nat.{ℕ, zero, suc, _+_, _-_, _*_, _≤_, _<_}
 use native.Mathlib.Nat.{mul-le-mul-right}
 use native.Mathlib.Omega.{arith}
-use native.Mathlib.Decide.{decLt, decLe}
+use native.Mathlib.Decide.{decLe}
 use lib.Dec.{leb, ltb}
-use borrow.Author.Tests.{le-leb, lt-leb, lt-ltb, le-ltb}
+use borrow.Author.Tests.{lt-ltb, le-ltb}
 use Rattle.algebra.specs.Ops.{Ops, sub, pick}
-use Rattle.algebra.specs.Sum.{sum}
-use Rattle.algebra.specs.Weight.{total, countOf, weight}
-use Rattle.algebra.proofs.Laws.{Field, Tested, is-zero, non-zero, add-zero, zero-mul, neg-zero, add-neg, eq-of-sub, sub-self, ring}
+use Rattle.algebra.specs.Weight.{total, weight}
+use Rattle.algebra.proofs.Laws.{Field, Tested, is-zero, non-zero, add-zero, neg-zero, eq-of-sub, sub-self}
 use Rattle.algebra.proofs.Order.{Order}
 use Rattle.algebra.proofs.Sums.{sum-ext, sum-zeros}
 use Rattle.algebra.proofs.Weights.{total-mono, total-add, total-scale, total-ext}

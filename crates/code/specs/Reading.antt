@@ -6,7 +6,7 @@ use mathlib.Core.List.{List}
 use Prim.Native.Nat.{ℕ, suc, _+_, _<_}
 use lib.Dec.{eqb}
 use lib.ListN.{getD}
-use Rattle.algebra.specs.Ops.{Ops, sub, pick}
+use Rattle.algebra.specs.Ops.{sub, pick}
 use Rattle.algebra.specs.Weight.{total, countOf, distance}
 use Rattle.field.specs.Fields.{opsOf}
 use Rattle.code.specs.declared.Setting.{Setting}

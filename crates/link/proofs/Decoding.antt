@@ -1,7 +1,7 @@
 -- From what reading a frame promises to what decoding promises.
 -- Holds: `restored-none`, `restored-more`; `frame-decoded-found`, `frame-decoded-none`; `ready-of`; `Receiving`, `receiving`; `decoded-refused`,
 -- `decoded-asked`.
-use mathlib.Core.Path.{_≡_, refl, sym, ap, ap₂, subst, _∙_}
+use mathlib.Core.Path.{_≡_, refl, sym, ap, subst, _∙_}
 use mathlib.Core.Bool.{Bool, true, false, not}
 use mathlib.Core.List.{List, _++_}
 use Prim.Native.Nat.{ℕ, _+_, _-_, _*_, _/_, _≤_, _<_}
@@ -17,13 +17,13 @@ use Rattle.field.specs.Symbols.{Symbols}
 use Rattle.code.specs.declared.Setting.{Setting}
 use Rattle.field.specs.Tables.{Lent}
 use Rattle.code.specs.Settings.{isSetting, settingOf, Sound}
-use Rattle.code.specs.Windows.{transmission, altered, Fits}
+use Rattle.code.specs.Windows.{transmission, Fits}
 use Rattle.code.proofs.Lists.{length-tabulate}
 use Rattle.code.proofs.Settings.{soundOf}
 use Rattle.code.proofs.Numbers.{message-blocks}
 use Rattle.tables.specs.Tables.{RowsOf, Ready}
 use Rattle.tables.proofs.Small.{Sizes, smallOf, sizesOf}
-use Rattle.frame.specs.Frame.{NoneFits, FrameRead, fits, none}
+use Rattle.frame.specs.Frame.{FrameRead, fits, none}
 use Rattle.frame.proofs.Ends.{left-altered, left-back}
 use Rattle.link.specs.declared.Answer.{Answer}
 use Rattle.link.specs.Questions.{answer, firstNo, blocksOf, decodingQuestions}

@@ -16,7 +16,6 @@ use Rattle.code.specs.Settings.{settingOf}
 use Rattle.code.specs.Windows.{windowLength, windowDistance}
 use Rattle.tables.proofs.Small.{Sizes}
 use Rattle.link.specs.declared.Answer.{Answer}
-use Rattle.link.specs.declared.Marks.{Marks}
 use Rattle.link.specs.Questions.{firstNo, blocksOf, displayQuestions, marksQuestions}
 use Rattle.link.specs.Display.{windowOf}
 use Rattle.link.specs.Marks.{marksOf, Marked}

@@ -1,9 +1,9 @@
 -- A setting's rows, filled from its nested table one symbol after the other.
 -- Holds: `entry`, `Filled`, `filled-none`, `filled-more`, `rows-of` (the filled rows are the generator's, for every setting).
-use mathlib.Core.Path.{_≡_, refl, sym, ap, ap₂, subst, _∙_}
-use mathlib.Core.Bool.{Bool, true, false}
+use mathlib.Core.Path.{_≡_, sym, ap, ap₂, subst, _∙_}
+use mathlib.Core.Bool.{Bool}
 use mathlib.Core.List.{List, []}
-use Prim.Native.Nat.{ℕ, zero, suc, _+_, _-_, _*_, _/_, _%_, _≤_, _<_}
+use Prim.Native.Nat.{ℕ, _+_, _-_, _*_, _/_, _%_, _≤_, _<_}
 use native.Mathlib.Nat.{mod-lt, div-lt-iff-lt-mul}
 use native.Mathlib.Omega.{arith}
 use native.Mathlib.Decide.{decLt, ℕ-discrete}
@@ -17,7 +17,7 @@ use Rattle.code.specs.declared.Setting.{Setting}
 use Rattle.code.specs.Generator.{rowSymbol}
 use Rattle.code.specs.Transmission.{tabulate}
 use Rattle.code.specs.Settings.{codeOf}
-use Rattle.code.proofs.Lists.{getD-tabulate, length-tabulate}
+use Rattle.code.proofs.Lists.{getD-tabulate}
 use Rattle.code.specs.Settings.{Sound}
 use Rattle.code.proofs.Settings.{block-positive}
 use Rattle.code.proofs.Numbers.{rowSymbol-below, positive}

@@ -1,10 +1,9 @@
 -- The matrices: one computed test for a table, and the law that turns it into what contracts say.
 -- Holds: `matrixTest`, `matrix-of`.
-use mathlib.Core.Path.{_≡_}
 use mathlib.Core.Bool.{Bool, _&&_}
-use mathlib.Core.List.{List, [], _∷_}
-use Prim.Native.Nat.{ℕ, _+_, _*_, _<_}
-use lib.Dec.{T, eqb, ltb, ltb→lt, eqb→eq}
+use mathlib.Core.List.{List}
+use Prim.Native.Nat.{ℕ}
+use lib.Dec.{T, eqb, ltb, ltb→lt}
 use lib.ListN.{length, getD}
 use Rattle.algebra.specs.Sum.{sum}
 use Rattle.algebra.proofs.Tests.{and-left, and-right, all, all-at, same-pairs}

@@ -1,8 +1,8 @@
 -- Where symbols stand in a setting's rows, with the bounds that the code asks; sums that the loops make.
 -- Holds: `Place`, `place-of`; `product-sum`, `product-sum-all` (the sum over the rows of G_j), `combination-sum`, `combination-sum-all`; `sum-more`.
-use mathlib.Core.Path.{_≡_, refl, sym, ap, subst, _∙_}
+use mathlib.Core.Path.{_≡_, sym, ap}
 use mathlib.Core.List.{List}
-use Prim.Native.Nat.{ℕ, zero, suc, _+_, _-_, _*_, _≤_, _<_}
+use Prim.Native.Nat.{ℕ, _+_, _-_, _*_, _≤_, _<_}
 use native.Mathlib.Nat.{mul-le-mul}
 use native.Mathlib.Numerals.{add-one}
 use native.Mathlib.Omega.{arith}
@@ -11,13 +11,12 @@ use lib.ListN.{getD}
 use Rattle.algebra.specs.Sum.{sum}
 use Rattle.algebra.proofs.Sums.{sum-ext}
 use Rattle.field.specs.Fields.{opsOf}
-use Rattle.field.specs.Symbols.{Is}
 use Rattle.code.specs.declared.Setting.{Setting}
-use Rattle.code.specs.Generator.{rowSymbol, timesG}
+use Rattle.code.specs.Generator.{timesG}
 use Rattle.code.specs.Transmission.{view}
 use Rattle.code.specs.Level.{combination}
 use Rattle.code.specs.Settings.{codeOf}
-use Rattle.tables.specs.Tables.{Small, Ready, RowsOf}
+use Rattle.tables.specs.Tables.{Small, RowsOf}
 
 -- The steps of computing a place of the rows stay small.
 pub record Place (n k j r i : ℕ) : Type 0 where

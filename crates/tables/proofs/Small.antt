@@ -1,12 +1,11 @@
 -- Sizes of the settings, for the bounds that code asks.
--- Holds: `smallOf`, `block-positive`, `Sizes`, `sizesOf`.
+-- Holds: `smallOf`, `Sizes`, `sizesOf`.
 use Prim.Native.Nat.{ℕ, _+_, _-_, _*_, _≤_, _<_}
-use native.Mathlib.Nat.{mul-le-mul}
 use native.Mathlib.Omega.{arith}
 use lib.Dec.{T}
 use Rattle.code.specs.declared.Setting.{Setting}
 use Rattle.code.specs.Settings.{setting, settings, isSetting, settingOf, Sound}
-use Rattle.code.proofs.Settings.{Each, none, next, each-at, setting-range, soundOf}
+use Rattle.code.proofs.Settings.{Each, block-positive, none, next, each-at, setting-range, soundOf}
 use Rattle.tables.specs.Tables.{Small}
 
 small : (q k m : ℕ) → q ≤ 8 → m ≤ 2 → k ≤ 3 → (m + 1) * k * (q - 1) ≤ 42 → Small (setting q k m)
@@ -20,12 +19,6 @@ smalls =
 
 pub smallOf : (s : ℕ) → T (isSetting s) → Small (settingOf s)
 smallOf s t = each-at smalls (s - 1) (setting 0 0 0) (omega (arith, setting-range s t))
-
--- Blocks are not empty.
-pub block-positive : (p : Setting) → Sound p → 0 < p .n
-block-positive p S =
-    let least : 1 ≤ p .m + 1 = omega arith in
-    omega (arith, S .room, mul-le-mul least (S .information))
 
 -- The bounds that arithmetic on block numbers uses.
 pub record Sizes (p : Setting) : Type 0 where

@@ -1,6 +1,6 @@
 -- `tables::rows_1`: the rows are filled from the nested table, symbol after symbol.
 use mathlib.Core.Path.{_≡_}
-use Prim.Native.Nat.{ℕ, _-_, _≤_}
+use Prim.Native.Nat.{_-_, _≤_}
 use native.Mathlib.Omega.{arith}
 use Rattle.code.specs.Settings.{settingOf}
 use Rattle.code.proofs.Settings.{soundOf}

@@ -1,6 +1,5 @@
 -- `tables::setting` gives 01's table.
 use mathlib.Core.Path.{_≡_, sym, ap}
-use Prim.Native.Nat.{ℕ}
 use native.Mathlib.Omega.{arith}
 use Rattle.code.specs.Settings.{settingOf}
 use Rattle.code.proofs.Settings.{setting-range}

@@ -1,6 +1,5 @@
 -- `link::decode::decode`: refused by the first "no", or what question 7 says in front of what the areas held.
 use mathlib.Core.Path.{_≡_, sym, ap, _∙_}
-use native.Mathlib.Nat.{sub-le}
 use native.Mathlib.Omega.{arith}
 use borrow.Author.Needs.{needs}
 use denote.Ref.{now}

@@ -1,6 +1,6 @@
 -- `link::decode::decode_frame`: the frame is read; then its transmission restored, or zeros.
-use mathlib.Core.Path.{_≡_, sym, ap, subst, _∙_}
-use Prim.Native.Nat.{ℕ, _+_, _-_, _*_, _≤_, _<_}
+use mathlib.Core.Path.{sym, ap, subst, _∙_}
+use Prim.Native.Nat.{ℕ, _-_}
 use native.Mathlib.Omega.{arith}
 use borrow.Author.Needs.{needs}
 use denote.Ref.{now}
@@ -10,7 +10,7 @@ use Rattle.frame.proofs.Levels.{few}
 use Rattle.code.specs.declared.Setting.{Setting}
 use Rattle.code.specs.Settings.{Sound}
 use Rattle.code.proofs.Settings.{soundOf}
-use Rattle.tables.specs.Tables.{Ready, MatrixOf}
+use Rattle.tables.specs.Tables.{MatrixOf}
 use Rattle.tables.proofs.Small.{sizes}
 use Rattle.link.proofs.Answers.{transmission-small}
 use Rattle.link.proofs.Decoding.{ready-of, left-symbols, left-long, frame-decoded-none, frame-decoded-found}

@@ -1,9 +1,9 @@
 -- `link::decode::restore`: the first i places are restored.
-use mathlib.Core.Path.{_≡_, refl, sym, subst}
-use Prim.Native.Nat.{ℕ, _+_, _-_, _≤_, _<_}
+use mathlib.Core.Path.{_≡_, sym, subst}
+use Prim.Native.Nat.{ℕ, _-_, _≤_, _<_}
 use native.Mathlib.Omega.{arith}
 use denote.Ref.{now}
-use lib.ListN.{length, getD}
+use lib.ListN.{length}
 use Rattle.link.specs.Decoding.{Restored}
 use Rattle.link.proofs.Decoding.{restored-none, restored-more}
 use Rattle.link.proofs.decode.restore.Statement.{statement}
