@@ -1,7 +1,7 @@
 -- What is left once all windows were read: the last comparison decides, and gives the transmission and the altered count.
 -- Holds: `left-test`, `left-window`, `left-altered`, `left-back`, `frame-fits`, `frame-none`.
-use mathlib.Core.Path.{_≡_, refl, sym, ap, ap₂, subst, _∙_}
-use mathlib.Core.Bool.{Bool, true, false, not}
+use mathlib.Core.Path.{_≡_, sym, ap, subst, _∙_}
+use mathlib.Core.Bool.{Bool, true, not}
 use mathlib.Core.List.{List}
 use Prim.Native.Nat.{ℕ, _+_, _-_, _*_, _/_, _%_, _≤_, _<_}
 use native.Mathlib.Nat.{mul-le-mul-right}
@@ -10,15 +10,15 @@ use lib.Dec.{eqb}
 use lib.ListN.{length, getD, take, drop}
 use lib.Seq.{ext-getD, getD-take, getD-drop}
 use Rattle.algebra.specs.Ops.{sub}
-use Rattle.algebra.specs.Weight.{countOf, distance}
+use Rattle.algebra.specs.Weight.{countOf}
 use Rattle.algebra.proofs.Weights.{countOf-ext}
 use Rattle.field.specs.Fields.{opsOf}
 use Rattle.field.specs.Symbols.{Symbols}
 use Rattle.code.specs.declared.Setting.{Setting}
 use Rattle.code.specs.Code.{limit}
-use Rattle.code.specs.Transmission.{view, sentSymbol}
-use Rattle.code.specs.Settings.{codeOf, Sound}
-use Rattle.code.specs.Windows.{transmission, windowLength, windowDistance, altered, Message, Fits}
+use Rattle.code.specs.Transmission.{view}
+use Rattle.code.specs.Settings.{Sound}
+use Rattle.code.specs.Windows.{transmission, windowLength, windowDistance, altered, Message}
 use Rattle.code.specs.Reading.{windowWeight, Residual}
 use Rattle.code.proofs.Lists.{symbol-below}
 use Rattle.code.proofs.Messages.{place-in-blocks}

@@ -21,7 +21,7 @@ use Rattle.code.specs.Generator.{timesG}
 use Rattle.code.specs.Transmission.{view}
 use Rattle.code.specs.Settings.{codeOf, Sound}
 use Rattle.code.specs.Windows.{windowLength}
-use Rattle.code.specs.Reading.{only, Residual}
+use Rattle.code.specs.Reading.{only}
 use Rattle.code.proofs.Lists.{symbol-below}
 use Rattle.code.proofs.Numbers.{laws, positive}
 use Rattle.code.proofs.Settings.{block-positive}

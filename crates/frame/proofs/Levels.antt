@@ -15,7 +15,7 @@ use Rattle.field.specs.Symbols.{Symbols}
 use Rattle.code.proofs.Lists.{symbol-below, part-below}
 use Rattle.block.specs.Area.{at}
 use Rattle.code.specs.declared.Setting.{Setting}
-use Rattle.code.specs.Code.{levelDistance, distancesTo}
+use Rattle.code.specs.Code.{distancesTo}
 use Rattle.code.specs.Transmission.{view}
 use Rattle.code.specs.Level.{combination}
 use Rattle.code.specs.Settings.{codeOf}

@@ -1,11 +1,11 @@
 -- A list with another part in the place of k elements from a on (`putMid`, what a lent part leaves in the whole), place by place.
 -- Holds: `put-length`, `put-before`, `put-inside`, `put-after`, `put-symbols`.
-use mathlib.Core.Path.{_≡_, refl, sym, ap, subst, _∙_}
+use mathlib.Core.Path.{_≡_, sym, ap, subst, _∙_}
 use mathlib.Core.List.{List, _++_}
 use Prim.Native.Nat.{ℕ, _+_, _-_, _≤_, _<_}
 use native.Mathlib.Omega.{arith}
 use native.Mathlib.Decide.{decLt}
-use lib.ListN.{length, getD, take, drop, length-take, length-drop, List·getD-append}
+use lib.ListN.{length, getD, take, drop, length-drop, List·getD-append}
 use lib.Seq.{getD-take, getD-drop, getD-append-add, length-take-le}
 use borrow.Rule.Slice.PartMut.{putMid, same-len-mid}
 use Rattle.field.specs.Symbols.{Symbols}

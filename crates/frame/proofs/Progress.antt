@@ -1,32 +1,24 @@
 -- The windows in turn (BLUEPRINT: residual, zero window, refusal chain, put together on bytes).
 -- Holds: `progress-start`, `near-of-fits`, `progress-none`, `progress-revised`, `progress-found`.
-use mathlib.Core.Path.{_≡_, refl, sym, ap, ap₂, subst, _∙_}
-use mathlib.Core.Bool.{Bool, true, false, not}
+use mathlib.Core.Path.{_≡_, sym, ap, subst, _∙_}
 use mathlib.Core.List.{List}
-use Prim.Native.Nat.{ℕ, zero, suc, _+_, _-_, _*_, _/_, _%_, _≤_, _<_}
+use Prim.Native.Nat.{ℕ, _+_, _-_, _*_, _/_, _≤_, _<_}
 use native.Mathlib.Nat.{mul-le-mul-right}
 use native.Mathlib.Omega.{arith}
-use native.Mathlib.Decide.{decLt, decLe, ℕ-discrete}
-use lib.Arith.{digits-lt}
-use lib.Dec.{leb}
-use lib.ListN.{length, getD, take, drop, replicate, length-take, length-drop, length-replicate, getD-replicate, List·getD-eq-default}
-use lib.Seq.{length-take-le}
-use borrow.Author.Tests.{le-leb, lt-leb}
-use borrow.Rule.Slice.PartMut.{putMid}
-use Rattle.algebra.specs.Ops.{sub, pick}
+use native.Mathlib.Decide.{decLt}
+use lib.ListN.{length, getD, replicate, length-replicate, getD-replicate, List·getD-eq-default}
+use Rattle.algebra.specs.Ops.{sub}
 use Rattle.field.specs.Fields.{opsOf}
 use Rattle.field.specs.Symbols.{Symbols}
 use Rattle.code.specs.declared.Setting.{Setting}
-use Rattle.code.specs.Code.{distancesTo, limit}
-use Rattle.code.specs.Generator.{timesG}
-use Rattle.code.specs.Transmission.{view}
-use Rattle.code.specs.Settings.{codeOf, Sound}
-use Rattle.code.specs.Windows.{transmission, windowLength, windowDistance, Message, Fits}
-use Rattle.code.specs.Reading.{Below, rebuiltDistance, Residual}
-use Rattle.code.proofs.Lists.{symbol-below, part-below}
-use Rattle.code.proofs.Numbers.{positive, message-below}
+use Rattle.code.specs.Code.{distancesTo}
+use Rattle.code.specs.Settings.{Sound}
+use Rattle.code.specs.Windows.{transmission, windowDistance, Fits}
+use Rattle.code.specs.Reading.{Below}
+use Rattle.code.proofs.Lists.{symbol-below}
+use Rattle.code.proofs.Numbers.{positive}
 use Rattle.code.proofs.Messages.{distances-positive}
-use Rattle.code.proofs.Residuals.{window-view, ahead, ahead-below, add-back, residual-window}
+use Rattle.code.proofs.Residuals.{ahead, ahead-below, add-back, residual-window}
 use Rattle.code.proofs.ResidualSteps.{residual-start}
 use Rattle.frame.specs.Window.{Near}
 use Rattle.frame.specs.Frame.{Progress, Revised, Added, NoneFits}

@@ -1,23 +1,17 @@
 -- What a window says, from what the functions of a turn promise.
 -- Holds: `window-clean`; `levels-area`, `levels-few`.
-use mathlib.Core.Path.{_≡_, refl, sym, ap, ap₂, subst, _∙_}
+use mathlib.Core.Path.{_≡_, refl, sym, ap, subst, _∙_}
 use mathlib.Core.Bool.{Bool, true, false, not}
-use mathlib.Core.List.{List, _++_}
+use mathlib.Core.List.{List}
 use Prim.Native.Nat.{ℕ, _+_, _-_, _*_, _≤_, _<_}
 use native.Mathlib.Omega.{arith}
 use lib.Dec.{T, eqb}
-use lib.ListN.{length, getD, take, drop, replicate}
-use lib.Seq.{getD-take, length-take-le}
-use Rattle.algebra.specs.Ops.{sub}
+use lib.ListN.{length, getD, replicate}
 use Rattle.algebra.specs.Weight.{countOf}
-use Rattle.algebra.proofs.Sums.{sum-ext}
-use Rattle.field.specs.Fields.{opsOf}
 use Rattle.field.specs.Symbols.{Symbols}
 use Rattle.code.specs.declared.Setting.{Setting}
 use Rattle.code.specs.Code.{distancesTo}
-use Rattle.code.specs.Generator.{rowSymbol, timesG}
-use Rattle.code.specs.Transmission.{view}
-use Rattle.code.specs.Settings.{codeOf, Sound}
+use Rattle.code.specs.Settings.{Sound}
 use Rattle.code.specs.Windows.{windowLength}
 use Rattle.code.proofs.Lists.{symbol-below}
 use Rattle.code.proofs.Numbers.{positive}

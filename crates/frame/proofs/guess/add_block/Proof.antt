@@ -1,9 +1,9 @@
 -- `frame::guess::add_block`: the first `next` symbols were added.
-use mathlib.Core.Path.{_≡_, refl}
-use Prim.Native.Nat.{ℕ, _+_, _-_, _*_, _≤_, _<_}
+use mathlib.Core.Path.{refl}
+use Prim.Native.Nat.{_+_, _-_, _≤_, _<_}
 use native.Mathlib.Omega.{arith}
 use denote.Ref.{now}
-use lib.ListN.{length, getD}
+use lib.ListN.{getD}
 use Rattle.code.proofs.Lists.{symbol-below}
 use Rattle.code.proofs.Numbers.{positive}
 use Rattle.frame.proofs.Guesses.{Adding, adding-none, adding-zero, adding-more, adding-all, added-past, revised-lengths}

@@ -1,10 +1,10 @@
 -- `frame::guess::add_found`: block j is added, and then blocks after it are changed.
-use mathlib.Core.Path.{_≡_, subst, ap, fun-ext, _∙_}
-use Prim.Native.Nat.{ℕ, _+_, _-_, _*_, _≤_, _<_}
+use mathlib.Core.Path.{subst, ap, fun-ext}
+use Prim.Native.Nat.{ℕ, _+_, _-_, _≤_}
 use native.Mathlib.Nat.{mul-le-mul, mul-le-mul-right, zero-add}
 use native.Mathlib.Omega.{arith}
 use denote.Ref.{now}
-use lib.ListN.{length, getD}
+use lib.ListN.{getD}
 use Rattle.frame.specs.Frame.{Revised, Added}
 use Rattle.frame.proofs.Guesses.{revised-none, revised-then, revised-lengths, added-then, blocks-few}
 use Rattle.frame.proofs.guess.add_found.Statement.{statement}

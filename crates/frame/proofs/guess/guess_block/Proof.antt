@@ -1,10 +1,9 @@
 -- `frame::guess::guess_block`: one guess, or two after each other.
-use mathlib.Core.Path.{_≡_}
-use Prim.Native.Nat.{ℕ, _+_, _*_, _≤_, _<_}
+use Prim.Native.Nat.{_<_}
 use native.Mathlib.Omega.{arith}
 use borrow.Author.Needs.{needs}
 use denote.Ref.{now}
-use Rattle.frame.proofs.Guesses.{revised-none, revised-then, block-room}
+use Rattle.frame.proofs.Guesses.{revised-then, block-room}
 use Rattle.frame.proofs.guess.guess_block.Statement.{statement}
 use Rattle.frame.proofs.guess.guess_block.Tie as tie
 

@@ -1,9 +1,8 @@
 -- `frame::guess::guess_from_end`: whatever is guessed, what is left stays the residual.
-use mathlib.Core.Path.{_≡_}
-use Prim.Native.Nat.{ℕ, _+_, _-_, _*_, _≤_, _<_}
+use Prim.Native.Nat.{_+_, _-_, _*_, _≤_, _<_}
 use native.Mathlib.Omega.{arith}
 use denote.Ref.{now}
-use lib.ListN.{length, getD}
+use lib.ListN.{length}
 use Rattle.code.proofs.Lists.{symbol-below}
 use Rattle.code.proofs.Numbers.{positive}
 use Rattle.frame.specs.Frame.{Revised}

@@ -1,6 +1,5 @@
 -- `frame::guess::guess_window`: blocks are guessed one after the other.
-use mathlib.Core.Path.{_≡_}
-use Prim.Native.Nat.{ℕ, _+_, _-_, _≤_}
+use Prim.Native.Nat.{_+_, _-_}
 use native.Mathlib.Omega.{arith}
 use denote.Ref.{now}
 use Rattle.frame.specs.Frame.{Revised}

@@ -1,9 +1,9 @@
 -- `frame::guess::subtract_row`: the first i symbols are lessened.
-use mathlib.Core.Path.{_≡_, sym, ap, subst, _∙_}
-use Prim.Native.Nat.{ℕ, _+_, _-_, _*_, _≤_, _<_}
+use mathlib.Core.Path.{_≡_, ap, subst, _∙_}
+use Prim.Native.Nat.{ℕ, _+_, _-_, _*_, _≤_}
 use native.Mathlib.Omega.{arith}
 use denote.Ref.{now}
-use lib.ListN.{length, getD}
+use lib.ListN.{getD}
 use Rattle.algebra.specs.Ops.{sub}
 use Rattle.field.specs.Fields.{opsOf}
 use Rattle.code.specs.Reading.{only}

@@ -1,19 +1,17 @@
 -- `frame::reading::compare_windows`: the windows before j are near.
-use mathlib.Core.Path.{_≡_, refl, sym, ap, subst, _∙_}
+use mathlib.Core.Path.{_≡_, refl, ap, subst, _∙_}
 use mathlib.Core.Bool.{not}
 use mathlib.Core.List.{List}
 use Prim.Native.Nat.{ℕ, _+_, _-_, _*_, _≤_, _<_}
 use native.Mathlib.Nat.{mul-le-mul, mul-le-mul-right}
 use native.Mathlib.Omega.{arith}
 use native.Mathlib.Decide.{decLt}
-use borrow.Author.Needs.{needs}
 use denote.Ref.{now}
 use lib.Dec.{eqb}
 use lib.ListN.{length, getD, take, drop}
 use Rattle.algebra.specs.Weight.{countOf}
-use Rattle.code.specs.Code.{limit as windowLimit}
 use Rattle.code.specs.Windows.{windowLength}
-use Rattle.frame.specs.Frame.{Compared, all-near, one-far}
+use Rattle.frame.specs.Frame.{all-near, one-far}
 use Rattle.frame.proofs.Levels.{part-weight}
 use Rattle.frame.proofs.reading.compare_windows.Statement.{statement}
 use Rattle.frame.proofs.reading.compare_windows.Tie as tie

@@ -1,10 +1,9 @@
 -- `frame::reading::read`: the areas are made ready, the windows read in turn, and the last comparison decides.
-use mathlib.Core.Path.{_≡_, ap}
-use Prim.Native.Nat.{ℕ, _+_, _-_, _*_, _/_, _≤_}
+use mathlib.Core.Path.{ap}
+use Prim.Native.Nat.{ℕ, _-_, _/_}
 use native.Mathlib.Omega.{arith}
 use borrow.Author.Needs.{needs}
 use denote.Ref.{now}
-use lib.ListN.{length}
 use Rattle.code.proofs.Lists.{symbol-below}
 use Rattle.code.proofs.Messages.{distances-positive}
 use Rattle.code.proofs.Numbers.{positive}

@@ -1,10 +1,10 @@
 -- `frame::reading::read_windows`: the windows before j were read.
-use mathlib.Core.Path.{_≡_, refl, subst, _∙_}
+use mathlib.Core.Path.{_≡_, subst, _∙_}
 use Prim.Native.Nat.{ℕ, _+_, _-_, _≤_}
 use native.Mathlib.Omega.{arith}
 use denote.Ref.{now}
 use lib.ListN.{length}
-use Rattle.frame.specs.Frame.{Progress, Advanced, advanced}
+use Rattle.frame.specs.Frame.{Progress, advanced}
 use Rattle.frame.proofs.Guesses.{revised-lengths}
 use Rattle.frame.proofs.Advance.{advance-more, advance-stopped}
 use Rattle.frame.proofs.reading.read_windows.Statement.{statement}

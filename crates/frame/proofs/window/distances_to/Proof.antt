@@ -1,9 +1,9 @@
 -- `frame::window::distances_to`: the sum of the distances up to level i.
 use mathlib.Core.Path.{_≡_, sym, ap, ap₂, _∙_}
-use Prim.Native.Nat.{ℕ, zero, suc, _+_, _-_, _*_, _≤_, _<_}
+use Prim.Native.Nat.{ℕ, _+_, _-_, _*_, _≤_, _<_}
 use native.Mathlib.Nat.{mul-le-mul-right}
 use native.Mathlib.Omega.{arith}
-use Rattle.code.specs.Code.{levelDistance, distancesTo}
+use Rattle.code.specs.Code.{distancesTo}
 use Rattle.frame.proofs.Levels.{distances-none, distances-more}
 use Rattle.frame.proofs.window.distances_to.Statement.{statement}
 use Rattle.frame.proofs.window.distances_to.Tie as tie

@@ -1,6 +1,6 @@
 -- `frame::window::find_level`: once the levels from l on have failed, every near sequence is near at level l - 1.
 use mathlib.Core.Path.{_≡_, sym, subst}
-use Prim.Native.Nat.{ℕ, suc, _+_, _-_, _≤_}
+use Prim.Native.Nat.{suc, _+_, _-_, _≤_}
 use native.Mathlib.Omega.{arith}
 use denote.Ref.{now}
 use Rattle.frame.specs.Window.{Levels}
