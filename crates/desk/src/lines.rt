@@ -1,4 +1,6 @@
 // The lines of a buffer, and their answers.
+ghost use mathlib.Core.Path.{_≡_};
+ghost use mathlib.Core.Bool.{false};
 ghost use Prim.Native.Nat.{_+_, _≤_, _<_};
 ghost use lib.ListN.{length};
 ghost use Rattle.desk.specs.Reading.{Kept};
@@ -21,6 +23,7 @@ pub struct Progress {
 // Writes the output that waits; after a write that failed, none.
 pub fn send(output: &[u8], filled: usize, open: bool) -> bool
     requires { ⌜ filled ≤ length (now output) ⌝ }
+    ensures { λ r. ⌜ («open» ≡ false → r ≡ false) ⌝ }
 {
     if !open {
         return false;
