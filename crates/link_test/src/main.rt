@@ -4,13 +4,176 @@
 // then the areas, two digits a byte, one after the other. All digits are hexadecimal.
 // A line out: number, place and count of the answer in decimal, then what the call returned and what it left in the areas.
 ghost use mathlib.Core.Path.{_≡_};
-ghost use Prim.Native.Nat.{_≤_};
+ghost use Prim.Native.Nat.{_≤_, _<_};
 ghost use lib.ListN.{length};
-
-mod calls;
-mod text;
-
 use libc::STDIN_FILENO;
+use libc::STDOUT_FILENO;
+use link::Answer;
+
+// The value of a digit, and 0 for any other byte.
+fn value(digit: u8) -> u8
+    ensures { λ r. ⌜ r < 16 ⌝ }
+{
+    if digit < 48 {
+        return 0;
+    }
+    if digit < 58 {
+        return digit - 48;
+    }
+    if digit < 97 {
+        return 0;
+    }
+    if digit < 103 {
+        return digit - 87;
+    }
+    0
+}
+
+// The number that the last eight digits of a text say.
+fn word(digits: &[u8]) -> u32 {
+    let mut word: u32 = 0;
+    let mut i: usize = 0;
+    while i < digits.len() {
+        word = word << 4 | value(digits[i]) as u32;
+        i += 1;
+    }
+    word
+}
+
+// The bytes that the digits from `from` on say, as many as `bytes` has and the digits give.
+fn bytes(digits: &[u8], from: usize, bytes: &mut [u8]) {
+    if digits.len() < from {
+        return;
+    }
+    let mut at = from;
+    let mut i: usize = 0;
+    while i < bytes.len() {
+        if digits.len() - at < 2 {
+            return;
+        }
+        bytes[i] = value(digits[at]) << 4 | value(digits[at + 1]);
+        at += 2;
+        i += 1;
+    }
+}
+
+// A digit.
+fn digit(value: u8) -> u8 {
+    if value < 10 {
+        return value + 48;
+    }
+    if value < 16 {
+        return value + 87;
+    }
+    0
+}
+
+// Writes bytes, two digits each, by way of `digits`.
+fn show(bytes: &[u8], digits: &mut [u8]) {
+    let mut at: usize = 0;
+    let mut i: usize = 0;
+    while i < bytes.len() {
+        if digits.len() - at < 2 {
+            return;
+        }
+        digits[at] = digit(bytes[i] / 16);
+        digits[at + 1] = digit(bytes[i] % 16);
+        at += 2;
+        i += 1;
+    }
+    io::write_all(STDOUT_FILENO, &digits[..at]);
+}
+
+fn show_number(number: u64) {
+    io::print_decimal(STDOUT_FILENO, number);
+}
+
+fn space() {
+    io::write_all(STDOUT_FILENO, b" ");
+}
+
+fn end_line() {
+    io::write_all(STDOUT_FILENO, b"\n");
+}
+
+fn show_answer(answer: Answer) {
+    show_number(answer.number as u64);
+    space();
+    show_number(answer.place);
+    space();
+    show_number(answer.altered as u64);
+}
+
+fn encode(number: u32, message: &[u8], transmission: &mut [u8], digits: &mut [u8]) {
+    let answer = link::encode::encode(number, message, transmission);
+    show_answer(answer);
+    space();
+    show(transmission, digits);
+    end_line();
+}
+
+fn decode(
+    number: u32,
+    reception: &[u8],
+    message: &mut [u8],
+    transmission: &mut [u8],
+    digits: &mut [u8],
+) {
+    let answer = link::decode::decode(number, reception, message, transmission);
+    show_answer(answer);
+    space();
+    show(message, digits);
+    space();
+    show(transmission, digits);
+    end_line();
+}
+
+fn window(number: u32, reception: &[u8], j: u64, digits: &mut [u8]) {
+    let answer = link::display::window_answer(number, reception, j);
+    show_answer(answer);
+    space();
+    let part = link::display::window(number, reception, j);
+    show(part, digits);
+    end_line();
+}
+
+fn marks(number: u32, reception: &[u8], transmission: &[u8], j: u64) {
+    let found = link::mark::marks(number, reception, transmission, j);
+    let answer = found.answer;
+    show_answer(answer);
+    space();
+    show_number(found.marks as u64);
+    space();
+    show_number(found.set as u64);
+    end_line();
+}
+
+// E: encoding of the first area into the third. D: decoding of the first into the second and the third. W: window j of the first. M: marks of the first and the second in window j.
+fn call_on(
+    call: u8,
+    number: u32,
+    j: u64,
+    first: &[u8],
+    second: &mut [u8],
+    third: &mut [u8],
+    digits: &mut [u8],
+) {
+    if call == b'E' {
+        encode(number, first, third, digits);
+        return;
+    }
+    if call == b'D' {
+        decode(number, first, second, third, digits);
+        return;
+    }
+    if call == b'W' {
+        window(number, first, j, digits);
+        return;
+    }
+    if call == b'M' {
+        marks(number, first, second, j);
+    }
+}
 
 // What stands at the start of a line.
 struct Head {
@@ -25,12 +188,12 @@ struct Head {
 fn head_of(start: &[u8]) -> Head
     requires { ⌜ length (now start) ≡ 43 ⌝ }
 {
-    let high = text::word(&start[11..19]) as u64;
-    let low = text::word(&start[19..27]) as u64;
-    let number = text::word(&start[2..10]);
-    let first = text::word(&start[28..32]) as usize;
-    let second = text::word(&start[33..37]) as usize;
-    let third = text::word(&start[38..42]) as usize;
+    let high = word(&start[11..19]) as u64;
+    let low = word(&start[19..27]) as u64;
+    let number = word(&start[2..10]);
+    let first = word(&start[28..32]) as usize;
+    let second = word(&start[33..37]) as usize;
+    let third = word(&start[38..42]) as usize;
     Head {
         call: start[0],
         number: number,
@@ -47,10 +210,10 @@ fn handed(head: Head, digits: &mut [u8], first: &mut [u8], second: &mut [u8], th
 {
     let second_at = 2 * first.len();
     let third_at = second_at + 2 * second.len();
-    text::bytes(digits, 0, first);
-    text::bytes(digits, second_at, second);
-    text::bytes(digits, third_at, third);
-    calls::run(head.call, head.number, head.j, first, second, third, digits);
+    bytes(digits, 0, first);
+    bytes(digits, second_at, second);
+    bytes(digits, third_at, third);
+    call_on(head.call, head.number, head.j, first, second, third, digits);
 }
 
 // The areas of a line, read and handed to its call; false where the input ends.

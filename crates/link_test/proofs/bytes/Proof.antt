@@ -1,11 +1,11 @@
--- `link_test::text::bytes`: both places stay within their slices.
+-- `link_test::bytes`: both places stay within their slices.
 use mathlib.Core.Path.{_≡_}
 use Prim.Native.Nat.{_-_, _≤_}
 use native.Mathlib.Omega.{arith}
 use lib.ListN.{length, length-set}
 use borrow.Author.Needs.{needs}
-use Rattle.link_test.proofs.text.bytes.Statement.{statement}
-use Rattle.link_test.proofs.text.bytes.Tie as tie
+use Rattle.link_test.proofs.bytes.Statement.{statement}
+use Rattle.link_test.proofs.bytes.Tie as tie
 
 abbrev Inv-loop : tie.InvT-loop
 Inv-loop digits from bytes₀ at₀ i₀ bytes at i = (at ≤ length digits) × (i ≤ length bytes) × (length bytes ≡ length bytes₀)

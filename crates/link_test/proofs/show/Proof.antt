@@ -1,12 +1,12 @@
--- `link_test::text::show`: both places stay within their slices.
+-- `link_test::show`: both places stay within their slices.
 use mathlib.Core.Path.{_≡_, sym}
 use Prim.Native.Nat.{_-_, _≤_}
 use native.Mathlib.Omega.{arith}
 use lib.ListN.{length, length-set}
 use lib.Seq.{length-take-le}
 use borrow.Author.Needs.{needs}
-use Rattle.link_test.proofs.text.show.Statement.{statement}
-use Rattle.link_test.proofs.text.show.Tie as tie
+use Rattle.link_test.proofs.show.Statement.{statement}
+use Rattle.link_test.proofs.show.Tie as tie
 
 abbrev Inv-loop : tie.InvT-loop
 Inv-loop bytes digits₀ at₀ i₀ digits at i = (at ≤ length digits) × (i ≤ length bytes) × (length digits ≡ length digits₀)

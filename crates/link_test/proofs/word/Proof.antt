@@ -1,9 +1,9 @@
--- `link_test::text::word`: the index stays within the digits.
+-- `link_test::word`: the index stays within the digits.
 use Prim.Native.Nat.{_-_, _≤_}
 use native.Mathlib.Omega.{arith}
 use lib.ListN.{length}
-use Rattle.link_test.proofs.text.word.Statement.{statement}
-use Rattle.link_test.proofs.text.word.Tie as tie
+use Rattle.link_test.proofs.word.Statement.{statement}
+use Rattle.link_test.proofs.word.Tie as tie
 
 abbrev Inv-loop : tie.InvT-loop
 Inv-loop digits word₀ i₀ word i = i ≤ length digits
