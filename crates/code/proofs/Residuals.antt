@@ -1,5 +1,5 @@
 -- The residual of a message g in a reception, on bytes: what one window of it says of a message that fits.
--- Holds: `window-view`, `ahead`, `sub-below`, `add-back`, `ahead-below`, `number-sub`, `residual-window`.
+-- Holds: `window-view`, `ahead`, `sub-below`, `add-back`, `add-opposite`, `ahead-below`, `number-sub`, `residual-window`.
 use mathlib.Core.Path.{_≡_, refl, sym, ap, ap₂, _∙_}
 use mathlib.Core.List.{List}
 use Prim.Native.Nat.{ℕ, zero, suc, _+_, _-_, _*_, _≤_, _<_}
@@ -8,7 +8,7 @@ use lib.Arith.{digits-lt}
 use lib.ListN.{getD, take, drop}
 use lib.Seq.{getD-take, getD-drop}
 use Rattle.algebra.specs.Ops.{sub}
-use Rattle.algebra.proofs.Laws.{sub-self, add-of-sub}
+use Rattle.algebra.proofs.Laws.{sub-self, add-of-sub, neg-unique, neg-mul}
 use Rattle.algebra.proofs.Weights.{total-ext}
 use Rattle.algebra.proofs.Below.{Below as Element, number, number-injective, element, number-element}
 use Rattle.field.specs.Fields.{opsOf}
@@ -22,7 +22,7 @@ use Rattle.code.proofs.Certainty.{costTo}
 use Rattle.code.proofs.Windows.{blockCost, rebuiltCost, sent-sub, sent-ahead, combination-ext}
 use Rattle.code.proofs.Lists.{symbol-below, part-below}
 use Rattle.code.proofs.Numbers.{laws, positive, fieldOf, rootOf, overField, keeps, lifted, number-lifted, sent-number, message-below, byteCost, window-cost}
-use Rattle.code.proofs.Reading.{elementCost, element-shift, rebuilt-cost}
+use Rattle.code.proofs.Reading.{number-zero, elementCost, element-shift, rebuilt-cost}
 
 -- Symbol i of block s of window j of a list of blocks.
 pub window-view : (n m : ℕ) (left : List ℕ) (j s i : ℕ) → s ≤ m → i < n
@@ -44,6 +44,15 @@ module _ (p : Setting) (S : Sound p) where
 
   pub sub-below : (a b : ℕ) → a < p .q → b < p .q → sub (opsOf (p .q)) a b < p .q
   sub-below a b la lb = laws p S .add-below a (opsOf (p .q) .neg b) la (laws p S .neg-below b lb)
+
+  -- Adding u × x takes v × x out, where v + u = 0.
+  pub add-opposite : (a v u x : ℕ) → a < p .q → v < p .q → u < p .q → x < p .q → opsOf (p .q) .add v u ≡ 0
+      → opsOf (p .q) .add a (opsOf (p .q) .mul u x) ≡ sub (opsOf (p .q)) a (opsOf (p .q) .mul v x)
+  add-opposite a v u x la lv lu lx e =
+      let K = fieldOf p S in
+      let opposite : (u, lu) ≡ K .ops .neg (v, lv) = neg-unique K (v, lv) (u, lu) (number-injective _ _ (keeps p S .on-add (v, lv) (u, lu) ∙ e ∙ sym (number-zero p S))) in
+      ap (opsOf (p .q) .add a) (sym (keeps p S .on-mul (u, lu) (x, lx)) ∙ ap (λ (t : Element (p .q)). number (K .ops .mul t (x, lx))) opposite ∙ ap number (neg-mul K (v, lv) (x, lx))
+      ∙ keeps p S .on-neg (K .ops .mul (v, lv) (x, lx)) ∙ ap (opsOf (p .q) .neg) (keeps p S .on-mul (v, lv) (x, lx)))
 
   -- b + (a - b) = a
   pub add-back : (a b : ℕ) → a < p .q → b < p .q → opsOf (p .q) .add b (sub (opsOf (p .q)) a b) ≡ a

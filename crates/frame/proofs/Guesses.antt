@@ -17,19 +17,19 @@ use Rattle.algebra.specs.Ops.{sub, pick}
 use Rattle.field.specs.Fields.{opsOf}
 use Rattle.field.specs.Symbols.{Symbols}
 use Rattle.code.specs.declared.Setting.{Setting}
-use Rattle.code.specs.Generator.{timesG}
+use Rattle.code.specs.Generator.{rowSymbol, timesG}
 use Rattle.code.specs.Transmission.{view}
 use Rattle.code.specs.Settings.{codeOf, Sound}
 use Rattle.code.specs.Windows.{windowLength}
 use Rattle.code.specs.Reading.{only}
 use Rattle.code.proofs.Lists.{symbol-below}
-use Rattle.code.proofs.Numbers.{laws, positive}
+use Rattle.code.proofs.Numbers.{laws, positive, rowSymbol-below}
 use Rattle.code.proofs.Settings.{block-positive}
-use Rattle.code.proofs.Residuals.{window-view}
-use Rattle.code.proofs.ResidualSteps.{lessened, residual-step}
-use Rattle.frame.specs.Window.{LessenedTo}
+use Rattle.code.proofs.Residuals.{window-view, add-opposite}
+use Rattle.code.proofs.ResidualSteps.{timesG-only, lessened, residual-step}
+use Rattle.tables.specs.Adding.{plusRow, RowsAdded}
+use Rattle.tables.proofs.Parts.{put-length, put-before, put-inside, put-after, put-symbols}
 use Rattle.frame.specs.Frame.{Areas, Revised, Adjusted, Added}
-use Rattle.frame.proofs.Parts.{put-length, put-before, put-inside, put-after, put-symbols}
 
 -- Window j of what is left.
 abbrev pub windowAt : Setting → List ℕ → ℕ → List ℕ
@@ -83,8 +83,8 @@ module _ (p : Setting) (T : ℕ) where
       }
 
 module _ (p : Setting) (S : Sound p) (T j r v : ℕ) (message left : List ℕ) (A : Areas p T message left) (lj : j < T) (lr : r < p .k) (lv : v < p .q)
-    (w : ℕ) (sum : w ≡ opsOf (p .q) .add (getD message (j * p .k + r) 0) v) (window' : List ℕ)
-    (L : LessenedTo p (only r v) (p .m + 1) (windowAt p left j) window') where
+    (w : ℕ) (sum : w ≡ opsOf (p .q) .add (getD message (j * p .k + r) 0) v) (u : ℕ) (lu : u < p .q) (opposite : opsOf (p .q) .add v u ≡ 0)
+    (window' : List ℕ) (L : RowsAdded p r u (p .m + 1) (windowAt p left j) window') where
   message-below : (a : ℕ) → getD message a 0 < p .q
   message-below = symbol-below (p .q) message (A .message-symbols) (positive p S)
 
@@ -145,7 +145,7 @@ module _ (p : Setting) (S : Sound p) (T j r v : ℕ) (message left : List ℕ) (
 
   changed : (s i : ℕ) → s < T + p .m → i < p .n → view (p .n) left' s i ≡ lessened p S left (only r v) j s i
   unfolding left'
-  changed s i u e = at (decLe j s) (decLe (s - j) (p .m))
+  changed s i h e = at (decLe j s) (decLe (s - j) (p .m))
     where
       x : ℕ → ℕ
       x = only r v
@@ -158,7 +158,10 @@ module _ (p : Setting) (S : Sound p) (T j r v : ℕ) (message left : List ℕ) (
           ap (λ (t : ℕ). getD (putMid (j * p .n) (windowLength p) left window') t 0) place
           ∙ put-inside (j * p .n) (windowLength p) left window' left-room window-long ((s - j) * p .n + i) (digits-lt top e)
           ∙ L .inside (s - j) i top e
-          ∙ ap (λ (t : ℕ). sub (opsOf (p .q)) t (timesG (codeOf p) x (s - j) i)) (window-view (p .n) (p .m) left j (s - j) i b e ∙ ap (λ (t : ℕ). view (p .n) left t i) back)
+          ∙ ap (plusRow p r u (s - j) i) (window-view (p .n) (p .m) left j (s - j) i b e ∙ ap (λ (t : ℕ). view (p .n) left t i) back)
+          ∙ add-opposite p S (view (p .n) left s i) v u (rowSymbol (codeOf p) (s - j) r i) (symbol-below (p .q) left (A .left-symbols) (positive p S) (s * p .n + i)) lv lu
+          (rowSymbol-below p S (s - j) r i) opposite
+          ∙ ap (sub (opsOf (p .q)) (view (p .n) left s i)) (sym (timesG-only p S r v (s - j) i lr lv))
           ∙ sym (ap₂ (λ (c d : Bool). pick c (pick d (sub (opsOf (p .q)) (view (p .n) left s i) (timesG (codeOf p) x (s - j) i)) (view (p .n) left s i)) (view (p .n) left s i))
           (le-leb j s a) (le-leb (s - j) (p .m) b))
         where
@@ -196,14 +199,14 @@ module _ (p : Setting) (S : Sound p) (T j r v : ℕ) (message left : List ℕ) (
 
 -- The same with the sizes as the code computes them.
 pub adjusted : (p : Setting) → Sound p → (T j r v : ℕ) (message left : List ℕ) → Areas p T message left → j < T → r < p .k → v < p .q
-    → (w : ℕ) → w ≡ opsOf (p .q) .add (getD message (j * p .k + r) 0) v → (window' : List ℕ)
-    → LessenedTo p (only r v) (p .m + 1) (take (j * p .n + windowLength p - j * p .n) (drop (j * p .n) left)) window'
+    → (w : ℕ) → w ≡ opsOf (p .q) .add (getD message (j * p .k + r) 0) v → (u : ℕ) → u < p .q → opsOf (p .q) .add v u ≡ 0 → (window' : List ℕ)
+    → RowsAdded p r u (p .m + 1) (take (j * p .n + windowLength p - j * p .n) (drop (j * p .n) left)) window'
     → Adjusted p T j r v message left (set message (j * p .k + r) w) (putMid (j * p .n) (j * p .n + windowLength p - j * p .n) left window')
-adjusted p S T j r v message left A lj lr lv w sum window' =
+adjusted p S T j r v message left A lj lr lv w sum u lu opposite window' =
     let wide : j * p .n + windowLength p - j * p .n ≡ windowLength p = omega arith in
-    subst (λ (t : ℕ). LessenedTo p (only r v) (p .m + 1) (take t (drop (j * p .n) left)) window'
+    subst (λ (t : ℕ). RowsAdded p r u (p .m + 1) (take t (drop (j * p .n) left)) window'
     → Adjusted p T j r v message left (set message (j * p .k + r) w) (putMid (j * p .n) t left window')) (sym wide)
-    (adjusted-exact p S T j r v message left A lj lr lv w sum window')
+    (adjusted-exact p S T j r v message left A lj lr lv w sum u lu opposite window')
 
 -- The first r symbols of the information block x were added to block j.
 pub record Adding (p : Setting) (T j : ℕ) (x : ℕ → ℕ) (r : ℕ) (message left message' left' : List ℕ) : Type 0 where

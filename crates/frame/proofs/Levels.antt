@@ -1,5 +1,5 @@
 -- The levels of a window: sums of distances and of rebuilt blocks, as loops make them.
--- Holds: `distances-none`, `distances-more`; `rebuilt-sum`, `rebuilt-none`, `rebuilt-more`, `rebuilt-all`; `part-length`, `part-symbol`, `part-distance`, `few`, `symbols-part`, `rebuilt-few`, `part-weight`.
+-- Holds: `distances-none`, `distances-more`; `rebuilt-sum`, `rebuilt-none`, `rebuilt-more`, `rebuilt-all`; `part-distance`, `few`, `rebuilt-few`, `part-weight`.
 use mathlib.Core.Path.{_≡_, refl, sym, ap, ap₂, subst, _∙_}
 use mathlib.Core.Bool.{not}
 use mathlib.Core.List.{List}
@@ -11,15 +11,14 @@ use lib.ListN.{length, getD, take, drop, length-take, length-drop}
 use lib.Seq.{getD-take, getD-drop}
 use Rattle.algebra.specs.Weight.{total, countOf, distance}
 use Rattle.algebra.proofs.Weights.{countOf-ext, countOf-le}
-use Rattle.field.specs.Symbols.{Symbols}
-use Rattle.code.proofs.Lists.{symbol-below, part-below}
-use Rattle.block.specs.Area.{at}
 use Rattle.code.specs.declared.Setting.{Setting}
 use Rattle.code.specs.Code.{distancesTo}
 use Rattle.code.specs.Transmission.{view}
 use Rattle.code.specs.Level.{combination}
 use Rattle.code.specs.Settings.{codeOf}
 use Rattle.code.specs.Reading.{blockDistance, rebuiltDistance}
+use Rattle.tables.proofs.Parts.{part-size, part-length, part-symbol}
+use Rattle.block.specs.Area.{at}
 
 pub distances-none : (n k : ℕ) → n - (0 + 1) * k + 1 ≡ distancesTo n k 0
 unfolding distancesTo
@@ -47,23 +46,7 @@ pub rebuilt-all : (p : Setting) (window : List ℕ) (y : ℕ → ℕ → ℕ) (l
 unfolding rebuiltDistance
 rebuilt-all p window y l = ap (rebuilt-sum p window y) (add-one l)
 
--- A block of a window, as the part that is lent: its length, its symbols, and how far it is from another block.
-module _ (n start : ℕ) (window : List ℕ) where
-  same-size : start + n - start ≡ n
-  same-size = omega arith
-
-  pub part-length : start + n ≤ length window → length (take (start + n - start) (drop start window)) ≡ n
-  part-length h =
-      length-take (start + n - start) (drop start window) ∙ (ap₂ min same-size (length-drop start window) ∙ least (length window - start) (omega arith))
-    where
-      least : (b : ℕ) → n ≤ b → min n b ≡ n
-      least b l = omega arith
-
-  pub part-symbol : (i : ℕ) → i < n → getD (take (start + n - start) (drop start window)) i 0 ≡ getD window (start + i) 0
-  part-symbol i l =
-      let below : i < start + n - start = omega arith in
-      getD-take (start + n - start) (drop start window) i 0 below ∙ getD-drop start window i 0
-
+-- A block of a window, as the part that is lent: how far it is from another block.
 pub part-distance : (n s start : ℕ) (window : List ℕ) (f : ℕ → ℕ) → start ≡ s * n
     → distance n (at (take (start + n - start) (drop start window))) f ≡ distance n (view n window s) f
 part-distance n s start window f e =
@@ -72,10 +55,6 @@ part-distance n s start window f e =
 -- No block differs in more symbols than it has.
 pub few : {r : ℕ} (n : ℕ) (a b : ℕ → ℕ) → r ≡ distance n a b → r ≤ n
 few n a b e = subst (λ (t : ℕ). t ≤ n) (sym e) (countOf-le n (λ i. not (eqb (a i) (b i))))
-
-pub symbols-part : (q n start : ℕ) (window : List ℕ) → Symbols q window → 0 < q → Symbols q (take (start + n - start) (drop start window))
-symbols-part q n start window symbols h =
-    record { below = λ i l. part-below q window (symbol-below q window symbols h) h (start + n - start) start i }
 
 -- Blocks 0 .. l differ in at most (l+1) n symbols.
 sum-few : (p : Setting) (window : List ℕ) (y : ℕ → ℕ → ℕ) (s : ℕ) → rebuilt-sum p window y s ≤ s * p .n
@@ -92,4 +71,4 @@ pub part-weight : (n start : ℕ) (window : List ℕ) → start + n ≤ length w
     ≡ countOf n (λ i. not (eqb (getD (take n (drop start window)) i 0) 0))
 part-weight n start window h =
     ap (λ (t : ℕ). countOf t (λ i. not (eqb (getD (take (start + n - start) (drop start window)) i 0) 0))) (part-length n start window h)
-    ∙ ap (λ (t : ℕ). countOf n (λ i. not (eqb (getD (take t (drop start window)) i 0) 0))) (same-size n start window)
+    ∙ ap (λ (t : ℕ). countOf n (λ i. not (eqb (getD (take t (drop start window)) i 0) 0))) (part-size n start window)

@@ -2,8 +2,6 @@
 pub mod Levels
 pub mod Tried
 pub mod Reached
-pub mod Parts
-pub mod Lessening
 pub mod Turn
 pub mod Guesses
 pub mod Progress

@@ -1,57 +1,13 @@
 // The guessed message. What is added to it is taken out of what is left, so that this stays the reception less the guess's transmission.
-ghost use mathlib.Core.Path.{_≡_};
 ghost use Prim.Native.Nat.{_+_, _*_, _≤_, _<_};
 ghost use lib.ListN.{length, getD};
 ghost use Rattle.field.specs.Symbols.{Symbols};
 ghost use Rattle.code.specs.Settings.{Sound};
-ghost use Rattle.code.specs.Windows.{windowLength};
-ghost use Rattle.code.specs.Reading.{only};
 ghost use Rattle.tables.specs.Tables.{Ready, Small};
-ghost use Rattle.frame.specs.Window.{Lessened, LessenedTo};
 ghost use Rattle.frame.specs.Frame.{Areas, Revised, Adjusted, Added};
 use code::Setting;
 use field::Tables;
 use tables::Rows;
-
-// Takes v × row r of G_j out of block j of a window.
-fn subtract_row(
-    p: Setting,
-    products: &Tables,
-    rows: &Rows,
-    r: usize,
-    v: u8,
-    j: usize,
-    block: &mut [u8],
-)
-    requires { ⌜ Ready p (now products) (now rows) × (r < p .k) × (v < p .q) × (j ≤ p .m) × (length (now block) ≡ p .n) × Symbols (p .q) (now block) ⌝ }
-    ensures { λ _. ⌜ Lessened p (only r v) j (p .n) (now (block .entry)) (now (block .exit)) ⌝ }
-{
-    let q = p.q;
-    let n = p.n;
-    let mut i: usize = 0;
-    while i < n {
-        let product = field::multiply(q, products, v, rows[(j * p.k + r) * n + i]);
-        block[i] = field::subtract(q, block[i], product);
-        i += 1;
-    }
-}
-
-// Takes v × row r of G_0, .., G_m out of the blocks of a window.
-fn subtract_rows(p: Setting, products: &Tables, rows: &Rows, r: usize, v: u8, window: &mut [u8])
-    requires { ⌜ Ready p (now products) (now rows) × (r < p .k) × (v < p .q) × (length (now window) ≡ windowLength p) × Symbols (p .q) (now window) ⌝ }
-    ensures { λ _. ⌜ LessenedTo p (only r v) (p .m + 1) (now (window .entry)) (now (window .exit)) ⌝ }
-{
-    let n = p.n;
-    let m = p.m;
-    let mut start: usize = 0;
-    let mut s: usize = 0;
-    while s <= m {
-        let end = start + n;
-        subtract_row(p, products, rows, r, v, s, &mut window[start..end]);
-        start = end;
-        s += 1;
-    }
-}
 
 // Adds v to symbol r of block i of the message.
 fn adjust(
@@ -75,7 +31,8 @@ fn adjust(
     let start = i * n;
     let end = start + size;
     message[place] = field::add(q, message[place], v);
-    subtract_rows(p, products, rows, r, v, &mut left[start..end]);
+    let less = field::negate(q, v);
+    tables::product::add_rows(p, products, rows, r, less, &mut left[start..end]);
 }
 
 // Adds an information block to block i of the message, if it has such a block.

@@ -4,3 +4,5 @@ pub mod Matrices
 pub mod Places
 pub mod Small
 pub mod Examples
+pub mod Parts
+pub mod Adding

@@ -1,4 +1,5 @@
 // Products of information blocks with the generator's rows.
+ghost use mathlib.Core.Path.{_≡_};
 ghost use Prim.Native.Nat.{_+_, _-_, _*_, _≤_, _<_};
 ghost use lib.ListN.{length, getD};
 ghost use Rattle.field.specs.Symbols.{Symbols, Is};
@@ -6,7 +7,9 @@ ghost use Rattle.code.specs.Generator.{timesG};
 ghost use Rattle.code.specs.Level as level;
 ghost use Rattle.code.specs.Transmission.{view};
 ghost use Rattle.code.specs.Settings.{codeOf};
+ghost use Rattle.code.specs.Windows.{windowLength};
 ghost use Rattle.tables.specs.Tables.{Ready};
+ghost use Rattle.tables.specs.Adding.{RowAdded, RowsAdded};
 use super::Rows;
 use code::Setting;
 use field::Tables;
@@ -64,4 +67,43 @@ pub fn combination(
         j += 1;
     }
     sum
+}
+
+// Adds v × row r of G_j to a block.
+fn add_row(
+    p: Setting,
+    products: &Tables,
+    rows: &Rows,
+    r: usize,
+    v: u8,
+    j: usize,
+    block: &mut [u8],
+)
+    requires { ⌜ Ready p (now products) (now rows) × (r < p .k) × (v < p .q) × (j ≤ p .m) × (length (now block) ≡ p .n) × Symbols (p .q) (now block) ⌝ }
+    ensures { λ _. ⌜ RowAdded p r v j (p .n) (now (block .entry)) (now (block .exit)) ⌝ }
+{
+    let q = p.q;
+    let n = p.n;
+    let mut i: usize = 0;
+    while i < n {
+        block[i] = field::add_product(q, products, block[i], v, rows[(j * p.k + r) * n + i]);
+        i += 1;
+    }
+}
+
+// Adds v × row r of G_0, .., G_m to the blocks of a window: what one information symbol contributes.
+pub fn add_rows(p: Setting, products: &Tables, rows: &Rows, r: usize, v: u8, window: &mut [u8])
+    requires { ⌜ Ready p (now products) (now rows) × (r < p .k) × (v < p .q) × (length (now window) ≡ windowLength p) × Symbols (p .q) (now window) ⌝ }
+    ensures { λ _. ⌜ RowsAdded p r v (p .m + 1) (now (window .entry)) (now (window .exit)) ⌝ }
+{
+    let n = p.n;
+    let m = p.m;
+    let mut start: usize = 0;
+    let mut j: usize = 0;
+    while j <= m {
+        let end = start + n;
+        add_row(p, products, rows, r, v, j, &mut window[start..end]);
+        start = end;
+        j += 1;
+    }
 }

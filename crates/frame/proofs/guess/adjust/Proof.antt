@@ -1,13 +1,15 @@
 -- `frame::guess::adjust`: one symbol of the message, and one window of what is left.
+use mathlib.Core.Path.{ap, _∙_}
 use Prim.Native.Nat.{_+_, _-_, _*_, _≤_, _<_}
 use native.Mathlib.Omega.{arith}
 use borrow.Author.Needs.{needs}
 use denote.Ref.{now}
 use lib.ListN.{length}
+use Rattle.field.specs.Fields.{opsOf}
 use Rattle.code.specs.Windows.{windowLength}
 use Rattle.code.proofs.Lists.{symbol-below}
-use Rattle.code.proofs.Numbers.{positive}
-use Rattle.frame.proofs.Levels.{part-length, symbols-part}
+use Rattle.code.proofs.Numbers.{laws, positive}
+use Rattle.tables.proofs.Parts.{part-length, symbols-part}
 use Rattle.frame.proofs.Guesses.{window-room, symbol-room, adjusted}
 use Rattle.frame.proofs.guess.adjust.Statement.{statement}
 use Rattle.frame.proofs.guess.adjust.Tie as tie
@@ -52,22 +54,25 @@ add-requires c κs =
 slice-write-message : tie.Need-slice-write-message
 slice-write-message c = inside (c .before .before .before .before .before .before)
 
-sub-subtract-rows : tie.Need-sub-subtract-rows
-sub-subtract-rows c = search needs
+negate-requires : tie.Need-negate-requires
+negate-requires c κs = let entry = c .before .before .before .before .before .before in (entry .pre .0 .sound .good, entry .pre .3)
 
-part-subtract-rows-start : tie.Need-part-subtract-rows-start
-part-subtract-rows-start c = search needs
+sub-add-rows : tie.Need-sub-add-rows
+sub-add-rows c = search needs
 
-part-subtract-rows-end : tie.Need-part-subtract-rows-end
-part-subtract-rows-end c = room (c .before .before .before .before .before .before)
+part-add-rows-start : tie.Need-part-add-rows-start
+part-add-rows-start c = search needs
 
-subtract-rows-requires : tie.Need-subtract-rows-requires
-subtract-rows-requires c κs =
-    let entry = c .before .before .before .before .before .before .before in
+part-add-rows-end : tie.Need-part-add-rows-end
+part-add-rows-end c = room (c .before .before .before .before .before .before .before)
+
+add-rows-requires : tie.Need-add-rows-requires
+add-rows-requires c κs =
+    let entry = c .before .before .before .before .before .before .before .before in
     let a = entry .args in (
       entry .pre .0,
       entry .pre .2,
-      entry .pre .3,
+      c .before .negate .ensures .below,
       part-length (windowLength (a .p)) (a .i * a .p .n) (now (a .left)) (room entry),
       symbols-part (a .p .q) (windowLength (a .p)) (a .i * a .p .n) (now (a .left)) (entry .pre .4 .left-symbols) (positive (a .p) (entry .pre .0 .sound)),
     )
@@ -80,10 +85,14 @@ same-length-2 c = search needs
 
 returns : tie.Need-returns
 returns c =
-    let entry = c .before .before .before .before .before .before .before .before .before .before in
+    let entry = c .before .before .before .before .before .before .before .before .before .before .before in
     let a = entry .args in
+    let less = c .before .before .before .before .negate in
     adjusted (a .p) (entry .pre .0 .sound) (a .blocks) (a .i) (a .r) (a .v) (now (a .message)) (now (a .left)) (entry .pre .4) (entry .pre .1) (entry .pre .2) (entry .pre .3)
-    (c .before .before .before .before .add .result) (c .before .before .before .before .add .ensures .same) (c .before .before .subtract-rows .last .1 .1 .1 .1 .1 .0) (c .before .before .subtract-rows .ensures)
+    (c .before .before .before .before .before .add .result) (c .before .before .before .before .before .add .ensures .same)
+    (less .result) (less .ensures .below)
+    (ap (opsOf (a .p .q) .add (a .v)) (less .ensures .same) ∙ laws (a .p) (entry .pre .0 .sound) .plus-neg (a .v) (entry .pre .3))
+    (c .before .before .add-rows .last .1 .1 .1 .1 .1 .0) (c .before .before .add-rows .ensures)
 
 pub adjust-spec : {M : Type 1} → statement M
 adjust-spec =
@@ -98,10 +107,11 @@ adjust-spec =
     slice-read-add
     add-requires
     slice-write-message
-    sub-subtract-rows
-    part-subtract-rows-start
-    part-subtract-rows-end
-    subtract-rows-requires
+    negate-requires
+    sub-add-rows
+    part-add-rows-start
+    part-add-rows-end
+    add-rows-requires
     same-length
     same-length-2
     returns)

@@ -4,8 +4,9 @@ use native.Mathlib.Omega.{arith}
 use borrow.Author.Needs.{needs}
 use denote.Ref.{now}
 use lib.ListN.{length, take, drop}
+use Rattle.tables.proofs.Parts.{part-length}
 use Rattle.block.specs.Area.{at}
-use Rattle.frame.proofs.Levels.{few, part-length}
+use Rattle.frame.proofs.Levels.{few}
 use Rattle.frame.proofs.guess.is_light.Statement.{statement}
 use Rattle.frame.proofs.guess.is_light.Tie as tie
 

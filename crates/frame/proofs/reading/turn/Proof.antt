@@ -7,9 +7,9 @@ use denote.Ref.{now}
 use lib.ListN.{length}
 use Rattle.code.specs.Windows.{windowLength}
 use Rattle.code.proofs.Numbers.{positive}
+use Rattle.tables.proofs.Parts.{part-length, symbols-part}
 use Rattle.block.specs.Area.{Area}
 use Rattle.frame.specs.Frame.{Progress}
-use Rattle.frame.proofs.Levels.{part-length, symbols-part}
 use Rattle.frame.proofs.Turn.{levels-area, levels-few}
 use Rattle.frame.proofs.Guesses.{window-room}
 use Rattle.frame.proofs.Progress.{progress-revised}

@@ -8,8 +8,9 @@ use lib.ListN.{length, take, drop}
 use Rattle.code.specs.Transmission.{view}
 use Rattle.code.specs.Level.{combination}
 use Rattle.code.specs.Settings.{codeOf}
+use Rattle.tables.proofs.Parts.{part-length}
 use Rattle.block.specs.Area.{at}
-use Rattle.frame.proofs.Levels.{rebuilt-sum, rebuilt-none, rebuilt-more, rebuilt-all, part-length, part-distance, few}
+use Rattle.frame.proofs.Levels.{rebuilt-sum, rebuilt-none, rebuilt-more, rebuilt-all, part-distance, few}
 use Rattle.frame.proofs.window.rebuilt_distance.Statement.{statement}
 use Rattle.frame.proofs.window.rebuilt_distance.Tie as tie
 

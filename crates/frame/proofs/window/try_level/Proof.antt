@@ -9,7 +9,8 @@ use Rattle.code.specs.Code.{distancesTo}
 use Rattle.code.specs.Transmission.{view}
 use Rattle.code.specs.Reading.{rebuiltDistance}
 use Rattle.code.proofs.Numbers.{positive}
-use Rattle.frame.proofs.Levels.{part-length, symbols-part, rebuilt-few}
+use Rattle.tables.proofs.Parts.{part-length, symbols-part}
+use Rattle.frame.proofs.Levels.{rebuilt-few}
 use Rattle.frame.proofs.Tried.{step-area, tried-far, tried-refused, tried-serves}
 use Rattle.frame.proofs.window.try_level.Statement.{statement}
 use Rattle.frame.proofs.window.try_level.Tie as tie

@@ -1,14 +1,38 @@
--- A list with another part in the place of k elements from a on (`putMid`, what a lent part leaves in the whole), place by place.
--- Holds: `put-length`, `put-before`, `put-inside`, `put-after`, `put-symbols`.
-use mathlib.Core.Path.{_≡_, sym, ap, subst, _∙_}
+-- A part of a list as it is lent, and the list with another part in its place (`putMid`, what a lent part leaves in the whole), place by place.
+-- Holds: `part-length`, `part-symbol`, `symbols-part`; `put-length`, `put-before`, `put-inside`, `put-after`, `put-symbols`.
+use mathlib.Core.Path.{_≡_, sym, ap, ap₂, subst, _∙_}
 use mathlib.Core.List.{List, _++_}
-use Prim.Native.Nat.{ℕ, _+_, _-_, _≤_, _<_}
+use Prim.Native.Nat.{ℕ, _+_, _-_, _≤_, _<_, min}
 use native.Mathlib.Omega.{arith}
 use native.Mathlib.Decide.{decLt}
-use lib.ListN.{length, getD, take, drop, length-drop, List·getD-append}
+use lib.ListN.{length, getD, take, drop, length-take, length-drop, List·getD-append}
 use lib.Seq.{getD-take, getD-drop, getD-append-add, length-take-le}
 use borrow.Rule.Slice.PartMut.{putMid, same-len-mid}
 use Rattle.field.specs.Symbols.{Symbols}
+use Rattle.code.proofs.Lists.{symbol-below, part-below}
+
+-- The n elements from `start` on, with their number as the code computes it.
+module _ (n start : ℕ) (whole : List ℕ) where
+  pub part-size : start + n - start ≡ n
+  part-size = omega arith
+
+  pub part-length : start + n ≤ length whole → length (take (start + n - start) (drop start whole)) ≡ n
+  part-length h =
+      length-take (start + n - start) (drop start whole) ∙ (ap₂ min part-size (length-drop start whole) ∙ least (length whole - start) (omega arith))
+    where
+      least : (b : ℕ) → n ≤ b → min n b ≡ n
+      least b l = omega arith
+
+  pub part-symbol : (i : ℕ) → i < n → getD (take (start + n - start) (drop start whole)) i 0 ≡ getD whole (start + i) 0
+  part-symbol i l =
+      let below : i < start + n - start = omega arith in
+      getD-take (start + n - start) (drop start whole) i 0 below ∙ getD-drop start whole i 0
+
+pub symbols-part : (q n start : ℕ) (whole : List ℕ) → Symbols q whole → 0 < q → Symbols q (take (start + n - start) (drop start whole))
+symbols-part q n start whole symbols h =
+    record { below = λ i l. part-below q whole (symbol-below q whole symbols h) h (start + n - start) start i }
+
+-- The whole with another part ys in the place of the k elements from a on.
 
 module _ (a k : ℕ) (xs ys : List ℕ) (room : a + k ≤ length xs) (long : length ys ≡ k) where
   start-long : length (take a xs) ≡ a
