@@ -1,12 +1,12 @@
 -- Lists as blocks: tabulated lists, symbols of a list, equal parts.
--- Holds: `length-tabulate`, `getD-tabulate`, `tabulate-ext`, `view-tabulate`, `symbol-below`, `part-below`, `equal-part`, `part-equal`.
+-- Holds: `length-tabulate`, `getD-tabulate`, `tabulate-ext`, `view-tabulate`, `getD-zeros`, `symbol-below`, `part-below`, `equal-part`, `part-equal`.
 use mathlib.Core.Path.{_≡_, refl, sym, ap, subst, _∙_}
 use mathlib.Core.List.{List, _∷_}
 use Prim.Native.Nat.{ℕ, zero, suc, _+_, _-_, _*_, _/_, _%_, _≤_, _<_}
 use native.Mathlib.Omega.{arith}
 use native.Mathlib.Decide.{decLt}
 use lib.Arith.{digits-div, digits-mod, digits-lt}
-use lib.ListN.{length, getD, take, drop, length-take, List·getD-eq-default}
+use lib.ListN.{length, getD, take, drop, replicate, length-take, length-replicate, getD-replicate, List·getD-eq-default}
 use lib.Seq.{ext-getD, getD-take, getD-drop}
 use Rattle.field.specs.Symbols.{Symbols}
 use Rattle.code.specs.Transmission.{view, tabulate}
@@ -35,6 +35,14 @@ pub view-tabulate : (blocks w : ℕ) (f : ℕ → ℕ → ℕ) (s i : ℕ) → s
 view-tabulate blocks w f s i l h =
     getD-tabulate (blocks * w) (λ a. f (a / w) (a % w)) (s * w + i) 0 (digits-lt l h)
     ∙ ap (λ (t : ℕ). f t ((s * w + i) % w)) (digits-div s h) ∙ ap (f s) (digits-mod s h)
+
+-- Zeros hold zero at any place, and past their end.
+pub getD-zeros : (n i : ℕ) → _≡_ {A = ℕ} (getD (replicate n 0) i 0) 0
+getD-zeros n i = at (decLt i n)
+  where
+    at : Dec (i < n) → _≡_ {A = ℕ} (getD (replicate n 0) i 0) 0
+    at (yes l) = getD-replicate n i 0 0 l
+    at (no d) = List·getD-eq-default (replicate n 0) 0 (omega (arith, length-replicate {A = ℕ} n 0))
 
 -- What stands at any place of a list of symbols, and past its end, is below q.
 pub symbol-below : (q : ℕ) (l : List ℕ) → Symbols q l → 0 < q → (i : ℕ) → getD l i 0 < q

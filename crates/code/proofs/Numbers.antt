@@ -1,9 +1,9 @@
 -- The bridge for the code: what a setting's definitions give on numbers below q is what the abstract code gives on elements.
--- Holds: `fieldOf`, `rootOf`, `orderAt`, `overField`, `lifted`; `sent-number`, `timesG-number`, `combination-number`, `rowSymbol-number`, `rowSymbol-below`; `byteCost` and its law; `window-cost`.
+-- Holds: `transmission-long`; `fieldOf`, `rootOf`, `orderAt`, `overField`, `lifted`; `sent-number`, `timesG-number`, `combination-number`, `rowSymbol-number`, `rowSymbol-below`; `transmission-view`, `transmission-length`, `sent-below`, `transmission-symbols`; `byteCost` and its law; `window-cost`.
 use mathlib.Core.Path.{_≡_, refl, sym, ap, ap₂, subst, fun-ext, _∙_}
 use mathlib.Core.Bool.{Bool, true, false, not}
 use mathlib.Core.List.{List}
-use Prim.Native.Nat.{ℕ, suc, _+_, _-_, _*_, _/_, _≤_, _<_}
+use Prim.Native.Nat.{ℕ, suc, _+_, _-_, _*_, _/_, _%_, _≤_, _<_}
 use native.Mathlib.Numerals.{add-one}
 use native.Mathlib.Omega.{arith}
 use lib.Arith.{digits-div}
@@ -18,6 +18,7 @@ use Rattle.algebra.proofs.Weights.{total-ext, total-scale, total-blocks}
 use Rattle.algebra.proofs.Naturality.{Homomorphism}
 use Rattle.algebra.proofs.Below.{Below, number, element, number-element, number-injective, fieldBelow, number-keeps, orderBelow, FieldBelow}
 use Rattle.field.specs.Fields.{opsOf, alpha}
+use Rattle.field.specs.Symbols.{Symbols}
 use Rattle.field.proofs.Laws.{lawsOf, orderOf}
 use Rattle.code.specs.declared.Setting.{Setting}
 use Rattle.code.specs.Code.{Code}
@@ -29,8 +30,12 @@ use Rattle.code.specs.Windows.{transmission, windowLength, windowDistanc
 use Rattle.code.proofs.Blocks.{codeOver}
 use Rattle.code.proofs.Certainty.{costTo}
 use Rattle.code.proofs.Naturality.{mapped, rowSymbol-natural, timesG-natural, sentSymbol-natural, combination-natural}
-use Rattle.code.proofs.Lists.{view-tabulate, symbol-below}
+use Rattle.code.proofs.Lists.{length-tabulate, getD-tabulate, view-tabulate, symbol-below}
 use Rattle.code.specs.Settings.{Sound}
+
+pub transmission-long : (p : Setting) (x : List ℕ) → length (transmission p x) ≡ (length x / p .k + p .m) * p .n
+unfolding transmission
+transmission-long p x = length-tabulate ((length x / p .k + p .m) * p .n) (λ s. sentSymbol (codeOf p) (view (p .k) x) (s / p .n) (s % p .n))
 
 module _ (p : Setting) (S : Sound p) where
   pub laws : FieldBelow (p .q) (opsOf (p .q))
@@ -131,6 +136,21 @@ module _ (p : Setting) (S : Sound p) where
   unfolding transmission
   transmission-view T x M s i l h =
       view-tabulate (length x / p .k + p .m) (p .n) (sentSymbol (codeOf p) (view (p .k) x)) s i (subst (λ (t : ℕ). s < t + p .m) (sym (message-blocks T x M)) l) h
+
+  pub transmission-length : (T : ℕ) (x : List ℕ) → Message p T x → length (transmission p x) ≡ (T + p .m) * p .n
+  transmission-length T x M = transmission-long p x ∙ ap (λ (t : ℕ). (t + p .m) * p .n) (message-blocks T x M)
+
+  pub sent-below : (u : ℕ → ℕ → ℕ) → ((s r : ℕ) → u s r < p .q) → (s i : ℕ) → sentSymbol (codeOf p) u s i < p .q
+  sent-below u below s i = subst (λ (t : ℕ). t < p .q) (sent-number u below s i) (sentSymbol overField (lifted u) s i .1)
+
+  pub transmission-symbols : (T : ℕ) (x : List ℕ) → Message p T x → Symbols (p .q) (transmission p x)
+  unfolding transmission
+  transmission-symbols T x M =
+      record {
+        below = λ i l. subst (λ (t : ℕ). t < p .q)
+            (sym (getD-tabulate ((length x / p .k + p .m) * p .n) _ i 0 (omega (arith, transmission-long p x))))
+            (sent-below (view (p .k) x) (message-below T x M) (i / p .n) (i % p .n));
+      }
 
   -- Twice the differences in a window are its cost.
   pub window-cost : (T : ℕ) (w x : List ℕ) → Message p T x → (j : ℕ) → j < T

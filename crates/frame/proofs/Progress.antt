@@ -6,7 +6,7 @@ use Prim.Native.Nat.{ℕ, _+_, _-_, _*_, _/_, _≤_, _<_}
 use native.Mathlib.Nat.{mul-le-mul-right}
 use native.Mathlib.Omega.{arith}
 use native.Mathlib.Decide.{decLt}
-use lib.ListN.{length, getD, replicate, length-replicate, getD-replicate, List·getD-eq-default}
+use lib.ListN.{length, getD, replicate, length-replicate}
 use Rattle.algebra.specs.Ops.{sub}
 use Rattle.field.specs.Fields.{opsOf}
 use Rattle.field.specs.Symbols.{Symbols}
@@ -15,7 +15,7 @@ use Rattle.code.specs.Code.{distancesTo}
 use Rattle.code.specs.Settings.{Sound}
 use Rattle.code.specs.Windows.{transmission, windowDistance, Fits}
 use Rattle.code.specs.Reading.{Below}
-use Rattle.code.proofs.Lists.{symbol-below}
+use Rattle.code.proofs.Lists.{getD-zeros, symbol-below}
 use Rattle.code.proofs.Numbers.{positive}
 use Rattle.code.proofs.Messages.{distances-positive}
 use Rattle.code.proofs.Residuals.{ahead, ahead-below, add-back, residual-window}
@@ -41,12 +41,8 @@ module _ (p : Setting) (S : Sound p) (T : ℕ) (reception : List ℕ) (R : Symbo
         begins = λ x f i l. absurd (omega arith);
       }
     where
-      at : (i : ℕ) → Dec (i < T * p .k) → _≡_ {A = ℕ} (getD (replicate (T * p .k) 0) i 0) 0
-      at i (yes l) = getD-replicate (T * p .k) i 0 0 l
-      at i (no d) = List·getD-eq-default (replicate (T * p .k) 0) 0 (omega (arith, length-replicate {A = ℕ} (T * p .k) 0))
-
       zeros : (i : ℕ) → getD message i 0 ≡ 0
-      zeros i = ap (λ (l : List ℕ). getD l i 0) e ∙ at i (decLt i (T * p .k))
+      zeros i = ap (λ (l : List ℕ). getD l i 0) e ∙ getD-zeros (T * p .k) i
 
   module _ (j : ℕ) (message left : List ℕ) (P : Progress p T reception j message left) where
     found-below : (i : ℕ) → getD message i 0 < p .q

@@ -18,9 +18,8 @@ use Rattle.code.specs.declared.Setting.{Setting}
 use Rattle.field.specs.Tables.{Lent}
 use Rattle.code.specs.Settings.{isSetting, settingOf, Sound}
 use Rattle.code.specs.Windows.{transmission, Fits}
-use Rattle.code.proofs.Lists.{length-tabulate}
 use Rattle.code.proofs.Settings.{soundOf}
-use Rattle.code.proofs.Numbers.{message-blocks}
+use Rattle.code.proofs.Numbers.{transmission-length}
 use Rattle.tables.specs.Tables.{RowsOf, Ready}
 use Rattle.tables.proofs.Small.{Sizes, smallOf, sizesOf}
 use Rattle.frame.specs.Frame.{FrameRead, fits, none}
@@ -52,11 +51,6 @@ module _ (q : ℕ) (reception before : List ℕ) where
           ∙ ap (λ (t : ℕ). sub (opsOf q) (getD reception t 0) (getD before t 0)) (sym s)
       at a (no d) h = getD-set-other after i a v 0 d ∙ R .inside a (omega arith)
 
-length-transmission : (p : Setting) → Sound p → (T : ℕ) (reception x : List ℕ) → Fits p T reception x → length (transmission p x) ≡ (T + p .m) * p .n
-unfolding transmission
-length-transmission p S T reception x F =
-    length-tabulate ((length x / p .k + p .m) * p .n) _ ∙ ap (λ (t : ℕ). (t + p .m) * p .n) (message-blocks p S T x (F .message-of))
-
 absurd-bool : false ≡ true → ⊥
 absurd-bool e = subst (λ (b : Bool). T (not b)) e tt
 
@@ -84,7 +78,7 @@ module _ (p : Setting) (T : ℕ) (reception message left : List ℕ) where
       frame-found F
       (ap (answer 0 0) (counted ∙ (ap (λ (t : ℕ). countOf t (λ i. not (eqb (getD left i 0) 0))) (same ∙ long)
       ∙ sym (left-altered p S T reception message left R (F .message-of) residual))))
-      (ext-getD 0 restored (transmission p message) (back .long ∙ (same ∙ (long ∙ sym (length-transmission p S T reception message F))))
+      (ext-getD 0 restored (transmission p message) (back .long ∙ (same ∙ (long ∙ sym (transmission-length p S T message (F .message-of)))))
       (λ i l. back .inside i (omega (arith, back .long)) ∙ left-back p S T reception message left R (F .message-of) residual i (omega (arith, back .long, same, long))))
 
 -- What the functions of a setting are lent.

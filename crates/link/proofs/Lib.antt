@@ -1,7 +1,6 @@
 -- What the proofs of the public calls share.
 pub mod Answers
-pub mod Sums
-pub mod Written
+pub mod Sending
 pub mod Encoding
 pub mod Bits
 pub mod Windows

@@ -16,8 +16,7 @@ use Rattle.code.specs.declared.Setting.{Setting}
 use Rattle.code.specs.Transmission.{view, sentSymbol}
 use Rattle.code.specs.Settings.{settingOf, codeOf, Sound}
 use Rattle.code.specs.Windows.{transmission, altered, Fits}
-use Rattle.code.proofs.Lists.{length-tabulate}
-use Rattle.code.proofs.Numbers.{message-blocks}
+use Rattle.code.proofs.Numbers.{transmission-long, transmission-length}
 use Rattle.code.proofs.Settings.{soundOf}
 use Rattle.code.proofs.Demand3.{at-most-one-fits}
 use Rattle.code.proofs.Search.{fitsTest, fits-of-test, noneFits, no-message-fits}
@@ -153,10 +152,6 @@ begun : (front other before after : List ℕ) (a : ℕ) → after ≡ other ++ d
 begun front other before after a e same long =
     e ∙ (ap (λ (l : List ℕ). l ++ drop a before) (sym same) ∙ ap (λ (t : ℕ). front ++ drop t before) (sym long))
 
-transmission-length : (p : Setting) (message : List ℕ) → length (transmission p message) ≡ (length message / p .k + p .m) * p .n
-unfolding transmission
-transmission-length p message = length-tabulate ((length message / p .k + p .m) * p .n) (λ s. sentSymbol (codeOf p) (view (p .k) message) (s / p .n) (s % p .n))
-
 zeros-long : (n : ℕ) (l : List ℕ) → l ≡ replicate n 0 → length l ≡ n
 zeros-long n l e = ap length e ∙ length-replicate n 0
 
@@ -165,7 +160,7 @@ encoding-order : (o : Order) → Passes (encodingTest o) → Promised encoding o
 unfolding encodingTest
 encoding-order o t before after r room E = (
   same-answer (E .answered ∙ clear) zero-number zero-place zero-count,
-  begun (o .sent) (transmission p (o .given)) before after ((length (o .given) / p .k + p .m) * p .n) written sent-is (ap length sent-is ∙ transmission-length p (o .given)),
+  begun (o .sent) (transmission p (o .given)) before after ((length (o .given) / p .k + p .m) * p .n) written sent-is (ap length sent-is ∙ transmission-long p (o .given)),
 )
   where
     p : Setting
@@ -244,8 +239,7 @@ module _ (o : Order) (asked : firstNo (decodingQuestions (o .setting) (o .given)
 
       sent-long : length (o .sent) ≡ (blocks o + p .m) * p .n
       sent-long =
-          ap length sent-is
-          ∙ (transmission-length p (o .message) ∙ ap (λ (T : ℕ). (T + p .m) * p .n) (message-blocks p sound (blocks o) (o .message) (fits .message-of)))
+          ap length sent-is ∙ transmission-length p sound (blocks o) (o .message) (fits .message-of)
 
       at : Decoded (o .setting) (o .given) message sent r message' sent'
           → (r ≡ answer (o .number) (o .place) (o .count)) × Begun (o .message) message message' × Begun (o .sent) sent sent'

@@ -1,10 +1,13 @@
--- What the encoder's inner functions require of each other. Holds: `Sending`, `Part`.
+-- What the encoder's inner functions require of each other. Holds: `Sending`, `SentTo`.
 use mathlib.Core.Path.{_≡_}
 use mathlib.Core.List.{List}
-use Prim.Native.Nat.{ℕ, _+_, _-_, _≤_, _<_, min}
+use Prim.Native.Nat.{ℕ, _≤_, _<_}
+use lib.ListN.{getD}
 use Rattle.code.specs.declared.Setting.{Setting}
-use Rattle.code.specs.Windows.{Message}
+use Rattle.code.specs.Windows.{transmission, Message}
+use Rattle.code.specs.Reading.{Residual}
 use Rattle.tables.specs.Tables.{Ready}
+use Rattle.frame.specs.Frame.{Areas}
 
 -- A message of T blocks, and the tables of its setting.
 pub record Sending (p : Setting) (products : List (List ℕ)) (rows message : List ℕ) (T : ℕ) : Type 0 where
@@ -12,8 +15,10 @@ pub record Sending (p : Setting) (products : List (List ℕ)) (rows message : Li
   pub message-of : Message p T message
   pub most : T ≤ 512
 
--- The j that contribute to sent block s: information block s-j is one of 0 .. T-1 for start ≤ j < end.
-pub record Part (p : Setting) (T s start end : ℕ) : Type 0 where
-  pub block : s < T + p .m
-  pub start-is : start ≡ s + 1 - T
-  pub end-is : end ≡ min (s + 1) (p .m + 1)
+-- The message's first `count` symbols were sent: the area holds its transmission less that of the rest, the message with zeros in their places.
+pub record SentTo (p : Setting) (T : ℕ) (message : List ℕ) (count : ℕ) (area : List ℕ) : Type 0 where
+  pub rest : List ℕ
+  pub areas : Areas p T rest area
+  pub sent : (i : ℕ) → i < count → getD rest i 0 ≡ 0
+  pub unsent : (i : ℕ) → count ≤ i → getD rest i 0 ≡ getD message i 0
+  pub residual : Residual p T (transmission p message) rest area

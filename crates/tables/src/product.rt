@@ -70,15 +70,7 @@ pub fn combination(
 }
 
 // Adds v × row r of G_j to a block.
-fn add_row(
-    p: Setting,
-    products: &Tables,
-    rows: &Rows,
-    r: usize,
-    v: u8,
-    j: usize,
-    block: &mut [u8],
-)
+fn add_row(p: Setting, products: &Tables, rows: &Rows, r: usize, v: u8, j: usize, block: &mut [u8])
     requires { ⌜ Ready p (now products) (now rows) × (r < p .k) × (v < p .q) × (j ≤ p .m) × (length (now block) ≡ p .n) × Symbols (p .q) (now block) ⌝ }
     ensures { λ _. ⌜ RowAdded p r v j (p .n) (now (block .entry)) (now (block .exit)) ⌝ }
 {

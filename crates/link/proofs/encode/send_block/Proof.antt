@@ -1,75 +1,115 @@
--- `link::encode::send_block`: the symbols of the block, one after the other.
-use mathlib.Core.Path.{_≡_, sym, subst, _∙_}
-use Prim.Native.Nat.{ℕ, _-_, _≤_, _<_}
+-- `link::encode::send_block`: the symbols of block i before symbol r were sent.
+use mathlib.Core.Path.{_≡_, refl, sym, ap, subst, _∙_}
+use Prim.Native.Nat.{ℕ, _+_, _-_, _*_, _≤_, _<_}
+use native.Mathlib.Nat.{mul-le-mul-right}
 use native.Mathlib.Omega.{arith}
 use denote.Ref.{now}
-use Rattle.code.specs.Transmission.{view, sentSymbol}
-use Rattle.code.specs.Settings.{codeOf}
-use Rattle.link.proofs.Written.{Written, written-none, written-more, written-all}
+use lib.ListN.{length}
+use Rattle.code.specs.Windows.{windowLength}
+use Rattle.code.proofs.Numbers.{positive, message-below}
+use Rattle.tables.proofs.Parts.{part-length, symbols-part}
+use Rattle.frame.proofs.Guesses.{window-room}
+use Rattle.link.specs.Sending.{SentTo}
+use Rattle.link.proofs.Sending.{sent-more}
 use Rattle.link.proofs.encode.send_block.Statement.{statement}
 use Rattle.link.proofs.encode.send_block.Tie as tie
 
 abbrev Inv-loop : tie.InvT-loop
-Inv-loop p products rows message blocks s block₀ start end i₀ block i =
-    (i ≤ p .n) × Written (sentSymbol (codeOf p) (view (p .k) message) s) (p .n) i block
+Inv-loop p products rows message blocks i area₀ k n first start end r₀ area r = (r ≤ p .k) × SentTo p blocks message (i * p .k + r) area
 
 abbrev μ-loop : tie.MeasureT-loop
-μ-loop p products rows message blocks s block₀ start end i₀ block i = p .n - i
+μ-loop p products rows message blocks i area₀ k n first start end r₀ area r = p .k - r
 
-start-of-requires : tie.Need-start-of-requires Inv-loop μ-loop
-start-of-requires c κs =
-    let entry = c .before .before in
-    omega (arith, entry .pre .0 .most, entry .pre .1, entry .pre .0 .ready .small .memory)
+-- Block i lies within the message, and its window within the area.
+block : (c : tie.Start Inv-loop μ-loop) → c .args .i * c .args .p .k + c .args .p .k ≤ length (now (c .args .message))
+block c =
+    let next : c .args .i + 1 ≤ c .args .blocks = omega (arith, c .pre .1) in
+    omega (arith, mul-le-mul-right (c .args .p .k) next, c .pre .0 .message-of .long)
 
-end-of-requires : tie.Need-end-of-requires Inv-loop μ-loop
-end-of-requires c κs =
-    let entry = c .before .before .before in
-    (omega (arith, entry .pre .0 .most, entry .pre .1, entry .pre .0 .ready .small .memory), omega (arith, entry .pre .0 .ready .small .memory))
+window : (c : tie.Start Inv-loop μ-loop) → c .args .i * c .args .p .n + windowLength (c .args .p) ≤ length (now (c .args .area))
+window c = window-room (c .args .p) (c .args .blocks) (c .args .i) (c .pre .2 .rest) (now (c .args .area)) (c .pre .2 .areas) (c .pre .1)
+
+mul-first : tie.Need-mul-first Inv-loop μ-loop
+mul-first c = omega (arith, block (c .before .before))
+
+mul-start : tie.Need-mul-start Inv-loop μ-loop
+mul-start c = omega (arith, window (c .before .before))
+
+add-end : tie.Need-add-end Inv-loop μ-loop
+add-end c = omega (arith, c .before .before .before .pre .0 .ready .small .memory)
+
+mul-end : tie.Need-mul-end Inv-loop μ-loop
+mul-end c = omega (arith, window (c .before .before .before))
+
+add-end-2 : tie.Need-add-end-2 Inv-loop μ-loop
+add-end-2 c = omega (arith, window (c .before .before .before))
 
 loop-holds : tie.Need-loop-holds Inv-loop μ-loop
 loop-holds c =
-    let entry = c .before .before .before .before in
-    (omega arith, written-none (sentSymbol (codeOf (entry .args .p)) (view (entry .args .p .k) (now (entry .args .message))) (entry .args .s)) (entry .args .p .n) (now (entry .args .block)) (entry .pre .2))
+    let a = c .before .before .before .args in
+    let begin : a .i * a .p .k ≡ a .i * a .p .k + 0 = omega arith in
+    (omega arith, subst (λ (t : ℕ). SentTo (a .p) (a .blocks) (now (a .message)) t (now (a .area))) begin (c .before .before .before .pre .2))
 
--- The place is in the block.
-inside : (c : tie.In-loop Inv-loop μ-loop) → c .before .loop .i < c .before .before .before .before .before .before .args .p .n
-inside c = subst (λ (t : ℕ). c .before .loop .i < t) (c .before .loop .inv .1 .long) (c .loop-test .taken)
+add-symbol : tie.Need-add-symbol Inv-loop μ-loop
+add-symbol c = omega (arith, block (c .before .before .before .before .before))
 
-sent-symbol-requires : tie.Need-sent-symbol-requires Inv-loop μ-loop
-sent-symbol-requires c κs =
-    let entry = c .before .before .before .before .before .before in (
-      entry .pre .0,
-      record { block = entry .pre .1; start-is = c .before .before .before .start-of .ensures; end-is = c .before .before .end-of .ensures },
-      inside c,
+shared-slice-read-symbol : tie.Need-shared-slice-read-symbol Inv-loop μ-loop
+shared-slice-read-symbol c = omega (arith, block (c .before .before .before .before .before .before))
+
+-- The window lies within the area in every turn.
+room : (c : tie.After-shared-slice-known2 Inv-loop μ-loop)
+    → c .before .before .before .before .before .before .args .i * c .before .before .before .before .before .before .args .p .n + windowLength (c .before .before .before .before .before .before .args .p) ≤ length (c .before .before .loop .area)
+room c =
+    let a = c .before .before .before .before .before .before .args in
+    let l = c .before .before .loop in
+    window-room (a .p) (a .blocks) (a .i) (l .inv .1 .rest) (l .area) (l .inv .1 .areas) (c .before .before .before .before .before .before .pre .1)
+
+sub-add-rows : tie.Need-sub-add-rows Inv-loop μ-loop
+sub-add-rows c = omega arith
+
+part-add-rows-start : tie.Need-part-add-rows-start Inv-loop μ-loop
+part-add-rows-start c = omega arith
+
+part-add-rows-end : tie.Need-part-add-rows-end Inv-loop μ-loop
+part-add-rows-end c = room c
+
+add-rows-requires : tie.Need-add-rows-requires Inv-loop μ-loop
+add-rows-requires c κs =
+    let entry = c .before .before .before .before .before .before .before in
+    let a = entry .args in
+    let l = c .before .before .before .loop in
+    let sound = entry .pre .0 .ready .sound in (
+      entry .pre .0 .ready,
+      c .before .before .loop-test .taken,
+      message-below (a .p) sound (a .blocks) (now (a .message)) (entry .pre .0 .message-of) (a .i) (l .r),
+      part-length (windowLength (a .p)) (a .i * a .p .n) (l .area) (room (c .before)),
+      symbols-part (a .p .q) (windowLength (a .p)) (a .i * a .p .n) (l .area) (l .inv .1 .areas .left-symbols) (positive (a .p) sound),
     )
 
-slice-write-block : tie.Need-slice-write-block Inv-loop μ-loop
-slice-write-block c = c .before .loop-test .taken
-
-add-i : tie.Need-add-i Inv-loop μ-loop
-add-i c = omega (arith, c .before .loop-test .taken)
+add-r : tie.Need-add-r Inv-loop μ-loop
+add-r c = omega (arith, c .before .before .before .before .before .before .before .before .before .before .pre .0 .ready .small .information)
 
 loop-less : tie.Need-loop-less Inv-loop μ-loop
-loop-less c = omega (arith, inside (c .before))
+loop-less c = omega arith
 
 loop-again : tie.Need-loop-again Inv-loop μ-loop
 loop-again c =
-    let entry = c .before .before .before .before .before .before .before in (
-      omega (arith, inside (c .before)),
-      written-more (sentSymbol (codeOf (entry .args .p)) (view (entry .args .p .k) (now (entry .args .message))) (entry .args .s)) (entry .args .p .n)
-          (c .before .before .loop .i) (c .before .before .loop .block) (c .sent-symbol .result) (inside (c .before)) (c .sent-symbol .ensures .same) (c .before .before .loop .inv .1),
+    let entry = c .before .before .before .before .before .before .before .before .before .before in
+    let a = entry .args in
+    let l = c .before .before .before .before .before .before .loop in (
+      omega arith,
+      sent-more (a .p) (entry .pre .0 .ready .sound) (a .blocks) (now (a .message)) (entry .pre .0 .message-of) (a .i) (l .r) _ (l .area)
+          (c .before .before .add-rows .last .1 .1 .1 .1 .1 .0) (entry .pre .1) (c .before .before .before .before .before .loop-test .taken) refl (l .inv .1) (c .before .before .add-rows .ensures),
     )
 
 same-length : tie.Need-same-length Inv-loop μ-loop
-same-length c = c .before .loop .inv .1 .long ∙ sym (c .before .before .before .before .before .before .pre .2)
+same-length c = c .before .loop .inv .1 .areas .left-long ∙ sym (c .before .before .before .before .before .pre .2 .areas .left-long)
 
 returns : tie.Need-returns Inv-loop μ-loop
 returns c =
-    let entry = c .before .before .before .before .before .before in
-    let all : c .before .loop .i ≡ entry .args .p .n = omega (arith, c .before .loop .inv .1 .long) in
-    written-all (sentSymbol (codeOf (entry .args .p)) (view (entry .args .p .k) (now (entry .args .message))) (entry .args .s)) (entry .args .p .n) (c .before .loop .block)
-    (subst (λ (t : ℕ). Written (sentSymbol (codeOf (entry .args .p)) (view (entry .args .p .k) (now (entry .args .message))) (entry .args .s)) (entry .args .p .n) t (c .before .loop .block)) all
-    (c .before .loop .inv .1))
+    let a = c .before .before .before .before .before .args in
+    let all : c .before .loop .r ≡ a .p .k = omega arith in
+    subst (λ (t : ℕ). SentTo (a .p) (a .blocks) (now (a .message)) (a .i * a .p .k + t) (c .before .loop .area)) all (c .before .loop .inv .1)
 
 pub send-block-spec : {M : Type 1} → statement M
 send-block-spec =
@@ -77,12 +117,19 @@ send-block-spec =
     (tie.spec
     Inv-loop
     μ-loop
-    start-of-requires
-    end-of-requires
+    mul-first
+    mul-start
+    add-end
+    mul-end
+    add-end-2
     loop-holds
-    sent-symbol-requires
-    slice-write-block
-    add-i
+    add-symbol
+    shared-slice-read-symbol
+    sub-add-rows
+    part-add-rows-start
+    part-add-rows-end
+    add-rows-requires
+    add-r
     loop-less
     loop-again
     same-length
