@@ -30,7 +30,7 @@ fn times_row(
     values: &Series,
     from: usize,
 ) -> u8
-    requires { ⌜ Good q × Lent (now products) × (k * k ≤ matrixCapacity) × AllBelow q (now matrix) × (a < k) × Area q (now values) × (from + k ≤ capacity) ⌝ }
+    requires { ⌜ Good q × Lent q (now products) × (k * k ≤ matrixCapacity) × AllBelow q (now matrix) × (a < k) × Area q (now values) × (from + k ≤ capacity) ⌝ }
     ensures { λ r. ⌜ Is q r (sum (opsOf q) k (λ e. opsOf q .mul (at (now (matrix .entry)) (a * k + e)) (at (now (values .entry)) (from + e)))) ⌝ }
 {
     let mut sum: u8 = 0;
@@ -51,7 +51,7 @@ pub fn read(
     matrix: &Matrix,
     values: &Series,
 ) -> Series
-    requires { ⌜ Good q × Lent (now products) × (0 < k) × (k * k ≤ matrixCapacity) × (blocks * k ≤ capacity) × AllBelow q (now matrix) × Area q (now values) ⌝ }
+    requires { ⌜ Good q × Lent q (now products) × (0 < k) × (k * k ≤ matrixCapacity) × (blocks * k ≤ capacity) × AllBelow q (now matrix) × Area q (now values) ⌝ }
     ensures { λ r. ⌜ Read q k blocks (now (matrix .entry)) (now (values .entry)) r ⌝ }
 {
     let mut information = [0u8; CAPACITY];

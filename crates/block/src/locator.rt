@@ -29,7 +29,7 @@ pub fn tail(
     series: &Series,
     j: usize,
 ) -> u8
-    requires { ⌜ Good q × Lent (now products) × Area q (now locator) × Area q (now series) × (length ≤ j) × (j < capacity) ⌝ }
+    requires { ⌜ Good q × Lent q (now products) × Area q (now locator) × Area q (now series) × (length ≤ j) × (j < capacity) ⌝ }
     ensures { λ r. ⌜ Is q r (tailOf (opsOf q) length (at (now (locator .entry))) (at (now (series .entry))) j) ⌝ }
 {
     let mut sum: u8 = 0;
@@ -52,7 +52,7 @@ fn subtract_multiple(
     source: &Series,
     target: &mut Series,
 )
-    requires { ⌜ Good q × Lent (now products) × (factor < q) × Area q (now source) × Area q (now target) × (shift + count ≤ capacity) ⌝ }
+    requires { ⌜ Good q × Lent q (now products) × (factor < q) × Area q (now source) × Area q (now target) × (shift + count ≤ capacity) ⌝ }
     ensures { λ r. ⌜ Multiple q factor shift count (now (source .entry)) (now (target .entry)) (now (target .exit)) ⌝ }
 {
     let mut i: usize = 0;
@@ -74,7 +74,7 @@ fn advance(
     locator: &mut Series,
     former: &mut Series,
 ) -> Progress
-    requires { ⌜ Good q × Lent (now products) × Area q (now series) × (0 < next) × (next < capacity) × Placed q (now series) (next - 1) (progress .length) (progress .place) (progress .scale) (now locator) (now former) ⌝ }
+    requires { ⌜ Good q × Lent q (now products) × Area q (now series) × (0 < next) × (next < capacity) × Placed q (now series) (next - 1) (progress .length) (progress .place) (progress .scale) (now locator) (now former) ⌝ }
     ensures { λ r. ⌜ Placed q (now (series .entry)) next (r .length) (r .place) (r .scale) (now (locator .exit)) (now (former .exit)) ⌝ }
 {
     let length = progress.length;
@@ -118,7 +118,7 @@ pub fn locate(
     known: usize,
     locator: &mut Series,
 ) -> usize
-    requires { ⌜ Good q × Lent (now products) × Area q (now series) × (at (now series) 0 ≡ 1) × (0 < known) × (known ≤ capacity) ⌝ }
+    requires { ⌜ Good q × Lent q (now products) × Area q (now series) × (at (now series) 0 ≡ 1) × (0 < known) × (known ≤ capacity) ⌝ }
     ensures { λ length. ⌜ Found q (now (series .entry)) known length (now (locator .exit)) ⌝ }
 {
     let mut former = unit();

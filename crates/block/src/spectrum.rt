@@ -20,7 +20,7 @@ pub fn add_values(
     start: u8,
     series: &mut Series,
 ) -> u8
-    requires { ⌜ Good q × Lent (now products) × Symbols q (now block) × (from ≤ to) × (to < capacity) × Is q start (power (opsOf q) alpha from) × SpectrumOf q (now block) from (now series) ⌝ }
+    requires { ⌜ Good q × Lent q (now products) × Symbols q (now block) × (from ≤ to) × (to < capacity) × Is q start (power (opsOf q) alpha from) × SpectrumOf q (now block) from (now series) ⌝ }
     ensures { λ r. ⌜ Is q r (power (opsOf q) alpha to) × SpectrumOf q (now (block .entry)) to (now (series .exit)) ⌝ }
 {
     let mut point = start;
@@ -44,7 +44,7 @@ pub fn extend(
     count: usize,
     series: &mut Series,
 ) -> Series
-    requires { ⌜ Good q × Lent (now products) × Area q (now locator) × Area q (now series) × (length ≤ r) × (r + count < capacity) ⌝ }
+    requires { ⌜ Good q × Lent q (now products) × Area q (now locator) × Area q (now series) × (length ≤ r) × (r + count < capacity) ⌝ }
     ensures { λ values. ⌜ Continued q length r count (now (locator .entry)) (now (series .entry)) (now (series .exit)) values ⌝ }
 {
     let mut values = [0u8; CAPACITY];

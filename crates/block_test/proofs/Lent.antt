@@ -11,8 +11,8 @@ use Rattle.code.proofs.Settings.{soundOf}
 use Rattle.tables.specs.Tables.{Ready, RowsOf}
 use Rattle.tables.proofs.Small.{smallOf}
 
-pub ready : (s : ℕ) (p : Setting) (products : List (List ℕ)) (rows : List ℕ) → T (isSetting s) → p ≡ settingOf s → Lent products → RowsOf (settingOf s) rows
+pub ready : (s : ℕ) (p : Setting) (products : List (List ℕ)) (rows : List ℕ) → T (isSetting s) → p ≡ settingOf s → Lent (p .q) products → RowsOf (settingOf s) rows
     → Ready p products rows
 ready s p products rows t e lent rowsOf =
     subst (λ (x : Setting). Ready x products rows) (sym e)
-    (record { sound = soundOf s t; small = smallOf s t; products = lent; rows = rowsOf })
+    (record { sound = soundOf s t; small = smallOf s t; products = subst (λ (x : Setting). Lent (x .q) products) e lent; rows = rowsOf })

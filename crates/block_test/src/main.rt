@@ -170,7 +170,7 @@ fn level(number: u32, l: usize, distance: usize, count: usize, stride: usize, en
     requires { ⌜ T (isSetting number) × (l ≤ settingOf number .m) × (0 < stride) × (stride ≤ 4194304) × (end ≤ 4194304) ⌝ }
 {
     let p = tables::setting(number);
-    let products = field::tables();
+    let products = field::tables(p.q);
     let rows = tables::rows(number);
     let matrix = tables::matrix(number);
     print(number as usize, b' ');

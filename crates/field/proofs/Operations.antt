@@ -1,10 +1,10 @@
 -- What the code returns in each branch is the symbol that the field's operation gives.
--- Holds: `sum-modulo`, `sum-modulo-less`, `sum-xor`; `negative-modulo`, `negative-of-zero`, `negative-same`; `product-modulo`,
--- `product-listed`; `is-inverse`; `good-small`, q is at most 256; `lent-by-test`, the table's rule over all pairs by one computed test.
+-- Holds: `sum-modulo`, `sum-modulo-less`, `sum-xor`; `negative-modulo`, `negative-of-zero`, `negative-same`;
+-- `product-listed`; `is-inverse`; `good-small`, q is at most 256; `good-listed`, q is at most 8; `eight-else`, q is 8 where it is not 5; `lent-by-test`, a
+-- table's rule over all pairs by one computed test.
 use mathlib.Core.Path.{_≡_, refl, sym, ap, _∙_, subst}
 use mathlib.Core.List.{List, []}
-use Prim.Native.Nat.{ℕ, _+_, _-_, _*_, _%_, _<_, _≤_}
-use native.Mathlib.Nat.{mul-le-mul}
+use Prim.Native.Nat.{ℕ, _+_, _-_, _%_, _<_, _≤_}
 use native.Mathlib.Omega.{arith}
 use lib.Bits.{bitXor}
 use lib.Dec.{T, eqb, lit≤}
@@ -28,10 +28,6 @@ module _ (q : ℕ) (e : q ≡ 5) where
   unfolding opsOf five modular
   neg-modulo a = rw e
 
-  mul-modulo : (a b : ℕ) → opsOf q .mul a b ≡ a * b % 5
-  unfolding opsOf five modular
-  mul-modulo a b = rw e
-
 -- The operations with any other number of elements.
 add-xor : (q a b : ℕ) → Good q → (q ≡ 5 → ⊥) → opsOf q .add a b ≡ bitXor a b
 unfolding opsOf eight binary
@@ -43,7 +39,7 @@ unfolding opsOf eight binary
 neg-same q a five-elements other = absurd (other refl)
 neg-same q a eight-elements other = refl
 
-eight-else : (q : ℕ) → Good q → (q ≡ 5 → ⊥) → q ≡ 8
+pub eight-else : (q : ℕ) → Good q → (q ≡ 5 → ⊥) → q ≡ 8
 eight-else q five-elements other = absurd (other refl)
 eight-else q eight-elements other = refl
 
@@ -51,6 +47,11 @@ eight-else q eight-elements other = refl
 pub good-small : (q : ℕ) → Good q → q ≤ 256
 good-small q five-elements = lit≤ tt
 good-small q eight-elements = lit≤ tt
+
+-- Every symbol is the number of a row of the table, and of a place in it.
+pub good-listed : (q : ℕ) → Good q → q ≤ 8
+good-listed q five-elements = lit≤ tt
+good-listed q eight-elements = lit≤ tt
 
 symbol : (q r v : ℕ) → r ≡ v → v < q → Is q r v
 symbol q r v e h = record { same = e; below = subst (λ (x : ℕ). x < q) (sym e) h }
@@ -71,24 +72,8 @@ module _ (q a b : ℕ) (good : Good q) (ha : a < q) (hb : b < q) where
   pub sum-modulo-less : q ≡ 5 → 5 ≤ a + b → Is q (a + b - 5) (opsOf q .add a b)
   sum-modulo-less e h = let less : a + b - 5 ≡ (a + b) % 5 = omega arith in is-sum (a + b - 5) (less ∙ sym (add-modulo q e a b))
 
-  pub product-modulo : q ≡ 5 → Is q (a * b % 5) (opsOf q .mul a b)
-  product-modulo e = is-product (a * b % 5) (sym (mul-modulo q e a b))
-
-  pub product-fits : q ≡ 5 → a * b < 256
-  product-fits e = let x : a ≤ 4 = omega arith in let y : b ≤ 4 = omega arith in omega (arith, mul-le-mul x y)
-
-  -- Row and place lie in the table.
-  pub product-row : (q ≡ 5 → ⊥) → a < 8
-  product-row other = omega (arith, eight-else q good other)
-
-  pub product-column : (q ≡ 5 → ⊥) → b < 8
-  product-column other = omega (arith, eight-else q good other)
-
-  pub product-listed : (tables : List (List ℕ)) → Lent tables → (q ≡ 5 → ⊥) → Is q (getD (getD tables a []) b 0) (opsOf q .mul a b)
-  product-listed tables lent other =
-      let e : q ≡ 8 = eight-else q good other in
-      is-product (getD (getD tables a []) b 0)
-      (lent .product a b (omega arith) (omega arith) ∙ ap (λ (k : ℕ). opsOf k .mul a b) (sym e))
+  pub product-listed : (tables : List (List ℕ)) → Lent q tables → Is q (getD (getD tables a []) b 0) (opsOf q .mul a b)
+  product-listed tables lent = is-product (getD (getD tables a []) b 0) (lent .product a b ha hb)
 
 module _ (q a : ℕ) (good : Good q) (ha : a < q) where
   is-negative : (r : ℕ) → r ≡ opsOf q .neg a → Is q r (opsOf q .neg a)
@@ -111,6 +96,6 @@ module _ (q a : ℕ) (good : Good q) (ha : a < q) where
   pub is-inverse : (r : ℕ) → r ≡ opsOf q .inv a → Is q r (opsOf q .inv a)
   is-inverse r e = symbol q r (opsOf q .inv a) e (lawsOf q good .inv-below a ha)
 
--- The table's rule over all pairs, by one computed test.
-pub lent-by-test : (tables : List (List ℕ)) → T (all 8 (λ a. all 8 (λ b. eqb (getD (getD tables a []) b 0) (opsOf 8 .mul a b)))) → Lent tables
-lent-by-test tables t = record { product = same-pairs 8 (λ a b. getD (getD tables a []) b 0) (opsOf 8 .mul) t }
+-- A table's rule over all pairs, by one computed test.
+pub lent-by-test : (q r : ℕ) (tables : List (List ℕ)) → q ≡ r → T (all r (λ a. all r (λ b. eqb (getD (getD tables a []) b 0) (opsOf r .mul a b)))) → Lent q tables
+lent-by-test q r tables e t = rw e (record { product = same-pairs r (λ a b. getD (getD tables a []) b 0) (opsOf r .mul) t })

@@ -1,5 +1,5 @@
 // The fields of 01 with q elements, q chosen at run time: five or eight. A symbol is a `u8` below q.
-// Products of the eight-element field are read from a table that the outermost call makes once and lends down.
+// Products are read from the field's table, which the outermost call makes once and lends down.
 ghost use mathlib.Core.Path.{_≡_};
 ghost use Prim.Native.Nat.{_<_};
 ghost use Rattle.algebra.specs.Ops.{sub};
@@ -8,9 +8,22 @@ ghost use Rattle.field.specs.Fields.{Good, opsOf};
 ghost use Rattle.field.specs.Symbols.{Symbols, Is};
 ghost use Rattle.field.specs.Tables.{Lent};
 
-// The products of the eight-element field: a × b in row a, place b.
+// The products of a field, with room for the larger: a × b in row a, place b.
 pub type Tables = [[u8; 8]; 8];
 
+// Those of the five-element field. Past its five rows and columns stand zeros, which nothing reads.
+const PRODUCTS_5: Tables = [
+    [0, 0, 0, 0, 0, 0, 0, 0],
+    [0, 1, 2, 3, 4, 0, 0, 0],
+    [0, 2, 4, 1, 3, 0, 0, 0],
+    [0, 3, 1, 4, 2, 0, 0, 0],
+    [0, 4, 3, 2, 1, 0, 0, 0],
+    [0, 0, 0, 0, 0, 0, 0, 0],
+    [0, 0, 0, 0, 0, 0, 0, 0],
+    [0, 0, 0, 0, 0, 0, 0, 0],
+];
+
+// The sixty-four products of the eight-element field.
 const PRODUCTS: Tables = [
     [0, 0, 0, 0, 0, 0, 0, 0],
     [0, 1, 2, 3, 4, 5, 6, 7],
@@ -22,9 +35,14 @@ const PRODUCTS: Tables = [
     [0, 7, 5, 2, 1, 6, 4, 3],
 ];
 
-pub fn tables() -> Tables
-    ensures { λ r. ⌜ Lent r ⌝ }
+// The table of the field with q elements.
+pub fn tables(q: usize) -> Tables
+    requires { ⌜ Good q ⌝ }
+    ensures { λ r. ⌜ Lent q r ⌝ }
 {
+    if q == 5 {
+        return PRODUCTS_5;
+    }
     PRODUCTS
 }
 
@@ -62,18 +80,15 @@ pub fn subtract(q: usize, a: u8, b: u8) -> u8
 
 // a × b
 pub fn multiply(q: usize, tables: &Tables, a: u8, b: u8) -> u8
-    requires { ⌜ Good q × Lent (now tables) × (a < q) × (b < q) ⌝ }
+    requires { ⌜ Good q × Lent q (now tables) × (a < q) × (b < q) ⌝ }
     ensures { λ r. ⌜ Is q r (opsOf q .mul a b) ⌝ }
 {
-    if q == 5 {
-        return a * b % 5;
-    }
     tables[a as usize][b as usize]
 }
 
 // 1 / a, and 0 for a = 0: the number whose product with a is 1, looked for from q - 1 down.
 pub fn inverse(q: usize, tables: &Tables, a: u8) -> u8
-    requires { ⌜ Good q × Lent (now tables) × (a < q) ⌝ }
+    requires { ⌜ Good q × Lent q (now tables) × (a < q) ⌝ }
     ensures { λ r. ⌜ Is q r (opsOf q .inv a) ⌝ }
 {
     let mut b = q;
@@ -89,7 +104,7 @@ pub fn inverse(q: usize, tables: &Tables, a: u8) -> u8
 
 // a + x × b
 pub fn add_product(q: usize, tables: &Tables, a: u8, x: u8, b: u8) -> u8
-    requires { ⌜ Good q × Lent (now tables) × (a < q) × (x < q) × (b < q) ⌝ }
+    requires { ⌜ Good q × Lent q (now tables) × (a < q) × (x < q) × (b < q) ⌝ }
     ensures { λ r. ⌜ Is q r (opsOf q .add a (opsOf q .mul x b)) ⌝ }
 {
     let product = multiply(q, tables, x, b);
@@ -99,7 +114,7 @@ pub fn add_product(q: usize, tables: &Tables, a: u8, x: u8, b: u8) -> u8
 // The value of the polynomial with the coefficients c, lowest power first, at x: "The value of a polynomial without coefficients is 0;
 // otherwise it is the first coefficient plus the point times the value of the rest."
 pub fn value(q: usize, tables: &Tables, c: &[u8], x: u8) -> u8
-    requires { ⌜ Good q × Lent (now tables) × Symbols q (now c) × (x < q) ⌝ }
+    requires { ⌜ Good q × Lent q (now tables) × Symbols q (now c) × (x < q) ⌝ }
     ensures { λ r. ⌜ Is q r (polynomial.value (opsOf q) (now (c .entry)) x) ⌝ }
 {
     if c.len() == 0 {

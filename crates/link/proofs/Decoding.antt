@@ -83,9 +83,9 @@ module _ (p : Setting) (T : ℕ) (reception message left : List ℕ) where
 
 -- What the functions of a setting are lent.
 pub ready-of : (number : ℕ) (p : Setting) → T (isSetting number) → p ≡ settingOf number → (products : List (List ℕ)) (rows : List ℕ)
-    → Lent products → RowsOf (settingOf number) rows → Ready p products rows
+    → Lent (p .q) products → RowsOf (settingOf number) rows → Ready p products rows
 ready-of number p t e products rows L R =
-    subst (λ (s : Setting). Ready s products rows) (sym e) (record { sound = soundOf number t; small = smallOf number t; products = L; rows = R })
+    subst (λ (s : Setting). Ready s products rows) (sym e) (record { sound = soundOf number t; small = smallOf number t; products = subst (λ (s : Setting). Lent (s .q) products) e L; rows = R })
 
 -- What decoding knows of the setting p in hand and the reception, once questions 1 to 6 got "yes".
 pub record Receiving (p : Setting) (reception : List ℕ) (messageRoom transmissionRoom : ℕ) : Type 0 where

@@ -26,7 +26,7 @@ pub record Sent (p : Setting) (products : List (List ℕ)) (rows message : List 
 
 module _ (number : ℕ) (message before : List ℕ) where
   pub sent-ready : (p : Setting) (products : List (List ℕ)) (rows : List ℕ) → p ≡ settingOf number
-      → firstNo (encodingQuestions number message (length before)) .number ≡ 0 → Lent products → RowsOf (settingOf number) rows
+      → firstNo (encodingQuestions number message (length before)) .number ≡ 0 → Lent (p .q) products → RowsOf (settingOf number) rows
       → Sent p products rows message (length before)
   sent-ready p products rows e asked lent R =
       let known = encoding-yes number message (length before) asked in
@@ -34,7 +34,7 @@ module _ (number : ℕ) (message before : List ℕ) where
       (record {
         sending =
             record {
-              ready = record { sound = soundOf number (known .setting); small = smallOf number (known .setting); products = lent; rows = R };
+              ready = record { sound = soundOf number (known .setting); small = smallOf number (known .setting); products = subst (λ (s : Setting). Lent (s .q) products) e lent; rows = R };
               message-of = known .message-of;
               most = known .most;
             };

@@ -37,7 +37,7 @@ fn decode_frame(
     ensures { λ r. ⌜ FrameDecoded p blocks (now (reception .entry)) r (now (message .exit)) (now (transmission .exit)) ⌝ }
 {
     let q = p.q;
-    let products = field::tables();
+    let products = field::tables(q);
     let rows = tables::rows(setting);
     let matrix = tables::matrix(setting);
     if !frame::reading::read(

@@ -62,7 +62,7 @@ pub fn encode(setting: u32, message: &[u8], transmission: &mut [u8]) -> Answer
     let n = p.n;
     let k = p.k;
     let m = p.m;
-    let products = field::tables();
+    let products = field::tables(p.q);
     let rows = tables::rows(setting);
     let blocks = message.len() / k;
     let long = (blocks + m) * n;

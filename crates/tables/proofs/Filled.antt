@@ -1,18 +1,14 @@
--- A setting's rows, filled from its nested table one symbol after the other.
--- Holds: `entry`, `Filled`, `filled-none`, `filled-more`, `rows-of` (the filled rows are the generator's, for every setting).
+-- A setting's rows, filled from its nested table one row after the other.
+-- Holds: `rowOf`, `entry`, `Filled`, `filled-none`, `filled-more`, `rows-of` (the filled rows are the generator's, for every setting).
 use mathlib.Core.Path.{_≡_, sym, ap, ap₂, subst, _∙_}
-use mathlib.Core.Bool.{Bool}
-use mathlib.Core.List.{List, []}
+use mathlib.Core.List.{List, [], _++_}
 use Prim.Native.Nat.{ℕ, _+_, _-_, _*_, _/_, _%_, _≤_, _<_}
 use native.Mathlib.Nat.{mod-lt, div-lt-iff-lt-mul}
 use native.Mathlib.Omega.{arith}
-use native.Mathlib.Decide.{decLt, ℕ-discrete}
+use native.Mathlib.Decide.{decLt}
 use lib.Arith.{digits-div, digits-mod, digits-lt}
-use lib.Dec.{ltb}
-use lib.ListN.{length, getD, set, replicate, length-set, length-replicate, getD-replicate, List·getD-eq-default}
-use lib.Seq.{getD-set-same, getD-set-other}
-use borrow.Author.Tests.{lt-ltb, le-ltb}
-use Rattle.algebra.specs.Ops.{pick}
+use lib.ListN.{length, getD, take, drop, replicate, length-replicate, getD-replicate, List·getD-eq-default, List·getD-append}
+use lib.Seq.{paste, length-paste, length-paste-head, length-take-le, getD-append-add, getD-take, getD-drop}
 use Rattle.code.specs.declared.Setting.{Setting}
 use Rattle.code.specs.Generator.{rowSymbol}
 use Rattle.code.specs.Transmission.{tabulate}
@@ -23,37 +19,76 @@ use Rattle.code.proofs.Settings.{block-positive}
 use Rattle.code.proofs.Numbers.{rowSymbol-below, positive}
 use Rattle.tables.specs.Tables.{generatorOf, RowsOf}
 
--- The symbol of a nested table, of groups of k rows of n, that comes in place b.
-abbrev pub entry : ℕ → ℕ → List (List (List ℕ)) → ℕ → ℕ
-entry n k table b = getD (getD (getD table (b / n / k) []) (b / n % k) []) (b % n) 0
+-- Row a of a nested table of groups of k rows.
+abbrev pub rowOf : ℕ → List (List (List ℕ)) → ℕ → List ℕ
+rowOf k table a = getD (getD table (a / k) []) (a % k) []
 
--- The first a places hold their symbols and the others 0.
+-- The symbol that comes in place b, where rows have n.
+abbrev pub entry : ℕ → ℕ → List (List (List ℕ)) → ℕ → ℕ
+entry n k table b = getD (rowOf k table (b / n)) (b % n) 0
+
+-- The first a rows stand in their places, and the places past them hold 0.
 pub record Filled (size n k : ℕ) (table : List (List (List ℕ))) (a : ℕ) (rows : List ℕ) : Type 0 where
   pub long : length rows ≡ size
-  pub at : (b : ℕ) → getD rows b 0 ≡ pick (ltb b a) (entry n k table b) 0
+  pub at : (b : ℕ) → b < a * n → getD rows b 0 ≡ entry n k table b
+  pub past : (b : ℕ) → a * n ≤ b → getD rows b 0 ≡ 0
+
+-- What stands in a list after a part of it was replaced.
+module _ (d : List ℕ) (at : ℕ) (s : List ℕ) (n : ℕ) (room : at + n ≤ length d) (enough : n ≤ length s) where
+  front : length (take at d ++ take n s) ≡ at + n
+  front = length-paste-head d at s n (omega arith) enough
+
+  paste-below : (b : ℕ) → b < at → getD (paste d at s n) b 0 ≡ getD d b 0
+  paste-below b l =
+      List·getD-append (take at d ++ take n s) (drop (at + n) d) 0 b (omega (arith, front))
+      ∙ (List·getD-append (take at d) (take n s) 0 b (omega (arith, length-take-le at d (omega arith))) ∙ getD-take at d b 0 l)
+
+  paste-inside : (i : ℕ) → i < n → getD (paste d at s n) (at + i) 0 ≡ getD s i 0
+  paste-inside i l =
+      List·getD-append (take at d ++ take n s) (drop (at + n) d) 0 (at + i) (omega (arith, front))
+      ∙ (ap (λ (t : ℕ). getD (take at d ++ take n s) (t + i) 0) (sym (length-take-le at d (omega arith)))
+      ∙ (getD-append-add (take at d) (take n s) i 0 ∙ getD-take n s i 0 l))
+
+  paste-past : (i : ℕ) → getD (paste d at s n) (at + n + i) 0 ≡ getD d (at + n + i) 0
+  paste-past i =
+      ap (λ (t : ℕ). getD (paste d at s n) (t + i) 0) (sym front)
+      ∙ (getD-append-add (take at d ++ take n s) (drop (at + n) d) i 0 ∙ getD-drop (at + n) d i 0)
 
 module _ (size n k : ℕ) (table : List (List (List ℕ))) where
   pub filled-none : Filled size n k table 0 (replicate size 0)
-  filled-none = record { long = length-replicate size 0; at = λ b. zeros b (decLt b size) ∙ sym (ap (λ (t : Bool). pick t (entry n k table b) 0) (le-ltb b 0 (omega arith))) }
+  filled-none = record { long = length-replicate size 0; at = λ b l. absurd (omega arith); past = λ b l. zeros b (decLt b size) }
     where
       zeros : (b : ℕ) → Dec (b < size) → _≡_ {A = ℕ} (getD (replicate size 0) b 0) 0
       zeros b (yes l) = getD-replicate size b 0 0 l
       zeros b (no d) = List·getD-eq-default (replicate size 0) 0 (omega (arith, length-replicate {A = ℕ} size 0))
 
-  pub filled-more : (a : ℕ) (rows : List ℕ) → Filled size n k table a rows → a < size → Filled size n k table (a + 1) (set rows a (entry n k table a))
-  filled-more a rows f l =
-      record { long = length-set rows a (entry n k table a) ∙ f .long; at = λ b. other b (ℕ-discrete b a) }
+  -- One row more.
+  pub filled-more : (a : ℕ) (rows after : List ℕ) → Filled size n k table a rows → a * n + n ≤ size → length (rowOf k table a) ≡ n
+      → after ≡ paste rows (a * n) (rowOf k table a) (length (rowOf k table a)) → Filled size n k table (a + 1) after
+  filled-more a rows after f l e p =
+      subst (Filled size n k table (a + 1)) (sym (p ∙ ap (paste rows (a * n) (rowOf k table a)) e))
+      (record { long = length-paste rows (a * n) (rowOf k table a) n room enough ∙ f .long; at = λ b h. at b h (decLt b (a * n)); past = past })
     where
-      other : (b : ℕ) → Dec (b ≡ a) → getD (set rows a (entry n k table a)) b 0 ≡ pick (ltb b (a + 1)) (entry n k table b) 0
-      other b (yes e) =
-          let below : b < a + 1 = omega arith in
-          ap (λ (t : ℕ). getD (set rows a (entry n k table a)) t 0) e ∙ getD-set-same rows a (entry n k table a) 0 (omega (arith, f .long))
-          ∙ ap (entry n k table) (sym e) ∙ sym (ap (λ (t : Bool). pick t (entry n k table b) 0) (lt-ltb b (a + 1) below))
-      other b (no d) = getD-set-other rows a b (entry n k table a) 0 d ∙ f .at b ∙ ap (λ (t : Bool). pick t (entry n k table b) 0) (same (decLt b a))
-        where
-          same : Dec (b < a) → ltb b a ≡ ltb b (a + 1)
-          same (yes h) = let below : b < a + 1 = omega arith in lt-ltb b a h ∙ sym (lt-ltb b (a + 1) below)
-          same (no h) = let past : a + 1 ≤ b = omega arith in let least : a ≤ b = omega arith in le-ltb b a least ∙ sym (le-ltb b (a + 1) past)
+      room : a * n + n ≤ length rows
+      room = omega (arith, f .long)
+
+      enough : n ≤ length (rowOf k table a)
+      enough = omega (arith, e)
+
+      at : (b : ℕ) → b < (a + 1) * n → Dec (b < a * n) → getD (paste rows (a * n) (rowOf k table a) n) b 0 ≡ entry n k table b
+      at b h (yes g) = paste-below rows (a * n) (rowOf k table a) n room enough b g ∙ f .at b g
+      at b h (no g) =
+          let i : ℕ = b - a * n in
+          let place : b ≡ a * n + i = omega arith in
+          let inside : i < n = omega arith in
+          rw place (paste-inside rows (a * n) (rowOf k table a) n room enough i inside
+          ∙ sym (ap₂ (λ (r c : ℕ). getD (rowOf k table r) c 0) (digits-div a inside) (digits-mod a inside)))
+
+      past : (b : ℕ) → (a + 1) * n ≤ b → getD (paste rows (a * n) (rowOf k table a) n) b 0 ≡ 0
+      past b h =
+          let i : ℕ = b - (a * n + n) in
+          let place : b ≡ a * n + n + i = omega arith in
+          rw place (paste-past rows (a * n) (rowOf k table a) n room enough i ∙ f .past (a * n + n + i) (omega arith))
 
 -- The generator's symbols, at each place of the nested table.
 entry-generator : (p : Setting) (b : ℕ) → b / p .n / p .k < p .m + 1 → b / p .n % p .k < p .k → b % p .n < p .n
@@ -67,11 +102,11 @@ entry-generator p b lj lr li =
     ∙ getD-tabulate (p .n) (λ i. rowSymbol (codeOf p) (b / p .n / p .k) (b / p .n % p .k) i) (b % p .n) 0 li)
 
 module _ (p : Setting) (S : Sound p) (size : ℕ) (table : List (List (List ℕ))) (rows : List ℕ) (e : table ≡ generatorOf p)
-    (f : Filled size (p .n) (p .k) table ((p .m + 1) * p .k * p .n) rows) where
+    (f : Filled size (p .n) (p .k) table ((p .m + 1) * p .k) rows) where
   row-at : (b : ℕ) → b < (p .m + 1) * p .k * p .n → getD rows b 0 ≡ rowSymbol (codeOf p) (b / p .n / p .k) (b / p .n % p .k) (b % p .n)
   row-at b l =
-      f .at b
-      ∙ (ap₂ (λ (t : Bool) (g : List (List (List ℕ))). pick t (entry (p .n) (p .k) g b) 0) (lt-ltb b ((p .m + 1) * p .k * p .n) l) e
+      f .at b l
+      ∙ (ap (λ (g : List (List (List ℕ))). entry (p .n) (p .k) g b) e
       ∙ entry-generator p b (div-lt-iff-lt-mul (S .information) .1 (div-lt-iff-lt-mul (block-positive p S) .1 l)) (mod-lt (b / p .n) (S .information)) (mod-lt b (block-positive p S)))
 
   -- The filled rows are the generator's.
@@ -87,6 +122,4 @@ module _ (p : Setting) (S : Sound p) (size : ℕ) (table : List (List (List ℕ)
     where
       at : (b : ℕ) → Dec (b < (p .m + 1) * p .k * p .n) → getD rows b 0 < p .q
       at b (yes l) = subst (λ (t : ℕ). t < p .q) (sym (row-at b l)) (rowSymbol-below p S (b / p .n / p .k) (b / p .n % p .k) (b % p .n))
-      at b (no d) =
-          subst (λ (t : ℕ). t < p .q)
-          (sym (f .at b ∙ ap (λ (t : Bool). pick t (entry (p .n) (p .k) table b) 0) (le-ltb b ((p .m + 1) * p .k * p .n) (omega arith)))) (positive p S)
+      at b (no d) = subst (λ (t : ℕ). t < p .q) (sym (f .past b (omega arith))) (positive p S)

@@ -32,7 +32,7 @@ pub record Small (p : Setting) : Type 0 where
 pub record Ready (p : Setting) (lent-products : List (List ℕ)) (lent-rows : List ℕ) : Type 0 where
   pub sound : Sound p
   pub small : Small p
-  pub products : Lent lent-products
+  pub products : Lent (p .q) lent-products
   pub rows : RowsOf p lent-rows
 
 -- The k×k matrix, row by row, that undoes `evaluation`.

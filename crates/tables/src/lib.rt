@@ -1,6 +1,9 @@
 // The settings at run time, and their tables: made once in a library call and lent down.
 ghost use mathlib.Core.Path.{_≡_};
+ghost use Prim.Native.Nat.{_+_, _≤_};
 ghost use lib.Dec.{T};
+ghost use lib.ListN.{length};
+ghost use lib.Seq.{paste};
 ghost use Rattle.code.specs.Settings.{isSetting, settingOf};
 ghost use Rattle.tables.specs.Tables.{generatorOf, RowsOf, MatrixOf};
 
@@ -90,14 +93,26 @@ pub fn generator_3() -> [[[u8; 7]; 3]; 2]
 // A setting's rows one after the other, with room for the largest.
 pub type Rows = [u8; 42];
 
+// Lays a row of the table out, from a place of the rows on.
+fn lay_row(row: &[u8], at: usize, rows: &mut Rows)
+    requires { ⌜ (length (now rows) ≡ 42) × (at + length (now row) ≤ 42) ⌝ }
+    ensures { λ r. ⌜ now (rows .exit) ≡ paste (now (rows .entry)) at (now (row .entry)) (length (now (row .entry))) ⌝ }
+{
+    let mut i: usize = 0;
+    while i < row.len() {
+        rows[at + i] = row[i];
+        i += 1;
+    }
+}
+
 fn rows_1() -> Rows
     ensures { λ r. ⌜ RowsOf (settingOf 1) r ⌝ }
 {
     let table = generator_1();
     let mut rows = [0u8; 42];
     let mut a: usize = 0;
-    while a < 12 {
-        rows[a] = table[a / 4 / 1][a / 4 % 1][a % 4];
+    while a < 3 {
+        lay_row(&table[a / 1][a % 1], a * 4, &mut rows);
         a += 1;
     }
     rows
@@ -109,8 +124,8 @@ fn rows_2() -> Rows
     let table = generator_2();
     let mut rows = [0u8; 42];
     let mut a: usize = 0;
-    while a < 42 {
-        rows[a] = table[a / 7 / 2][a / 7 % 2][a % 7];
+    while a < 6 {
+        lay_row(&table[a / 2][a % 2], a * 7, &mut rows);
         a += 1;
     }
     rows
@@ -122,8 +137,8 @@ fn rows_3() -> Rows
     let table = generator_3();
     let mut rows = [0u8; 42];
     let mut a: usize = 0;
-    while a < 42 {
-        rows[a] = table[a / 7 / 3][a / 7 % 3][a % 7];
+    while a < 6 {
+        lay_row(&table[a / 3][a % 3], a * 7, &mut rows);
         a += 1;
     }
     rows

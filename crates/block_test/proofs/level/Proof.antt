@@ -2,6 +2,8 @@
 use mathlib.Core.Path.{sym, subst}
 use Prim.Native.Nat.{_≤_}
 use Rattle.code.specs.declared.Setting.{Setting}
+use Rattle.code.specs.Settings.{Sound}
+use Rattle.code.proofs.Settings.{soundOf}
 use Rattle.tables.specs.Tables.{MatrixOf}
 use Rattle.block_test.proofs.Lent.{ready}
 use borrow.Author.Needs.{needs}
@@ -12,7 +14,7 @@ setting-requires : tie.Need-setting-requires
 setting-requires c κs = search needs
 
 tables-requires : tie.Need-tables-requires
-tables-requires c κs = search needs
+tables-requires c κs = subst Sound (sym (c .setting .ensures)) (soundOf (c .before .args .number) (c .before .pre .0)) .good
 
 rows-requires : tie.Need-rows-requires
 rows-requires c κs = search needs

@@ -1,4 +1,4 @@
--- `tables::rows_1`: the rows are filled from the nested table, symbol after symbol.
+-- `tables::rows_1`: the rows are filled from the nested table, row after row.
 use mathlib.Core.Path.{_≡_}
 use Prim.Native.Nat.{_-_, _≤_}
 use native.Mathlib.Omega.{arith}
@@ -9,10 +9,10 @@ use Rattle.tables.proofs.rows_1.Statement.{statement}
 use Rattle.tables.proofs.rows_1.Tie as tie
 
 abbrev Inv-loop : tie.InvT-loop
-Inv-loop table rows₀ a₀ rows a = (a ≤ 12) × Filled 42 4 1 table a rows
+Inv-loop table rows₀ a₀ rows a = (a ≤ 3) × Filled 42 4 1 table a rows
 
 abbrev μ-loop : tie.MeasureT-loop
-μ-loop table rows₀ a₀ rows a = 12 - a
+μ-loop table rows₀ a₀ rows a = 3 - a
 
 generator-1-requires : tie.Need-generator-1-requires Inv-loop μ-loop
 generator-1-requires c κs = tt
@@ -20,23 +20,23 @@ generator-1-requires c κs = tt
 loop-holds : tie.Need-loop-holds Inv-loop μ-loop
 loop-holds c = (omega arith, filled-none 42 4 1 (c .generator-1 .result))
 
-mul-rows : tie.Need-mul-rows Inv-loop μ-loop
-mul-rows c = omega arith
+mul-lay-row : tie.Need-mul-lay-row Inv-loop μ-loop
+mul-lay-row c = omega arith
 
-mul-rows-2 : tie.Need-mul-rows-2 Inv-loop μ-loop
-mul-rows-2 c = omega arith
+mul-lay-row-2 : tie.Need-mul-lay-row-2 Inv-loop μ-loop
+mul-lay-row-2 c = omega arith
 
-index-1-rows : tie.Need-index-1-rows Inv-loop μ-loop
-index-1-rows c = omega arith
+index-1-lay-row : tie.Need-index-1-lay-row Inv-loop μ-loop
+index-1-lay-row c = omega arith
 
-index-2-rows : tie.Need-index-2-rows Inv-loop μ-loop
-index-2-rows c = omega arith
+index-2-lay-row : tie.Need-index-2-lay-row Inv-loop μ-loop
+index-2-lay-row c = omega arith
 
-index-3-rows : tie.Need-index-3-rows Inv-loop μ-loop
-index-3-rows c = omega arith
+mul-lay-row-3 : tie.Need-mul-lay-row-3 Inv-loop μ-loop
+mul-lay-row-3 c = omega arith
 
-array-write-rows : tie.Need-array-write-rows Inv-loop μ-loop
-array-write-rows c = omega arith
+lay-row-requires : tie.Need-lay-row-requires Inv-loop μ-loop
+lay-row-requires c κs = (omega arith, omega arith)
 
 add-a : tie.Need-add-a Inv-loop μ-loop
 add-a c = omega arith
@@ -45,15 +45,15 @@ loop-less : tie.Need-loop-less Inv-loop μ-loop
 loop-less c = omega arith
 
 loop-again : tie.Need-loop-again Inv-loop μ-loop
-loop-again c = (
-  omega arith,
-  filled-more 42 4 1 (c .before .before .before .generator-1 .result) (c .before .before .loop .a) (c .before .before .loop .rows)
-      (c .before .before .loop .inv .1) (omega arith),
-)
+loop-again c =
+    let l = c .before .before .before .before .before .loop in (
+      omega arith,
+      filled-more 42 4 1 (c .before .before .before .before .before .before .generator-1 .result) (l .a) (l .rows) _ (l .inv .1) (omega arith) (omega arith) (c .lay-row .ensures),
+    )
 
 returns : tie.Need-returns Inv-loop μ-loop
 returns c =
-    let full : c .before .loop .a ≡ 12 = omega arith in
+    let full : c .before .loop .a ≡ 3 = omega arith in
     rows-of (settingOf 1) (soundOf 1 tt) 42 (c .before .before .generator-1 .result) (c .before .loop .rows) (c .before .before .generator-1 .ensures)
     (rw full at (c .before .loop .inv .1))
 
@@ -65,12 +65,12 @@ rows-1-spec =
     μ-loop
     generator-1-requires
     loop-holds
-    mul-rows
-    mul-rows-2
-    index-1-rows
-    index-2-rows
-    index-3-rows
-    array-write-rows
+    mul-lay-row
+    mul-lay-row-2
+    index-1-lay-row
+    index-2-lay-row
+    mul-lay-row-3
+    lay-row-requires
     add-a
     loop-less
     loop-again

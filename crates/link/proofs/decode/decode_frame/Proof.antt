@@ -17,8 +17,12 @@ use Rattle.link.proofs.Decoding.{ready-of, left-symbols, left-long, fra
 use Rattle.link.proofs.decode.decode_frame.Statement.{statement}
 use Rattle.link.proofs.decode.decode_frame.Tie as tie
 
+-- The setting is sound.
+sound : (c : tie.Start) → Sound (c .args .p)
+sound c = subst Sound (sym (c .pre .1)) (soundOf (c .args .setting) (c .pre .0))
+
 tables-requires : tie.Need-tables-requires
-tables-requires c κs = search needs
+tables-requires c κs = sound (c .before .before .before) .good
 
 rows-requires : tie.Need-rows-requires
 rows-requires c κs = c .before .before .before .before .pre .0
@@ -66,10 +70,6 @@ returns c =
 
 weight-requires : tie.Need-weight-requires
 weight-requires c κs = search needs
-
--- The setting is sound.
-sound : (c : tie.Start) → Sound (c .args .p)
-sound c = subst Sound (sym (c .pre .1)) (soundOf (c .args .setting) (c .pre .0))
 
 restore-requires : tie.Need-restore-requires
 restore-requires c κs =

@@ -1,9 +1,11 @@
 -- `link::encode::encode`: refused by the first "no", or the transmission in front of what the area held.
-use mathlib.Core.Path.{_≡_, sym, ap, _∙_}
+use mathlib.Core.Path.{_≡_, sym, ap, subst, _∙_}
 use native.Mathlib.Omega.{arith}
 use denote.Ref.{now}
 use lib.ListN.{length}
 use lib.Seq.{length-take-le}
+use Rattle.code.specs.Settings.{Sound}
+use Rattle.code.proofs.Settings.{soundOf}
 use Rattle.link.specs.Questions.{firstNo, encodingQuestions}
 use Rattle.link.proofs.Answers.{EncodingYes, encoding-yes}
 use Rattle.link.proofs.Encoding.{Sent, sent-ready, encoded-refused, encoded-sent}
@@ -28,7 +30,7 @@ setting-requires : tie.Need-setting-requires
 setting-requires c κs = known c .setting
 
 tables-requires : tie.Need-tables-requires
-tables-requires c κs = tt
+tables-requires c κs = subst Sound (sym (c .setting .ensures)) (soundOf (c .before .before .before .before .before .before .args .setting) (known (c .before) .setting)) .good
 
 rows-requires : tie.Need-rows-requires
 rows-requires c κs = known (c .before .before) .setting

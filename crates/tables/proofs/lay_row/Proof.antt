@@ -1,0 +1,65 @@
+-- `tables::lay_row` meets its contract. The loop's invariant: the first i symbols of the row are laid out.
+use mathlib.Core.Path.{_≡_, sym, ap, _∙_}
+use mathlib.Core.List.{List}
+use Prim.Native.Nat.{ℕ, _+_, _-_, _≤_}
+use native.Mathlib.Numerals.{add-one}
+use native.Mathlib.Omega.{arith}
+use denote.Ref.{now}
+use lib.ListN.{length, getD, set}
+use lib.Seq.{paste, paste-zero, paste-suc}
+use Rattle.tables.proofs.lay_row.Statement.{statement}
+use Rattle.tables.proofs.lay_row.Tie as tie
+
+abbrev Inv-loop : tie.InvT-loop
+Inv-loop row at rows₀ i₀ rows i = (i ≤ length row) × (rows ≡ paste rows₀ at row i)
+
+abbrev μ-loop : tie.MeasureT-loop
+μ-loop row at rows₀ i₀ rows i = length row - i
+
+loop-holds : tie.Need-loop-holds Inv-loop μ-loop
+loop-holds c = (omega arith, paste-zero (now (c .args .rows)) (c .args .at) (now (c .args .row)))
+
+shared-slice-read-rows : tie.Need-shared-slice-read-rows Inv-loop μ-loop
+shared-slice-read-rows c = omega arith
+
+add-rows : tie.Need-add-rows Inv-loop μ-loop
+add-rows c = omega arith
+
+element-write-rows : tie.Need-element-write-rows Inv-loop μ-loop
+element-write-rows c = omega arith
+
+add-i : tie.Need-add-i Inv-loop μ-loop
+add-i c = omega arith
+
+loop-less : tie.Need-loop-less Inv-loop μ-loop
+loop-less c = omega arith
+
+loop-again : tie.Need-loop-again Inv-loop μ-loop
+loop-again c =
+    let a = c .before .before .before .args in
+    let l = c .before .before .loop in (
+      omega arith,
+      ap (λ (r : List ℕ). set r (a .at + l .i) (getD (now (a .row)) (l .i) 0)) (l .inv .1)
+          ∙ (paste-suc (now (a .rows)) (a .at) (now (a .row)) (l .i) 0 (omega arith) (omega arith)
+          ∙ ap (paste (now (a .rows)) (a .at) (now (a .row))) (sym (add-one (l .i)))),
+    )
+
+returns : tie.Need-returns Inv-loop μ-loop
+returns c =
+    let full : c .before .loop .i ≡ length (now (c .before .before .args .row)) = omega arith in
+    rw full at (c .before .loop .inv .1)
+
+pub lay-row-spec : {M : Type 1} → statement M
+lay-row-spec =
+    tie.close
+    (tie.spec
+    Inv-loop
+    μ-loop
+    loop-holds
+    shared-slice-read-rows
+    add-rows
+    element-write-rows
+    add-i
+    loop-less
+    loop-again
+    returns)
