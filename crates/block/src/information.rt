@@ -1,7 +1,7 @@
 // The information of a code block from its spectrum, and how far the block that it combines to is from the received one.
 ghost use mathlib.Core.Path.{_≡_};
 ghost use Prim.Native.Nat.{_+_, _*_, _≤_, _<_};
-ghost use lib.ListN.{length, getD};
+ghost use lib.ListN.{length};
 ghost use Rattle.algebra.specs.Sum.{sum};
 ghost use Rattle.algebra.specs.Weight.{distance};
 ghost use Rattle.field.specs.Fields.{Good, opsOf};

@@ -1,14 +1,13 @@
 -- The levels of a window: sums of distances and of rebuilt blocks, as loops make them.
 -- Holds: `distances-none`, `distances-more`; `rebuilt-sum`, `rebuilt-none`, `rebuilt-more`, `rebuilt-all`; `part-distance`, `few`, `rebuilt-few`, `part-weight`.
-use mathlib.Core.Path.{_≡_, refl, sym, ap, ap₂, subst, _∙_}
+use mathlib.Core.Path.{_≡_, refl, sym, ap, subst, _∙_}
 use mathlib.Core.Bool.{not}
 use mathlib.Core.List.{List}
-use Prim.Native.Nat.{ℕ, zero, suc, _+_, _-_, _*_, _≤_, _<_, min}
+use Prim.Native.Nat.{ℕ, zero, suc, _+_, _-_, _*_, _≤_}
 use native.Mathlib.Numerals.{add-one}
 use native.Mathlib.Omega.{arith}
 use lib.Dec.{eqb}
-use lib.ListN.{length, getD, take, drop, length-take, length-drop}
-use lib.Seq.{getD-take, getD-drop}
+use lib.ListN.{length, getD, take, drop}
 use Rattle.algebra.specs.Weight.{total, countOf, distance}
 use Rattle.algebra.proofs.Weights.{countOf-ext, countOf-le}
 use Rattle.code.specs.declared.Setting.{Setting}

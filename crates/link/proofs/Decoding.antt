@@ -1,10 +1,10 @@
 -- From what reading a frame promises to what decoding promises.
--- Holds: `restored-none`, `restored-more`; `frame-decoded-found`, `frame-decoded-none`; `ready-of`; `Receiving`, `receiving`; `decoded-refused`,
+-- Holds: `restored-none`, `restored-more`; `frame-decoded-found`, `frame-decoded-none`; `Receiving`, `receiving`; `decoded-refused`,
 -- `decoded-asked`.
 use mathlib.Core.Path.{_≡_, refl, sym, ap, subst, _∙_}
 use mathlib.Core.Bool.{Bool, true, false, not}
 use mathlib.Core.List.{List, _++_}
-use Prim.Native.Nat.{ℕ, _+_, _-_, _*_, _/_, _≤_, _<_}
+use Prim.Native.Nat.{ℕ, _+_, _-_, _*_, _≤_, _<_}
 use native.Mathlib.Omega.{arith}
 use native.Mathlib.Decide.{ℕ-discrete}
 use lib.Dec.{T, eqb}
@@ -15,13 +15,10 @@ use Rattle.algebra.specs.Weight.{countOf}
 use Rattle.field.specs.Fields.{opsOf}
 use Rattle.field.specs.Symbols.{Symbols}
 use Rattle.code.specs.declared.Setting.{Setting}
-use Rattle.field.specs.Tables.{Lent}
-use Rattle.code.specs.Settings.{isSetting, settingOf, Sound}
-use Rattle.code.specs.Windows.{transmission, Fits}
-use Rattle.code.proofs.Settings.{soundOf}
+use Rattle.code.specs.Settings.{settingOf, Sound}
+use Rattle.code.specs.Windows.{transmission}
 use Rattle.code.proofs.Numbers.{transmission-length}
-use Rattle.tables.specs.Tables.{RowsOf, Ready}
-use Rattle.tables.proofs.Small.{Sizes, smallOf, sizesOf}
+use Rattle.tables.proofs.Small.{Sizes, sizesOf}
 use Rattle.frame.specs.Frame.{FrameRead, fits, none}
 use Rattle.frame.proofs.Ends.{left-altered, left-back}
 use Rattle.link.specs.declared.Answer.{Answer}
@@ -80,12 +77,6 @@ module _ (p : Setting) (T : ℕ) (reception message left : List ℕ) where
       ∙ sym (left-altered p S T reception message left R (F .message-of) residual))))
       (ext-getD 0 restored (transmission p message) (back .long ∙ (same ∙ (long ∙ sym (transmission-length p S T message (F .message-of)))))
       (λ i l. back .inside i (omega (arith, back .long)) ∙ left-back p S T reception message left R (F .message-of) residual i (omega (arith, back .long, same, long))))
-
--- What the functions of a setting are lent.
-pub ready-of : (number : ℕ) (p : Setting) → T (isSetting number) → p ≡ settingOf number → (products : List (List ℕ)) (rows : List ℕ)
-    → Lent (p .q) products → RowsOf (settingOf number) rows → Ready p products rows
-ready-of number p t e products rows L R =
-    subst (λ (s : Setting). Ready s products rows) (sym e) (record { sound = soundOf number t; small = smallOf number t; products = subst (λ (s : Setting). Lent (s .q) products) e L; rows = R })
 
 -- What decoding knows of the setting p in hand and the reception, once questions 1 to 6 got "yes".
 pub record Receiving (p : Setting) (reception : List ℕ) (messageRoom transmissionRoom : ℕ) : Type 0 where

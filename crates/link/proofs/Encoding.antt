@@ -1,5 +1,5 @@
 -- Encoding, from its questions to its promise. Holds: `Sent`, `sent-ready`, `encoded-refused`, `encoded-sent`.
-use mathlib.Core.Path.{_≡_, sym, ap, subst, _∙_}
+use mathlib.Core.Path.{_≡_, refl, sym, ap, subst, _∙_}
 use mathlib.Core.Bool.{Bool}
 use mathlib.Core.List.{List, _++_}
 use Prim.Native.Nat.{ℕ, _+_, _*_, _/_, _≤_}
@@ -10,9 +10,8 @@ use Rattle.field.specs.Tables.{Lent}
 use Rattle.code.specs.declared.Setting.{Setting}
 use Rattle.code.specs.Settings.{settingOf}
 use Rattle.code.specs.Windows.{transmission}
-use Rattle.code.proofs.Settings.{soundOf}
 use Rattle.tables.specs.Tables.{RowsOf}
-use Rattle.tables.proofs.Small.{smallOf}
+use Rattle.tables.proofs.Small.{readyOf}
 use Rattle.link.specs.declared.Answer.{Answer}
 use Rattle.link.specs.Questions.{firstNo, encodingQuestions}
 use Rattle.link.specs.Encoding.{Encoded, encodedArea}
@@ -34,7 +33,7 @@ module _ (number : ℕ) (message before : List ℕ) where
       (record {
         sending =
             record {
-              ready = record { sound = soundOf number (known .setting); small = smallOf number (known .setting); products = subst (λ (s : Setting). Lent (s .q) products) e lent; rows = R };
+              ready = readyOf number (settingOf number) (known .setting) refl products rows (subst (λ (s : Setting). Lent (s .q) products) e lent) R;
               message-of = known .message-of;
               most = known .most;
             };

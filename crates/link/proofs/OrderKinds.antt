@@ -5,7 +5,7 @@ use mathlib.Core.Path.{_≡_, refl, sym, ap, ap₂, subst, _∙_}
 use mathlib.Core.Bool.{Bool, true, false, _&&_}
 use mathlib.Core.List.{List, [], _∷_, _++_, List·Memᴰ, List·Memᴰ·not-nil, List·Memᴰ·cases-cons}
 use mathlib.Core.Logic.{_⊎_, inl, inr}
-use Prim.Native.Nat.{ℕ, _+_, _*_, _/_, _%_, _≤_}
+use Prim.Native.Nat.{ℕ, _+_, _*_, _/_, _≤_}
 use native.Mathlib.Omega.{arith}
 use lib.Dec.{T as Passes, eqb, leb, eqb→eq, leb→le, le→leb}
 use lib.ListN.{length, drop, replicate, length-replicate}
@@ -13,8 +13,7 @@ use borrow.Author.Tests.{eq-eqb, eqb-true}
 use Rattle.algebra.specs.Ops.{pick}
 use Rattle.algebra.proofs.Tests.{and-left, and-right}
 use Rattle.code.specs.declared.Setting.{Setting}
-use Rattle.code.specs.Transmission.{view, sentSymbol}
-use Rattle.code.specs.Settings.{settingOf, codeOf, Sound}
+use Rattle.code.specs.Settings.{settingOf, Sound}
 use Rattle.code.specs.Windows.{transmission, altered, Fits}
 use Rattle.code.proofs.Numbers.{transmission-long, transmission-length}
 use Rattle.code.proofs.Settings.{soundOf}

@@ -1,6 +1,5 @@
 // The questions of 01, asked in order by every call: the answer is the first "no".
 ghost use mathlib.Core.Path.{_≡_};
-ghost use lib.ListN.{length};
 ghost use Rattle.link.specs.Questions.{answer, firstNo, symbolsTo, frameQuestions, decodingQuestions, encodingQuestions, displayQuestions, marksQuestions};
 use super::Answer;
 

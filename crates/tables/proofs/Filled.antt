@@ -7,13 +7,13 @@ use native.Mathlib.Nat.{mod-lt, div-lt-iff-lt-mul}
 use native.Mathlib.Omega.{arith}
 use native.Mathlib.Decide.{decLt}
 use lib.Arith.{digits-div, digits-mod, digits-lt}
-use lib.ListN.{length, getD, take, drop, replicate, length-replicate, getD-replicate, List·getD-eq-default, List·getD-append}
+use lib.ListN.{length, getD, take, drop, replicate, length-replicate, List·getD-append}
 use lib.Seq.{paste, length-paste, length-paste-head, length-take-le, getD-append-add, getD-take, getD-drop}
 use Rattle.code.specs.declared.Setting.{Setting}
 use Rattle.code.specs.Generator.{rowSymbol}
 use Rattle.code.specs.Transmission.{tabulate}
 use Rattle.code.specs.Settings.{codeOf}
-use Rattle.code.proofs.Lists.{getD-tabulate}
+use Rattle.code.proofs.Lists.{getD-tabulate, getD-zeros}
 use Rattle.code.specs.Settings.{Sound}
 use Rattle.code.proofs.Settings.{block-positive}
 use Rattle.code.proofs.Numbers.{rowSymbol-below, positive}
@@ -56,11 +56,7 @@ module _ (d : List ℕ) (at : ℕ) (s : List ℕ) (n : ℕ) (room : at + n ≤ l
 
 module _ (size n k : ℕ) (table : List (List (List ℕ))) where
   pub filled-none : Filled size n k table 0 (replicate size 0)
-  filled-none = record { long = length-replicate size 0; at = λ b l. absurd (omega arith); past = λ b l. zeros b (decLt b size) }
-    where
-      zeros : (b : ℕ) → Dec (b < size) → _≡_ {A = ℕ} (getD (replicate size 0) b 0) 0
-      zeros b (yes l) = getD-replicate size b 0 0 l
-      zeros b (no d) = List·getD-eq-default (replicate size 0) 0 (omega (arith, length-replicate {A = ℕ} size 0))
+  filled-none = record { long = length-replicate size 0; at = λ b l. absurd (omega arith); past = λ b l. getD-zeros size b }
 
   -- One row more.
   pub filled-more : (a : ℕ) (rows after : List ℕ) → Filled size n k table a rows → a * n + n ≤ size → length (rowOf k table a) ≡ n

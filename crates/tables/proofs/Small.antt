@@ -1,12 +1,15 @@
--- Sizes of the settings, for the bounds that code asks.
--- Holds: `smallOf`, `Sizes`, `sizesOf`.
+-- What the code asks of a setting: bounds of its sizes, and its tables.
+-- Holds: `smallOf`; `Sizes`, `sizes`, `sizesOf`; `readyOf`.
+use mathlib.Core.Path.{_≡_, sym, subst}
+use mathlib.Core.List.{List}
 use Prim.Native.Nat.{ℕ, _+_, _-_, _*_, _≤_, _<_}
 use native.Mathlib.Omega.{arith}
 use lib.Dec.{T}
+use Rattle.field.specs.Tables.{Lent}
 use Rattle.code.specs.declared.Setting.{Setting}
 use Rattle.code.specs.Settings.{setting, settings, isSetting, settingOf, Sound}
 use Rattle.code.proofs.Settings.{Each, block-positive, none, next, each-at, setting-range, soundOf}
-use Rattle.tables.specs.Tables.{Small}
+use Rattle.tables.specs.Tables.{Small, RowsOf, Ready}
 
 small : (q k m : ℕ) → q ≤ 8 → m ≤ 2 → k ≤ 3 → (m + 1) * k * (q - 1) ≤ 42 → Small (setting q k m)
 small q k m e t i r = record { elements = e; memory = t; information = i; rows = r }
@@ -40,3 +43,10 @@ sizes p S s =
 
 pub sizesOf : (s : ℕ) → T (isSetting s) → Sizes (settingOf s)
 sizesOf s t = sizes (settingOf s) (soundOf s t) (smallOf s t)
+
+-- What the functions of a setting are lent.
+pub readyOf : (s : ℕ) (p : Setting) → T (isSetting s) → p ≡ settingOf s → (products : List (List ℕ)) (rows : List ℕ) → Lent (p .q) products → RowsOf (settingOf s) rows
+    → Ready p products rows
+readyOf s p t e products rows lent R =
+    subst (λ (x : Setting). Ready x products rows) (sym e)
+    (record { sound = soundOf s t; small = smallOf s t; products = subst (λ (x : Setting). Lent (x .q) products) e lent; rows = R })

@@ -5,7 +5,7 @@ use Rattle.code.specs.declared.Setting.{Setting}
 use Rattle.code.specs.Settings.{Sound}
 use Rattle.code.proofs.Settings.{soundOf}
 use Rattle.tables.specs.Tables.{MatrixOf}
-use Rattle.block_test.proofs.Lent.{ready}
+use Rattle.tables.proofs.Small.{readyOf}
 use borrow.Author.Needs.{needs}
 use Rattle.block_test.proofs.level.Statement.{statement}
 use Rattle.block_test.proofs.level.Tie as tie
@@ -32,7 +32,7 @@ compare-requires : tie.Need-compare-requires
 compare-requires c κs =
     let p = c .before .before .before .before .before .before .before .before .before .pre in
     let e = c .before .before .before .before .before .before .before .before .setting .ensures in (
-      ready (c .before .before .before .before .before .before .before .before .before .args .number) _ _ _ (p .0) e (c .before .before .before .before .before .before .before .tables .ensures) (c .before .before .before .before .before .before .rows .ensures),
+      readyOf (c .before .before .before .before .before .before .before .before .before .args .number) _ (p .0) e _ _ (c .before .before .before .before .before .before .before .tables .ensures) (c .before .before .before .before .before .before .rows .ensures),
       subst (λ (x : Setting). MatrixOf x (c .before .before .before .before .before .matrix .result)) (sym e) (c .before .before .before .before .before .matrix .ensures),
       subst (λ (x : Setting). c .before .before .before .before .before .before .before .before .before .args .l ≤ x .m) (sym e) (p .1),
       p .2,

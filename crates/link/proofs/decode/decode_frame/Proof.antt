@@ -11,9 +11,9 @@ use Rattle.code.specs.declared.Setting.{Setting}
 use Rattle.code.specs.Settings.{Sound}
 use Rattle.code.proofs.Settings.{soundOf}
 use Rattle.tables.specs.Tables.{MatrixOf}
-use Rattle.tables.proofs.Small.{sizes}
+use Rattle.tables.proofs.Small.{sizes, readyOf}
 use Rattle.link.proofs.Answers.{transmission-small}
-use Rattle.link.proofs.Decoding.{ready-of, left-symbols, left-long, frame-decoded-none, frame-decoded-found}
+use Rattle.link.proofs.Decoding.{left-symbols, left-long, frame-decoded-none, frame-decoded-found}
 use Rattle.link.proofs.decode.decode_frame.Statement.{statement}
 use Rattle.link.proofs.decode.decode_frame.Tie as tie
 
@@ -34,7 +34,7 @@ read-requires : tie.Need-read-requires
 read-requires c κs =
     let entry = c .before .before .before .before .before .before .before .before .before .before .before in
     let a = entry .args in (
-      ready-of (a .setting) (a .p) (entry .pre .0) (entry .pre .1) (c .before .before .before .before .before .before .before .tables .result) (c .before .before .before .before .before .before .rows .result) (c .before .before .before .before .before .before .before .tables .ensures) (c .before .before .before .before .before .before .rows .ensures),
+      readyOf (a .setting) (a .p) (entry .pre .0) (entry .pre .1) (c .before .before .before .before .before .before .before .tables .result) (c .before .before .before .before .before .before .rows .result) (c .before .before .before .before .before .before .before .tables .ensures) (c .before .before .before .before .before .before .rows .ensures),
       subst (λ (p : Setting). MatrixOf p (c .before .before .before .before .before .matrix .result)) (sym (entry .pre .1)) (c .before .before .before .before .before .matrix .ensures),
       entry .pre .2,
       entry .pre .4,
@@ -94,7 +94,7 @@ cast-t34 c =
       entry .pre .7,
       entry .pre .4,
       transmission-small (a .p) (a .blocks)
-          (sizes (a .p) (sound entry) (ready-of (a .setting) (a .p) (entry .pre .0) (entry .pre .1) (c .before .before .before .before .before .before .before .before .before .before .before .before .before .before .before .before .before .before .before .tables .result) (c .before .before .before .before .before .before .before .before .before .before .before .before .before .before .before .before .before .before .rows .result) (c .before .before .before .before .before .before .before .before .before .before .before .before .before .before .before .before .before .before .before .tables .ensures) (c .before .before .before .before .before .before .before .before .before .before .before .before .before .before .before .before .before .before .rows .ensures) .small))
+          (sizes (a .p) (sound entry) (readyOf (a .setting) (a .p) (entry .pre .0) (entry .pre .1) (c .before .before .before .before .before .before .before .before .before .before .before .before .before .before .before .before .before .before .before .tables .result) (c .before .before .before .before .before .before .before .before .before .before .before .before .before .before .before .before .before .before .rows .result) (c .before .before .before .before .before .before .before .before .before .before .before .before .before .before .before .before .before .before .before .tables .ensures) (c .before .before .before .before .before .before .before .before .before .before .before .before .before .before .before .before .before .before .rows .ensures) .small))
           (entry .pre .3),
     )
 

@@ -1,2 +1,0 @@
--- What the test's functions ask of a setting.
-pub mod Lent
