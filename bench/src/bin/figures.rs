@@ -123,9 +123,9 @@ impl Frames {
             transmission: vec![0; (blocks + row.m) * row.n],
         };
         for _ in 0..BATCH_BLOCKS / blocks {
-            let message = random.symbols(row.q, blocks * row.k);
+            let message = random.symbols(row, blocks * row.k);
             let mut reception = frames.transmission.clone();
-            baseline::encode(setting, &message, &mut reception);
+            (baseline::CALLS.encode)(setting, &message, &mut reception);
             if let Work::DecodeAtLimit = work {
                 damage_evenly(random, row, &mut reception, row.t);
             }
@@ -165,7 +165,7 @@ impl Frames {
     fn check(&mut self, calls: &Calls) {
         for (message, reception) in self.messages.iter().zip(&self.receptions) {
             let mut expected = vec![0; reception.len()];
-            baseline::encode(self.setting, message, &mut expected);
+            (baseline::CALLS.encode)(self.setting, message, &mut expected);
             self.transmission.fill(0xff);
             let answer = match self.work {
                 Work::Encode => (calls.encode)(self.setting, message, &mut self.transmission),
