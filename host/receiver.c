@@ -1,20 +1,26 @@
 /*
  * A receiver's use of the order link: it sends an order, damages it on the way,
- * reads it back, marks the differences and shows every refusal.
+ * reads it back, marks the differences, and gets every refusal.
  *
- *   cc -std=c11 -Wall -Wextra -Werror -Iinclude host/receiver.c target/staticlib/libhost.a
+ *   cc -std=c11 -O2 -Wall -Wextra -Werror -Iinclude host/receiver.c \
+ *       target/staticlib/libhost.a
  *   the same with -g -fsanitize=address,undefined
  *
  * It ends with status 0 if every answer was the expected one.
  */
 #include "orderlink.h"
+#include "settings.h"
 
 #include <stdbool.h>
 #include <stdio.h>
 #include <stdlib.h>
 #include <string.h>
 
+/* Bytes of guard on either side of an area, their value, and the value of a lent area's bytes. */
 enum { GUARD = 16, GUARD_BYTE = 0xa5, UNTOUCHED = 0xee };
+
+/* How many elements an array has. */
+#define COUNT(array) (sizeof(array) / sizeof(array)[0])
 
 #define EXPECT(condition) expect((condition), #condition, __LINE__)
 
@@ -26,12 +32,13 @@ static void expect(bool met, const char *condition, int line)
     }
 }
 
-/* A lent area with guard bytes before and after it. */
+/* An area with guard bytes before and after it. */
 struct area {
     uint8_t *bytes;
     size_t length;
 };
 
+/* An area to lend, all of its bytes untouched. */
 static struct area lend(size_t length)
 {
     uint8_t *start = malloc(length + 2 * GUARD);
@@ -41,6 +48,7 @@ static struct area lend(size_t length)
     return (struct area){ start + GUARD, length };
 }
 
+/* Whether all of some bytes have one value. */
 static bool all(const uint8_t *bytes, size_t length, uint8_t value)
 {
     for (size_t i = 0; i < length; i++)
@@ -49,7 +57,7 @@ static bool all(const uint8_t *bytes, size_t length, uint8_t value)
     return true;
 }
 
-/* Takes an area back; its guards must be whole. */
+/* Takes an area back; its guards must be as they were. */
 static void take_back(struct area area)
 {
     EXPECT(all(area.bytes - GUARD, GUARD, GUARD_BYTE));
@@ -57,13 +65,14 @@ static void take_back(struct area area)
     free(area.bytes - GUARD);
 }
 
+/* Whether an answer has this number and place and this count of altered symbols. */
 static bool answers(struct orderlink_answer answer, uint32_t number, uint64_t place,
                     uint32_t altered)
 {
     return answer.number == number && answer.place == place && answer.altered == altered;
 }
 
-/* Writes the digits of a text as symbols; returns how many. */
+/* Writes a text's digits as symbols, without its spaces; returns how many. */
 static size_t symbols(const char *digits, uint8_t *symbol)
 {
     size_t count = 0;
@@ -73,6 +82,7 @@ static size_t symbols(const char *digits, uint8_t *symbol)
     return count;
 }
 
+/* Prints symbols in blocks. */
 static void print(const char *name, const uint8_t *symbol, size_t count, size_t block)
 {
     printf("%-12s", name);
@@ -94,7 +104,7 @@ static void send_and_receive(void)
 
     const size_t damaged[] = { 4, 7, 9, 14 };
     memcpy(reception, transmission.bytes, length);
-    for (size_t i = 0; i < sizeof damaged / sizeof damaged[0]; i++)
+    for (size_t i = 0; i < COUNT(damaged); i++)
         reception[damaged[i]] = (uint8_t)((reception[damaged[i]] + 1 + i) % 5);
     print("received", reception, length, 4);
 
@@ -134,70 +144,94 @@ static void damaged_too_much(void)
     take_back(transmission);
 }
 
-/* A decoding call that must be refused and leave both areas as they were. */
-static void refused(uint32_t setting, const uint8_t *reception, size_t length,
-                    size_t message_length, size_t transmission_length, uint32_t number,
-                    uint64_t place)
+/* Every refusal of a decoding; both areas stay as they were. A row may break later rules too. */
+static void refused_decodings(void)
 {
-    struct area message = lend(message_length), transmission = lend(transmission_length);
-    EXPECT(answers(orderlink_decode(setting, reception, length, message.bytes, message_length,
-                                    transmission.bytes, transmission_length), number, place, 0));
-    EXPECT(all(message.bytes, message_length, UNTOUCHED));
-    EXPECT(all(transmission.bytes, transmission_length, UNTOUCHED));
-    take_back(message);
-    take_back(transmission);
-}
-
-static void refused_decoding(void)
-{
-    static const uint8_t clean[515 * 4];
-    uint8_t wrong[12] = { 0 };
-    wrong[5] = 5;
-    wrong[9] = 255;
-    refused(0, clean, 12, 1, 12, 1, 0);
-    refused(257, clean, 12, 1, 12, 1, 0);
-    refused(1, NULL, 0, 1, 12, 2, 0);
-    refused(1, clean, 8, 1, 12, 2, 0);
-    refused(1, clean, 13, 1, 12, 2, 0);
-    refused(1, clean, sizeof clean, 513, sizeof clean, 3, 0);
-    refused(1, wrong, 12, 0, 0, 4, 5);
-    refused(1, clean, 12, 0, 0, 5, 0);
-    refused(1, clean, 12, 1, 11, 6, 0);
+    static const uint8_t clean[(MOST_BLOCKS + 1 + 2) * 4];
+    const uint8_t wrong[12] = { [5] = 5, [9] = 255 };
+    const struct {
+        uint32_t setting;
+        const uint8_t *reception;
+        size_t reception_length, message_length, transmission_length;
+        uint32_t number;
+        uint64_t place;
+    } calls[] = {
+        { 0, clean, 12, 1, 12, 1, 0 },
+        { 257, clean, 12, 1, 12, 1, 0 },
+        { 1, NULL, 0, 1, 12, 2, 0 },
+        { 1, clean, 8, 1, 12, 2, 0 },
+        { 1, clean, 13, 1, 12, 2, 0 },
+        { 1, clean, sizeof clean, MOST_BLOCKS + 1, sizeof clean, 3, 0 },
+        { 1, wrong, 12, 0, 0, 4, 5 },
+        { 1, clean, 12, 0, 0, 5, 0 },
+        { 1, clean, 12, 1, 11, 6, 0 },
+    };
+    for (size_t i = 0; i < COUNT(calls); i++) {
+        struct area message = lend(calls[i].message_length);
+        struct area transmission = lend(calls[i].transmission_length);
+        EXPECT(answers(orderlink_decode(calls[i].setting, calls[i].reception,
+                                        calls[i].reception_length, message.bytes, message.length,
+                                        transmission.bytes, transmission.length),
+                       calls[i].number, calls[i].place, 0));
+        EXPECT(all(message.bytes, message.length, UNTOUCHED));
+        EXPECT(all(transmission.bytes, transmission.length, UNTOUCHED));
+        take_back(message);
+        take_back(transmission);
+    }
     printf("refused decodings: areas unchanged\n");
 }
 
-static void refused_encoding(void)
+/* Every refusal of an encoding; the area stays as it was. A row may break later rules too. */
+static void refused_encodings(void)
 {
-    static const uint8_t clean[513 * 2];
+    static const uint8_t clean[(MOST_BLOCKS + 1) * 2];
     const uint8_t wrong[4] = { 7, 0, 0, 8 };
-    struct area area = lend(21);
-    EXPECT(answers(orderlink_encode(4, clean, 2, area.bytes, 21), 1, 0, 0));
-    EXPECT(answers(orderlink_encode(2, NULL, 0, area.bytes, 21), 8, 0, 0));
-    EXPECT(answers(orderlink_encode(2, clean, 3, area.bytes, 21), 8, 0, 0));
-    EXPECT(answers(orderlink_encode(2, clean, sizeof clean, area.bytes, 21), 3, 0, 0));
-    EXPECT(answers(orderlink_encode(2, wrong, 4, area.bytes, 21), 4, 3, 0));
-    EXPECT(answers(orderlink_encode(2, clean, 2, area.bytes, 20), 6, 0, 0));
-    EXPECT(all(area.bytes, 21, UNTOUCHED));
-    EXPECT(answers(orderlink_encode(2, clean, 2, area.bytes, 21), 0, 0, 0));
-    EXPECT(all(area.bytes, 21, 0));
+    const struct {
+        uint32_t setting;
+        const uint8_t *message;
+        size_t message_length, transmission_length;
+        uint32_t number;
+        uint64_t place;
+    } calls[] = {
+        { 4, clean, 2, 21, 1, 0 },
+        { 2, NULL, 0, 21, 8, 0 },
+        { 2, clean, 3, 21, 8, 0 },
+        { 2, clean, sizeof clean, 21, 3, 0 },
+        { 2, wrong, 4, 21, 4, 3 },
+        { 2, clean, 2, 20, 6, 0 },
+    };
+    for (size_t i = 0; i < COUNT(calls); i++) {
+        struct area transmission = lend(calls[i].transmission_length);
+        EXPECT(answers(orderlink_encode(calls[i].setting, calls[i].message,
+                                        calls[i].message_length, transmission.bytes,
+                                        transmission.length),
+                       calls[i].number, calls[i].place, 0));
+        EXPECT(all(transmission.bytes, transmission.length, UNTOUCHED));
+        take_back(transmission);
+    }
     printf("refused encodings: area unchanged\n");
-    take_back(area);
 }
 
+/* Every refusal of marks; none is set. A row may break later rules too. */
 static void refused_marks(void)
 {
-    static const uint8_t reception[514 * 7], transmission[15];
+    static const uint8_t reception[(MOST_BLOCKS + 1 + 1) * 7], transmission[15];
     const struct {
         uint32_t setting;
         size_t reception_length, transmission_length;
         uint64_t j;
         uint32_t number;
     } calls[] = {
-        { 0, 14, 14, 0, 1 },           { 3, 15, 15, 0, 2 },   { 3, 514 * 7, 14, 0, 3 },
-        { 3, 14, 7, 1, 12 },           { 3, 14, 7, 0, 13 },   { 3, 14, 0, 0, 13 },
-        { 3, 14, 14, UINT64_MAX, 12 }, { 3, 14, 14, 0, 0 },
+        { 0, 14, 14, 0, 1 },
+        { 3, 7, 7, 0, 2 },
+        { 3, 15, 15, 0, 2 },
+        { 3, sizeof reception, 14, 0, 3 },
+        { 3, 14, 7, 1, 12 },
+        { 3, 14, 14, UINT64_MAX, 12 },
+        { 3, 14, 7, 0, 13 },
+        { 3, 14, 15, 0, 13 },
     };
-    for (size_t i = 0; i < sizeof calls / sizeof calls[0]; i++) {
+    for (size_t i = 0; i < COUNT(calls); i++) {
         struct orderlink_marks window =
             orderlink_marks(calls[i].setting, reception, calls[i].reception_length, transmission,
                             calls[i].transmission_length, calls[i].j);
@@ -207,37 +241,24 @@ static void refused_marks(void)
     printf("refused marks: none set\n");
 }
 
-/* A row of the table of settings. */
-struct setting {
-    uint32_t number, q;
-    size_t n, k, m;
-    uint32_t t;
-};
-
-static const struct setting SETTINGS[] = {
-    { 1, 5, 4, 1, 2, 4 },
-    { 2, 8, 7, 2, 2, 5 },
-    { 3, 8, 7, 3, 1, 3 },
-};
-
-/* Copies a transmission with t symbols of each window altered; returns how many in all. */
-static uint32_t damage(const struct setting *setting, const uint8_t *sent, uint8_t *reception,
-                       size_t length)
+/* Areas of length 0 may be NULL. */
+static void no_areas(void)
 {
-    size_t window = (setting->m + 1) * setting->n;
-    uint32_t altered = 0;
-    for (size_t i = 0; i < length; i++) {
-        bool hit = i % window % 2 == 0 && i % window < 2 * setting->t;
-        reception[i] = (uint8_t)((sent[i] + (hit ? 1u : 0u)) % setting->q);
-        altered += hit ? 1 : 0;
-    }
-    return altered;
+    static const uint8_t clean[14];
+    EXPECT(answers(orderlink_encode(3, NULL, 0, NULL, 0), 8, 0, 0));
+    EXPECT(answers(orderlink_encode(3, clean, 3, NULL, 0), 6, 0, 0));
+    EXPECT(answers(orderlink_decode(3, NULL, 0, NULL, 0, NULL, 0), 2, 0, 0));
+    EXPECT(answers(orderlink_decode(3, clean, 14, NULL, 0, NULL, 0), 5, 0, 0));
+    EXPECT(answers(orderlink_marks(3, NULL, 0, NULL, 0, 0).answer, 2, 0, 0));
+    EXPECT(answers(orderlink_marks(3, clean, 14, NULL, 0, 0).answer, 13, 0, 0));
+    printf("areas of length 0: not looked at\n");
 }
 
-/* The longest order comes back with t altered symbols in each window. */
+/* The longest order comes back with t altered symbols in every window. */
 static void longest_order(const struct setting *setting)
 {
-    size_t order_length = 512 * setting->k, length = (512 + setting->m) * setting->n;
+    size_t order_length = message_length(setting, MOST_BLOCKS);
+    size_t length = transmission_length(setting, MOST_BLOCKS);
     struct area order = lend(order_length), message = lend(order_length);
     struct area sent = lend(length), reception = lend(length), repaired = lend(length);
     for (size_t i = 0; i < order_length; i++)
@@ -250,11 +271,11 @@ static void longest_order(const struct setting *setting)
                    0, 0, altered));
     EXPECT(memcmp(message.bytes, order.bytes, order_length) == 0);
     EXPECT(memcmp(repaired.bytes, sent.bytes, length) == 0);
-    for (uint64_t j = 0; j < 512; j++)
+    for (uint64_t j = 0; j < MOST_BLOCKS; j++)
         EXPECT(orderlink_marks(setting->number, reception.bytes, length,
                                repaired.bytes, length, j).set == setting->t);
-    printf("setting %u: 512 blocks back with %u symbols altered\n", (unsigned)setting->number,
-           (unsigned)altered);
+    printf("setting %u: %d blocks back with %u symbols altered\n", (unsigned)setting->number,
+           MOST_BLOCKS, (unsigned)altered);
     take_back(order);
     take_back(message);
     take_back(sent);
@@ -266,10 +287,11 @@ int main(void)
 {
     send_and_receive();
     damaged_too_much();
-    refused_decoding();
-    refused_encoding();
+    refused_decodings();
+    refused_encodings();
     refused_marks();
-    for (size_t i = 0; i < sizeof SETTINGS / sizeof SETTINGS[0]; i++)
-        longest_order(&SETTINGS[i]);
+    no_areas();
+    for (size_t i = 0; i < SETTING_COUNT; i++)
+        longest_order(&settings[i]);
     return EXIT_SUCCESS;
 }

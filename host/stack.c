@@ -1,41 +1,84 @@
-/* How much stack a library call takes: decodes and encodes the longest order on a stack of its own and looks how much of it was touched.
-   Ends with status 0 if it was less than 64 KiB. */
+/*
+ * How much stack a call takes: makes the three calls on the longest order of
+ * every setting, on a stack of its own, and looks how much of that was touched.
+ *
+ *   cc -std=c11 -O2 -Wall -Wextra -Werror -Iinclude host/stack.c \
+ *       target/staticlib/libhost.a -lpthread
+ *
+ * It ends with status 0 if every order came back and less than 64 KiB was touched.
+ */
 #define _POSIX_C_SOURCE 200809L
 #include "orderlink.h"
+#include "settings.h"
+
 #include <pthread.h>
+#include <stdbool.h>
 #include <stdio.h>
+#include <stdlib.h>
 #include <string.h>
 
-enum { ROOM = 1 << 18, LIMIT = 1 << 16, BLOCKS = 512, MESSAGE = BLOCKS * 3, SENT = (BLOCKS + 1) * 7 };
+enum {
+    STACK = 256 * 1024,
+    LIMIT = 64 * 1024,
+    UNTOUCHED = 0xaa,
+    MOST_INFORMATION = MOST_BLOCKS * 3,
+    MOST_SYMBOLS = (MOST_BLOCKS + 2) * 7,
+};
 
-static _Alignas(4096) unsigned char room[ROOM];
-static uint8_t message[MESSAGE], sent[SENT], back[MESSAGE], repaired[SENT];
-static struct orderlink_answer answer;
+/* The stack grows from the end of this area towards its first byte. */
+static _Alignas(4096) unsigned char stack[STACK];
 
-static void *calls(void *unused) {
-    (void)unused;
-    orderlink_encode(3, message, MESSAGE, sent, SENT);
-    for (int i = 0; i + 14 <= SENT; i += 14) {
-        sent[i] ^= 1;
-        sent[i + 5] ^= 3;
-        sent[i + 9] ^= 2;
-    }
-    answer = orderlink_decode(3, sent, SENT, back, MESSAGE, repaired, SENT);
+static uint8_t order[MOST_INFORMATION], message[MOST_INFORMATION];
+static uint8_t sent[MOST_SYMBOLS], reception[MOST_SYMBOLS], repaired[MOST_SYMBOLS];
+
+/* Encodes, decodes and marks the longest order of a setting; true if it came back. */
+static bool comes_back(const struct setting *setting)
+{
+    size_t order_length = message_length(setting, MOST_BLOCKS);
+    size_t length = transmission_length(setting, MOST_BLOCKS);
+    for (size_t i = 0; i < order_length; i++)
+        order[i] = (uint8_t)(i * 5 % setting->q);
+    struct orderlink_answer encoded =
+        orderlink_encode(setting->number, order, order_length, sent, length);
+    uint32_t altered = damage(setting, sent, reception, length);
+    struct orderlink_answer decoded = orderlink_decode(setting->number, reception, length, message,
+                                                       order_length, repaired, length);
+    struct orderlink_marks marked = orderlink_marks(setting->number, reception, length, repaired,
+                                                    length, MOST_BLOCKS - 1);
+    return encoded.number == 0 && decoded.number == 0 && decoded.altered == altered &&
+           memcmp(message, order, order_length) == 0 && memcmp(repaired, sent, length) == 0 &&
+           marked.answer.number == 0 && marked.set == setting->t;
+}
+
+/* What the thread does; sets `back` if every order came back. */
+static void *make_calls(void *back)
+{
+    bool *all = back;
+    *all = true;
+    for (size_t i = 0; i < SETTING_COUNT; i++)
+        *all = comes_back(&settings[i]) && *all;
     return NULL;
 }
 
-int main(void) {
+int main(void)
+{
+    bool back = false;
     pthread_attr_t attributes;
     pthread_t thread;
-    for (int i = 0; i < MESSAGE; i++)
-        message[i] = (uint8_t)(i * 5 % 8);
-    memset(room, 0xAA, ROOM);
-    if (pthread_attr_init(&attributes) || pthread_attr_setstack(&attributes, room, ROOM) || pthread_create(&thread, &attributes, calls, NULL)
-        || pthread_join(thread, NULL))
-        return 2;
-    size_t free_bytes = 0;
-    while (free_bytes < ROOM && room[free_bytes] == 0xAA)
-        free_bytes++;
-    printf("stack: %zu bytes, the thread's own included; number %u, %u symbols altered\n", ROOM - free_bytes, answer.number, answer.altered);
-    return answer.number == 0 && memcmp(message, back, MESSAGE) == 0 && ROOM - free_bytes < LIMIT ? 0 : 1;
+    memset(stack, UNTOUCHED, STACK);
+    if (pthread_attr_init(&attributes) != 0 ||
+        pthread_attr_setstack(&attributes, stack, STACK) != 0 ||
+        pthread_create(&thread, &attributes, make_calls, &back) != 0 ||
+        pthread_join(thread, NULL) != 0) {
+        fprintf(stderr, "stack.c: no thread on a stack of its own\n");
+        return EXIT_FAILURE;
+    }
+    size_t untouched = 0;
+    while (untouched < STACK && stack[untouched] == UNTOUCHED)
+        untouched++;
+    size_t touched = STACK - untouched;
+    printf("stack: %zu bytes touched, the thread's own included\n", touched);
+    if (!back)
+        fprintf(stderr, "stack.c: an order did not come back\n");
+    return back && touched < LIMIT ? EXIT_SUCCESS : EXIT_FAILURE;
 }

@@ -1,14 +1,18 @@
 /*
  * The order link: sending pass orders over a radio link and reading them back.
+ * For C (C99 and later) and C++.
  *
  * Terms
  *   symbol        one byte below q
  *   message       T information blocks of k symbols, 1 <= T <= 512
- *   transmission  T + m blocks of n symbols, the code of the message
- *   reception     T + m blocks of n symbols, as they came in
+ *   transmission  T + m blocks of n symbols: what is sent for a message
+ *   reception     T + m blocks of n symbols: what came in for a transmission
  *   window j      blocks j to j + m, for j from 0 to T - 1
  *   fits          a message fits a reception when in every window its
  *                 transmission differs from the reception in at most t symbols
+ *
+ *   Blocks lie one after the other. Blocks, symbols and windows are counted
+ *   from 0.
  *
  *   setting  q  n  k  m  t
  *      1     5  4  1  2  4
@@ -19,14 +23,15 @@
  *   Every area is a pointer to its first byte and a length in bytes. A call
  *   reads and writes only within these ends; where the length is 0 it does
  *   not follow the pointer, which may then be NULL. The areas of one call must
- *   not overlap. An area may be longer than needed; what lies behind the bytes
- *   that a call fills keeps its value. Areas passed as const are only read.
- *   No call keeps a pointer, allocates memory or has state of its own.
+ *   not overlap. An area that a call fills may be longer than needed; what
+ *   lies behind the bytes that it fills keeps its value. Areas passed as const
+ *   are only read. No call keeps a pointer, allocates memory or has state of
+ *   its own, so threads may call at the same time, each with areas of its own.
  *
  * Numbers
  *   A call asks the questions below in the order given with it. The first "no"
  *   is its number; with every "yes" the number is 0. The place is 0 but for
- *   number 4.
+ *   number 4. Other numbers do not occur.
  *
  *    1  Is the setting 1, 2 or 3?
  *    2  Is the reception's length a multiple of n and at least (m + 1) * n?
@@ -53,17 +58,22 @@ extern "C" {
 /* What a call answers. */
 struct orderlink_answer {
     uint32_t number;  /* 0, or the question that got "no" */
-    uint32_t altered; /* after decoding with number 0: the symbols, over all
-                         T + m blocks, in which reception and transmission
-                         differ; else 0 */
-    uint64_t place;   /* with number 4 the place of the first wrong symbol; else 0 */
+    uint32_t altered; /* after decoding with number 0: in how many symbols, over
+                         all T + m blocks, reception and transmission differ;
+                         else 0 */
+    uint64_t place;   /* with number 4: the place of the first wrong symbol in
+                         the message or reception; else 0 */
 };
 
-/* The differences in a window. */
+/*
+ * The differences in a window. C++ has to say "struct orderlink_marks", since
+ * the function has the same name.
+ */
 struct orderlink_marks {
     struct orderlink_answer answer;
-    uint32_t marks; /* bit i is set when symbol i of the window differs,
-                       counted from the window's first symbol; 0 if refused */
+    uint32_t marks; /* bit i, of value 1 << i, is set when symbol i of the window
+                       differs; the bits from (m + 1) * n on are 0; all are 0
+                       if refused */
     uint32_t set;   /* how many marks are set; 0 if refused */
 };
 
@@ -95,9 +105,13 @@ struct orderlink_answer orderlink_decode(uint32_t setting,
                                          uint8_t *transmission, size_t transmission_len);
 
 /*
- * Marks the differences of a reception and a transmission in window j.
- * Questions: 1, 2 and 3 (of the reception), 12, 13. Bytes are compared as they
- * are, also those not below q.
+ * Marks the differences of a reception of T = reception_len / n - m information
+ * blocks and a transmission in window j: the (m + 1) * n bytes from place j * n
+ * on, in both. They are compared as they are, also those not below q.
+ * Questions: 1, 2 and 3 (of the reception), 12, 13.
+ *
+ * number 0    the marks of the window, and how many are set
+ * any other   no mark is set
  */
 struct orderlink_marks orderlink_marks(uint32_t setting,
                                        const uint8_t *reception, size_t reception_len,

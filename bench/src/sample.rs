@@ -33,9 +33,19 @@ impl Random {
         self.below(times) == 0
     }
 
-    /// Symbols below q.
-    pub fn symbols(&mut self, q: u8, length: usize) -> Vec<u8> {
-        (0..length).map(|_| self.below(q as usize) as u8).collect()
+    /// One of some values.
+    pub fn pick<'a, T>(&mut self, values: &'a [T]) -> &'a T {
+        &values[self.below(values.len())]
+    }
+
+    /// Symbols of a setting.
+    pub fn symbols(&mut self, setting: &Setting, length: usize) -> Vec<u8> {
+        (0..length).map(|_| self.below(setting.q as usize) as u8).collect()
+    }
+
+    /// Bytes of any value.
+    pub fn bytes(&mut self, length: usize) -> Vec<u8> {
+        (0..length).map(|_| self.number() as u8).collect()
     }
 
     /// The numbers below `bound` in random order.

@@ -1,6 +1,6 @@
 //! The three settings of document 01 with their tables, all made from q, k and m at compile time.
 
-use super::field::Field;
+use super::field::{Field, Kind};
 
 /// The largest block length, information length and window length of a setting.
 pub const MAX_N: usize = 7;
@@ -40,11 +40,13 @@ pub struct Code {
     solvers: [[Information; MAX_DIMENSION]; MAX_WINDOW],
 }
 
-static CODES: [Code; 3] = [
-    Code::new(Field::prime(5, 2), 1, 2),
-    Code::new(Field::binary(8, 0b1011), 2, 2),
-    Code::new(Field::binary(8, 0b1011), 3, 1),
-];
+const FIVE: Field = Field::new(5, Kind::Prime);
+
+/// α³ = α + 1.
+const EIGHT: Field = Field::new(8, Kind::Binary(0b1011));
+
+/// Settings 1 to 3: field, k and m.
+static CODES: [Code; 3] = [Code::new(FIVE, 1, 2), Code::new(EIGHT, 2, 2), Code::new(EIGHT, 3, 1)];
 
 impl Code {
     /// The code of a setting, if there is such a setting.

@@ -3,7 +3,19 @@
 /// The largest field size of a setting.
 pub const MAX_Q: usize = 8;
 
-/// A field with q elements, each a byte below q, and its primitive element α.
+/// α, the element whose powers are all the nonzero ones, in either kind of field.
+const ALPHA: usize = 2;
+
+/// How the elements of a field are multiplied.
+#[derive(Clone, Copy)]
+pub enum Kind {
+    /// Numbers modulo the prime q.
+    Prime,
+    /// Polynomials in α over {0, 1}, bit i for α^i, modulo this one.
+    Binary(usize),
+}
+
+/// A field with q elements, each a byte below q.
 pub struct Field {
     q: usize,
     /// The least number of ones whose sum is 0: q itself, or 2.
@@ -17,62 +29,31 @@ pub struct Field {
 }
 
 impl Field {
-    /// The numbers modulo the prime q.
-    pub const fn prime(q: usize, alpha: u8) -> Field {
+    pub const fn new(q: usize, kind: Kind) -> Field {
+        let characteristic = match kind {
+            Kind::Prime => q,
+            Kind::Binary(_) => 2,
+        };
         let mut products = [[0; MAX_Q]; MAX_Q];
-        let mut a = 0;
-        while a < q {
-            let mut b = 0;
-            while b < q {
-                products[a][b] = (a * b % q) as u8;
-                b += 1;
-            }
-            a += 1;
-        }
-        Field::from_products(q, q, alpha, products)
-    }
-
-    /// The polynomials in α over {0, 1}, bit i for α^i, modulo `modulus`.
-    pub const fn binary(q: usize, modulus: usize) -> Field {
-        let mut products = [[0; MAX_Q]; MAX_Q];
-        let mut a = 0;
-        while a < q {
-            let mut b = 0;
-            while b < q {
-                products[a][b] = binary_product(a, b, q, modulus) as u8;
-                b += 1;
-            }
-            a += 1;
-        }
-        Field::from_products(q, 2, 2, products)
-    }
-
-    const fn from_products(
-        q: usize,
-        characteristic: usize,
-        alpha: u8,
-        products: [[u8; MAX_Q]; MAX_Q],
-    ) -> Field {
         let mut inverses = [0; MAX_Q];
-        let mut a = 1;
+        let mut integers = [0; MAX_Q];
+        let mut a = 0;
         while a < q {
-            let mut b = 1;
-            while products[a][b] != 1 {
+            integers[a] = (a % characteristic) as u8;
+            let mut b = 0;
+            while b < q {
+                products[a][b] = kind.product(q, a, b) as u8;
+                if products[a][b] == 1 {
+                    inverses[a] = b as u8;
+                }
                 b += 1;
             }
-            inverses[a] = b as u8;
             a += 1;
-        }
-        let mut integers = [0; MAX_Q];
-        let mut count = 0;
-        while count < q {
-            integers[count] = (count % characteristic) as u8;
-            count += 1;
         }
         let mut powers = [1; MAX_Q];
         let mut i = 1;
         while i < q - 1 {
-            powers[i] = products[powers[i - 1] as usize][alpha as usize];
+            powers[i] = products[powers[i - 1] as usize][ALPHA];
             i += 1;
         }
         Field { q, characteristic, products, inverses, powers, integers }
@@ -153,8 +134,17 @@ impl Field {
     }
 }
 
+impl Kind {
+    const fn product(self, q: usize, a: usize, b: usize) -> usize {
+        match self {
+            Kind::Prime => a * b % q,
+            Kind::Binary(modulus) => binary_product(q, modulus, a, b),
+        }
+    }
+}
+
 /// The product of two polynomials over {0, 1}, kept below q by taking the modulus away.
-const fn binary_product(a: usize, b: usize, q: usize, modulus: usize) -> usize {
+const fn binary_product(q: usize, modulus: usize, a: usize, b: usize) -> usize {
     let mut product = 0;
     let mut shifted = a;
     let mut rest = b;

@@ -5,7 +5,7 @@ use super::decode;
 use crate::calls::Answer;
 
 /// The most characters of a line that is read on.
-pub const MAX_LINE: usize = HEAD + MAX_SYMBOLS;
+const MAX_LINE: usize = HEAD + MAX_SYMBOLS;
 
 /// The most characters of an answer.
 pub const MAX_ANSWER: usize = 6 + HEAD + MAX_T * MAX_K;

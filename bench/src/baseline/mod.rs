@@ -6,7 +6,7 @@ mod decoder;
 mod field;
 mod line;
 
-pub use line::{line, MAX_ANSWER, MAX_LINE};
+pub use line::{line, MAX_ANSWER};
 
 use crate::calls::{Answer, Calls, Marks};
 use code::{Code, MAX_T};
@@ -18,7 +18,7 @@ type Allowed = Result<(&'static Code, usize), Answer>;
 pub const CALLS: Calls = Calls { name: "plain Rust", encode, decode, marks };
 
 /// Writes the transmission of a message.
-pub fn encode(setting: u32, message: &[u8], transmission: &mut [u8]) -> Answer {
+fn encode(setting: u32, message: &[u8], transmission: &mut [u8]) -> Answer {
     match encode_questions(setting, message, transmission.len()) {
         Err(refusal) => refusal,
         Ok((code, length)) => {
@@ -29,12 +29,7 @@ pub fn encode(setting: u32, message: &[u8], transmission: &mut [u8]) -> Answer {
 }
 
 /// Writes the message that fits a reception and its transmission, or zeros after number 7.
-pub fn decode(
-    setting: u32,
-    reception: &[u8],
-    message: &mut [u8],
-    transmission: &mut [u8],
-) -> Answer {
+fn decode(setting: u32, reception: &[u8], message: &mut [u8], transmission: &mut [u8]) -> Answer {
     match decode_questions(setting, reception, message.len(), transmission.len()) {
         Err(refusal) => refusal,
         Ok((code, blocks)) => {
@@ -66,7 +61,7 @@ pub fn window_answer(setting: u32, reception: &[u8], j: u64) -> Answer {
 }
 
 /// Marks the differences of a reception and a transmission in window j.
-pub fn marks(setting: u32, reception: &[u8], transmission: &[u8], j: u64) -> Marks {
+fn marks(setting: u32, reception: &[u8], transmission: &[u8], j: u64) -> Marks {
     match marks_questions(setting, reception, transmission, j) {
         Err(answer) => Marks { answer, marks: 0, set: 0 },
         Ok((code, start)) => {

@@ -1,21 +1,31 @@
 //! Times encoding, clean decoding and decoding at the limit, and prints the figures as tables.
 
+#[cfg(archive)]
+use orderlink_bench::archive;
 use orderlink_bench::baseline;
-use orderlink_bench::calls::Calls;
-use orderlink_bench::oracle::Setting;
+use orderlink_bench::calls::{Answer, Calls};
+use orderlink_bench::oracle::{transmission, Setting, SETTINGS};
 use orderlink_bench::sample::{damage_evenly, Random};
 use std::hint::black_box;
 use std::time::Instant;
 
+/// The plain Rust first, then the verified library where it is linked.
+const IMPLEMENTATIONS: &[Calls] = &[
+    baseline::CALLS,
+    #[cfg(archive)]
+    archive::CALLS,
+];
+
+/// T of the orders that are timed.
 const LENGTHS: [usize; 3] = [8, 64, 512];
 
-/// Information blocks in one batch, whatever the frames' length.
+/// Information blocks in one batch, whatever the length of its orders.
 const BATCH_BLOCKS: usize = 4096;
 
 /// Timed batches of each kind; a round has one batch of every kind and implementation.
 const ROUNDS: usize = 100;
 
-#[derive(Clone, Copy)]
+#[derive(Clone, Copy, PartialEq)]
 enum Work {
     Encode,
     DecodeClean,
@@ -28,210 +38,174 @@ const WORKS: [(Work, &str); 3] = [
     (Work::DecodeAtLimit, "decode, at the limit"),
 ];
 
-/// Frames of one setting and length, and room for what a call writes.
-struct Frames {
-    setting: u32,
-    work: Work,
-    messages: Vec<Vec<u8>>,
-    receptions: Vec<Vec<u8>>,
+/// A message, what is sent of it and what is received.
+struct Order {
     message: Vec<u8>,
     transmission: Vec<u8>,
+    reception: Vec<u8>,
 }
 
-/// The nanoseconds per transmission symbol of one implementation's batches.
-struct Times(Vec<f64>);
-
-/// One line of the tables: frames, and times by implementation.
+/// One kind of batch: its orders, the areas that a call may write, and what was measured.
 struct Row {
+    setting: &'static Setting,
+    work: Work,
     call: &'static str,
     blocks: usize,
-    frames: Frames,
-    times: Vec<Times>,
+    orders: Vec<Order>,
+    message: Vec<u8>,
+    transmission: Vec<u8>,
+    /// Nanoseconds per transmission symbol, by implementation and then by batch.
+    times: Vec<Vec<f64>>,
 }
 
 fn main() {
-    let implementations = implementations();
-    let mut rows = rows(&implementations);
-    for round in 0..ROUNDS {
-        rows.iter_mut().for_each(|row| row.time(&implementations, round));
+    let mut rows = rows();
+    for row in &mut rows {
+        IMPLEMENTATIONS.iter().for_each(|calls| row.check(calls));
     }
-    print_times(&implementations, &rows);
-    print_growth(&implementations, &rows);
+    for round in 0..ROUNDS {
+        rows.iter_mut().for_each(|row| row.time(round));
+    }
+    print_times(&rows);
+    print_growth(&rows);
 }
 
-/// The plain Rust first, then the archive where it is linked.
-fn implementations() -> Vec<Calls> {
-    vec![
-        baseline::CALLS,
-        #[cfg(archive)]
-        orderlink_bench::archive::CALLS,
-    ]
-}
-
-/// Every setting, call and length in the order of the tables; all answers are checked first.
-fn rows(implementations: &[Calls]) -> Vec<Row> {
+/// Every setting, call and length in the order of the tables.
+fn rows() -> Vec<Row> {
     let mut rows = Vec::new();
-    for setting in 1..=3 {
+    for setting in &SETTINGS {
         for (work, call) in WORKS {
-            for blocks in LENGTHS {
-                let mut frames = Frames::new(setting, work, blocks);
-                implementations.iter().for_each(|calls| frames.check(calls));
-                let times = implementations.iter().map(|_| Times(Vec::new())).collect();
-                rows.push(Row { call, blocks, frames, times });
-            }
+            rows.extend(LENGTHS.map(|blocks| Row::new(setting, work, call, blocks)));
         }
     }
     rows
 }
 
 impl Row {
-    /// Times one batch of each implementation; another one goes first in the next round.
-    fn time(&mut self, implementations: &[Calls], round: usize) {
-        let symbols = self.frames.symbols() as f64;
-        for turn in 0..implementations.len() {
-            let i = (round + turn) % implementations.len();
-            let start = Instant::now();
-            self.frames.run(&implementations[i]);
-            self.times[i].0.push(start.elapsed().as_nanos() as f64 / symbols);
-        }
-    }
-}
-
-impl Times {
-    fn best(&self) -> f64 {
-        self.0.iter().copied().fold(f64::INFINITY, f64::min)
-    }
-
-    fn median(&self) -> f64 {
-        let mut times = self.0.clone();
-        times.sort_by(f64::total_cmp);
-        times[times.len() / 2]
-    }
-}
-
-impl Frames {
-    /// Random messages, their transmissions, and for the limit t altered symbols in each window.
-    fn new(setting: u32, work: Work, blocks: usize) -> Frames {
-        let row = Setting::of(setting).expect("a setting");
+    fn new(setting: &'static Setting, work: Work, call: &'static str, blocks: usize) -> Row {
         let random = &mut Random::new(blocks as u64);
-        let mut frames = Frames {
+        Row {
             setting,
             work,
-            messages: Vec::new(),
-            receptions: Vec::new(),
-            message: vec![0; blocks * row.k],
-            transmission: vec![0; (blocks + row.m) * row.n],
-        };
-        for _ in 0..BATCH_BLOCKS / blocks {
-            let message = random.symbols(row.q, blocks * row.k);
-            let mut reception = frames.transmission.clone();
-            baseline::encode(setting, &message, &mut reception);
-            if let Work::DecodeAtLimit = work {
-                damage_evenly(random, row, &mut reception, row.t);
-            }
-            frames.messages.push(message);
-            frames.receptions.push(reception);
-        }
-        frames
-    }
-
-    /// Transmission symbols in one batch.
-    fn symbols(&self) -> usize {
-        self.receptions.iter().map(Vec::len).sum()
-    }
-
-    /// One batch: every frame once.
-    fn run(&mut self, calls: &Calls) {
-        for (message, reception) in self.messages.iter().zip(&self.receptions) {
-            let answer = match self.work {
-                Work::Encode => {
-                    (calls.encode)(self.setting, black_box(message), &mut self.transmission)
-                }
-                _ => {
-                    let reception = black_box(reception);
-                    (calls.decode)(
-                        self.setting,
-                        reception,
-                        &mut self.message,
-                        &mut self.transmission,
-                    )
-                }
-            };
-            black_box((answer, &mut self.message, &mut self.transmission));
+            call,
+            blocks,
+            orders: (0..BATCH_BLOCKS / blocks)
+                .map(|_| Order::new(random, setting, work, blocks))
+                .collect(),
+            message: vec![0; setting.message_length(blocks)],
+            transmission: vec![0; setting.transmission_length(blocks)],
+            times: vec![Vec::new(); IMPLEMENTATIONS.len()],
         }
     }
 
-    /// Every frame must come out right before it is timed.
+    /// Every order must come out right before it is timed.
     fn check(&mut self, calls: &Calls) {
-        for (message, reception) in self.messages.iter().zip(&self.receptions) {
-            let mut expected = vec![0; reception.len()];
-            baseline::encode(self.setting, message, &mut expected);
+        for i in 0..self.orders.len() {
+            self.message.fill(0xff);
             self.transmission.fill(0xff);
-            let answer = match self.work {
-                Work::Encode => (calls.encode)(self.setting, message, &mut self.transmission),
-                _ => {
-                    self.message.fill(0xff);
-                    (calls.decode)(
-                        self.setting,
-                        reception,
-                        &mut self.message,
-                        &mut self.transmission,
-                    )
-                }
-            };
-            assert_eq!((answer.number, &self.transmission), (0, &expected), "{}", calls.name);
-            assert!(
-                matches!(self.work, Work::Encode) || self.message == *message,
-                "{}",
-                calls.name
-            );
+            let answer = self.call(calls, i);
+            let order = &self.orders[i];
+            let right = answer.number == 0
+                && self.transmission == order.transmission
+                && (self.work == Work::Encode || self.message == order.message);
+            assert!(right, "{}: setting {}, {}", calls.name, self.setting.number, self.call);
         }
+    }
+
+    /// Times one batch of each implementation; another one goes first in the next round.
+    fn time(&mut self, round: usize) {
+        let symbols = self.orders.len() * self.transmission.len();
+        for turn in 0..IMPLEMENTATIONS.len() {
+            let chosen = (round + turn) % IMPLEMENTATIONS.len();
+            let start = Instant::now();
+            for i in 0..self.orders.len() {
+                let answer = self.call(&IMPLEMENTATIONS[chosen], i);
+                black_box((answer, &mut self.message, &mut self.transmission));
+            }
+            self.times[chosen].push(start.elapsed().as_nanos() as f64 / symbols as f64);
+        }
+    }
+
+    /// Makes the timed call on order i.
+    fn call(&mut self, calls: &Calls, i: usize) -> Answer {
+        let Row { setting, orders, message, transmission, .. } = self;
+        match self.work {
+            Work::Encode => {
+                (calls.encode)(setting.number, black_box(&orders[i].message), transmission)
+            }
+            Work::DecodeClean | Work::DecodeAtLimit => {
+                let reception = black_box(&orders[i].reception);
+                (calls.decode)(setting.number, reception, message, transmission)
+            }
+        }
+    }
+
+    /// Best and median of each implementation, then their ratios to those of the first one.
+    fn figures(&self) -> Vec<f64> {
+        let both = |times: &Vec<f64>| [best(times), median(times)];
+        let mut figures: Vec<f64> = self.times.iter().flat_map(both).collect();
+        for times in &self.times[1..] {
+            figures.extend([best(times) / figures[0], median(times) / figures[1]]);
+        }
+        figures
     }
 }
 
-fn print_times(implementations: &[Calls], rows: &[Row]) {
+impl Order {
+    /// A random message, received clean or with t altered symbols in every window.
+    fn new(random: &mut Random, setting: &Setting, work: Work, blocks: usize) -> Order {
+        let message = random.symbols(setting, setting.message_length(blocks));
+        let transmission = transmission(setting, &message);
+        let mut reception = transmission.clone();
+        if work == Work::DecodeAtLimit {
+            damage_evenly(random, setting, &mut reception, setting.t);
+        }
+        Order { message, transmission, reception }
+    }
+}
+
+fn print_times(rows: &[Row]) {
     println!("Nanoseconds per transmission symbol, best and median of {ROUNDS} batches\n");
-    let mut columns = vec!["setting".to_string(), "call".to_string(), "T".to_string()];
-    for calls in implementations {
-        columns.extend(["best", "median"].map(|kind| format!("{}, {kind}", calls.name)));
-    }
-    if implementations.len() > 1 {
-        columns.extend(["best", "median"].map(|kind| format!("ratio, {kind}")));
-    }
-    print_head(&columns);
-    for Row { call, blocks, frames, times } in rows {
-        print!("| {} | {call} | {blocks} |", frames.setting);
-        for times in times {
-            print!(" {:.2} | {:.2} |", times.best(), times.median());
-        }
-        for other in &times[1..] {
-            print!(" {:.2} |", other.best() / times[0].best());
-            print!(" {:.2} |", other.median() / times[0].median());
-        }
+    let names = IMPLEMENTATIONS.iter().map(|calls| calls.name);
+    let names = names.chain(IMPLEMENTATIONS[1..].iter().map(|_| "ratio"));
+    let columns = names.flat_map(|name| [format!("{name}, best"), format!("{name}, median")]);
+    print_head(&["setting", "call", "T"], columns);
+    for row in rows {
+        print!("| {} | {} | {} |", row.setting.number, row.call, row.blocks);
+        row.figures().iter().for_each(|figure| print!(" {figure:.2} |"));
         println!();
     }
 }
 
 /// How the time per symbol changes from each length to the next.
-fn print_growth(implementations: &[Calls], rows: &[Row]) {
+fn print_growth(rows: &[Row]) {
     println!("\nGrowth of the best time per symbol with T; 1.00 is linear in T\n");
-    let mut columns = vec!["setting".to_string(), "call".to_string()];
-    for calls in implementations {
-        let steps = LENGTHS.windows(2);
-        columns.extend(steps.map(|step| format!("{}, {} to {}", calls.name, step[0], step[1])));
-    }
-    print_head(&columns);
+    let columns = IMPLEMENTATIONS.iter().flat_map(|calls| {
+        LENGTHS.windows(2).map(|step| format!("{}, {} to {}", calls.name, step[0], step[1]))
+    });
+    print_head(&["setting", "call"], columns);
     for rows in rows.chunks(LENGTHS.len()) {
-        print!("| {} | {} |", rows[0].frames.setting, rows[0].call);
-        for i in 0..implementations.len() {
-            let growth = |step: &[Row]| step[1].times[i].best() / step[0].times[i].best();
+        print!("| {} | {} |", rows[0].setting.number, rows[0].call);
+        for i in 0..IMPLEMENTATIONS.len() {
+            let growth = |step: &[Row]| best(&step[1].times[i]) / best(&step[0].times[i]);
             rows.windows(2).for_each(|step| print!(" {:.2} |", growth(step)));
         }
         println!();
     }
 }
 
-fn print_head(columns: &[String]) {
+fn print_head(columns: &[&str], figures: impl Iterator<Item = String>) {
+    let columns: Vec<String> = columns.iter().map(|name| name.to_string()).chain(figures).collect();
     println!("| {} |", columns.join(" | "));
     println!("|{}", "---|".repeat(columns.len()));
+}
+
+fn best(times: &[f64]) -> f64 {
+    times.iter().copied().fold(f64::INFINITY, f64::min)
+}
+
+fn median(times: &[f64]) -> f64 {
+    let mut times = times.to_vec();
+    times.sort_by(f64::total_cmp);
+    times[times.len() / 2]
 }

@@ -2,6 +2,7 @@
 
 /// A row of the table of settings.
 pub struct Setting {
+    pub number: u32,
     pub q: u8,
     pub n: usize,
     pub k: usize,
@@ -9,19 +10,27 @@ pub struct Setting {
     pub t: usize,
 }
 
-const SETTINGS: [Setting; 3] = [
-    Setting { q: 5, n: 4, k: 1, m: 2, t: 4 },
-    Setting { q: 8, n: 7, k: 2, m: 2, t: 5 },
-    Setting { q: 8, n: 7, k: 3, m: 1, t: 3 },
+/// The table of settings.
+pub static SETTINGS: [Setting; 3] = [
+    Setting { number: 1, q: 5, n: 4, k: 1, m: 2, t: 4 },
+    Setting { number: 2, q: 8, n: 7, k: 2, m: 2, t: 5 },
+    Setting { number: 3, q: 8, n: 7, k: 3, m: 1, t: 3 },
 ];
 
 impl Setting {
-    /// The setting with a number, if it is 1, 2 or 3.
+    /// The setting with a number, if there is one.
     pub fn of(number: u32) -> Option<&'static Setting> {
-        match number {
-            1..=3 => Some(&SETTINGS[number as usize - 1]),
-            _ => None,
-        }
+        SETTINGS.iter().find(|setting| setting.number == number)
+    }
+
+    /// Symbols in a message of T blocks.
+    pub fn message_length(&self, blocks: usize) -> usize {
+        blocks * self.k
+    }
+
+    /// Symbols in the transmission of a message of T blocks.
+    pub fn transmission_length(&self, blocks: usize) -> usize {
+        (blocks + self.m) * self.n
     }
 
     /// a + b: modulo 5, or exclusive or.

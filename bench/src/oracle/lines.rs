@@ -24,13 +24,13 @@ pub fn line(text: &[u8]) -> String {
     if blocks > 512 {
         return refusal(3, 0);
     }
-    if blocks < 1 || text.len() - 4 != (blocks + setting.m) * setting.n {
+    if blocks < 1 || text.len() - 4 != setting.transmission_length(blocks) {
         return refusal(10, 0);
     }
     let symbol = |c: char| c.to_digit(16).expect("a digit") as u8;
     let reception: Vec<u8> = digits[4..].chars().map(symbol).collect();
-    let areas = (vec![0; blocks * setting.k], vec![0; reception.len()]);
-    let (answer, message, _) = decode(number, &reception, &areas.0, &areas.1);
+    let mut message = vec![0; setting.message_length(blocks)];
+    let answer = decode(number, &reception, &mut message, &mut vec![0; reception.len()]);
     if answer.number != 0 {
         return refusal(answer.number, answer.place as usize);
     }

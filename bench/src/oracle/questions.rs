@@ -4,67 +4,70 @@ use super::definition::Setting;
 use super::search::{fitting, transmission};
 use crate::calls::{Answer, Marks};
 
-/// The answer of an encoding call and its transmission area afterwards.
-pub fn encode(number: u32, message: &[u8], area: &[u8]) -> (Answer, Vec<u8>) {
-    let refused = |answer| (answer, area.to_vec());
+/// Questions 1, 8, 3, 4, 6; then fills the area.
+pub fn encode(number: u32, message: &[u8], area: &mut [u8]) -> Answer {
     let Some(setting) = Setting::of(number) else {
-        return refused(Answer::no(1));
+        return Answer::no(1);
     };
     if !message.len().is_multiple_of(setting.k) || message.len() < setting.k {
-        return refused(Answer::no(8));
+        return Answer::no(8);
     }
     let blocks = message.len() / setting.k;
     if blocks > 512 {
-        return refused(Answer::no(3));
+        return Answer::no(3);
     }
     if let Some(place) = first_wrong_symbol(setting, message) {
-        return refused(Answer::no_at(4, place));
+        return Answer::no_at(4, place);
     }
-    if area.len() < (blocks + setting.m) * setting.n {
-        return refused(Answer::no(6));
+    let length = setting.transmission_length(blocks);
+    if area.len() < length {
+        return Answer::no(6);
     }
-    (Answer::YES, filled(area, &transmission(number, message)))
+    area[..length].copy_from_slice(&transmission(setting, message));
+    Answer::YES
 }
 
-/// The answer of a decoding call, then its message and transmission areas afterwards.
+/// Questions 1 to 7; fills both areas, after 7 with zeros.
 pub fn decode(
     number: u32,
     reception: &[u8],
-    message_area: &[u8],
-    transmission_area: &[u8],
-) -> (Answer, Vec<u8>, Vec<u8>) {
-    let refused = |answer| (answer, message_area.to_vec(), transmission_area.to_vec());
+    message_area: &mut [u8],
+    transmission_area: &mut [u8],
+) -> Answer {
     let (setting, blocks) = match reception_questions(number, reception) {
-        Err(answer) => return refused(answer),
+        Err(refusal) => return refusal,
         Ok(found) => found,
     };
     if let Some(place) = first_wrong_symbol(setting, reception) {
-        return refused(Answer::no_at(4, place));
+        return Answer::no_at(4, place);
     }
-    if message_area.len() < blocks * setting.k {
-        return refused(Answer::no(5));
+    let message_length = setting.message_length(blocks);
+    if message_area.len() < message_length {
+        return Answer::no(5);
     }
     if transmission_area.len() < reception.len() {
-        return refused(Answer::no(6));
+        return Answer::no(6);
     }
-    let messages = fitting(number, reception);
+    let message_area = &mut message_area[..message_length];
+    let transmission_area = &mut transmission_area[..reception.len()];
+    let messages = fitting(setting, reception);
     assert!(messages.len() <= 1, "two messages fit one reception: {messages:?}");
-    let (answer, message, sent) = match messages.first() {
-        None => (Answer::no(7), vec![0; blocks * setting.k], vec![0; reception.len()]),
-        Some(message) => {
-            let sent = transmission(number, message);
-            let altered = sent.iter().zip(reception).filter(|(a, b)| a != b).count();
-            (Answer { altered: altered as u32, ..Answer::YES }, message.clone(), sent)
-        }
+    let Some(message) = messages.first() else {
+        message_area.fill(0);
+        transmission_area.fill(0);
+        return Answer::no(7);
     };
-    (answer, filled(message_area, &message), filled(transmission_area, &sent))
+    message_area.copy_from_slice(message);
+    transmission_area.copy_from_slice(&transmission(setting, message));
+    let altered = transmission_area.iter().zip(reception).filter(|(a, b)| a != b).count();
+    Answer { altered: altered as u32, ..Answer::YES }
 }
 
-/// The answer of a marking call.
+/// Questions 1, 2, 3, 12, 13; then a mark for each difference in window j.
 pub fn marks(number: u32, reception: &[u8], transmission: &[u8], j: u64) -> Marks {
     let refused = |answer| Marks { answer, marks: 0, set: 0 };
     let (setting, blocks) = match reception_questions(number, reception) {
-        Err(answer) => return refused(answer),
+        Err(refusal) => return refused(refusal),
         Ok(found) => found,
     };
     if j >= blocks as u64 {
@@ -97,11 +100,7 @@ fn reception_questions(number: u32, reception: &[u8]) -> Result<(&'static Settin
     Ok((setting, blocks))
 }
 
+/// Question 4's place.
 fn first_wrong_symbol(setting: &Setting, symbols: &[u8]) -> Option<usize> {
     symbols.iter().position(|&symbol| symbol >= setting.q)
-}
-
-/// An area whose first bytes were written and whose tail stayed.
-fn filled(area: &[u8], written: &[u8]) -> Vec<u8> {
-    [written, &area[written.len()..]].concat()
 }

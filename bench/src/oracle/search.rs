@@ -22,11 +22,10 @@ struct Search<'a> {
 }
 
 /// Every message that fits a well-formed reception. Demand 3 says that there is at most one.
-pub fn fitting(number: u32, reception: &[u8]) -> Vec<Vec<u8>> {
-    let setting = Setting::of(number).expect("a setting");
+pub fn fitting(setting: &Setting, reception: &[u8]) -> Vec<Vec<u8>> {
     let mut search = Search {
         setting,
-        contributions: contributions(number),
+        contributions: contributions(setting),
         reception: reception.chunks(setting.n).collect(),
         chosen: Vec::new(),
         distances: Vec::new(),
@@ -37,18 +36,17 @@ pub fn fitting(number: u32, reception: &[u8]) -> Vec<Vec<u8>> {
 }
 
 /// The transmission of a well-formed message.
-pub fn transmission(number: u32, message: &[u8]) -> Vec<u8> {
-    let setting = Setting::of(number).expect("a setting");
-    let contributions = contributions(number);
-    let place = |block| contributions.information.iter().position(|other| other == block).unwrap();
-    let mut chosen: Vec<usize> = Vec::new();
-    let mut transmission = Vec::new();
+pub fn transmission(setting: &Setting, message: &[u8]) -> Vec<u8> {
+    let contributions = contributions(setting);
     let closing = vec![0; setting.m * setting.k];
+    let mut chosen = Vec::new();
+    let mut transmission = Vec::new();
     for block in message.chunks(setting.k).chain(closing.chunks(setting.k)) {
         let earlier = earlier_part(setting, contributions, &chosen);
-        chosen.push(place(block));
-        let own = &contributions.blocks[0][chosen[chosen.len() - 1]];
+        let place = place(setting, block);
+        let own = &contributions.blocks[0][place];
         transmission.extend(earlier.iter().zip(own).map(|(&a, &b)| setting.add(a, b)));
+        chosen.push(place);
     }
     transmission
 }
@@ -103,10 +101,9 @@ fn earlier_part(setting: &Setting, contributions: &Contributions, chosen: &[usiz
 }
 
 /// The contributions of a setting, made once.
-fn contributions(number: u32) -> &'static Contributions {
+fn contributions(setting: &Setting) -> &'static Contributions {
     static TABLES: [OnceLock<Contributions>; 3] = [const { OnceLock::new() }; 3];
-    TABLES[number as usize - 1].get_or_init(|| {
-        let setting = Setting::of(number).expect("a setting");
+    TABLES[setting.number as usize - 1].get_or_init(|| {
         let information = all_blocks(setting.q, setting.k);
         let contribution = |j| information.iter().map(|u| setting.contribution(u, j)).collect();
         let blocks = (0..=setting.m).map(contribution).collect();
@@ -114,7 +111,7 @@ fn contributions(number: u32) -> &'static Contributions {
     })
 }
 
-/// All rows of k symbols, the zero row first.
+/// All rows of k symbols, in the order of the numbers that they write in base q.
 fn all_blocks(q: u8, k: usize) -> Vec<Vec<u8>> {
     (0..k).fold(vec![Vec::new()], |rows, _| {
         let longer = |row: &Vec<u8>| -> Vec<Vec<u8>> {
@@ -122,4 +119,9 @@ fn all_blocks(q: u8, k: usize) -> Vec<Vec<u8>> {
         };
         rows.iter().flat_map(longer).collect()
     })
+}
+
+/// An information block's place among all of them.
+fn place(setting: &Setting, block: &[u8]) -> usize {
+    block.iter().fold(0, |place, &symbol| place * setting.q as usize + symbol as usize)
 }

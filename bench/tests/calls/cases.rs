@@ -1,0 +1,167 @@
+//! Random calls: mostly well-formed, received with every kind of damage, breaking every rule of 01.
+
+use crate::call::Call;
+use orderlink_bench::oracle::{transmission, Setting, SETTINGS};
+use orderlink_bench::sample::{alter, damage_evenly, damage_up_to, Random};
+
+/// Numbers that are no setting, some of which are one modulo 256 or 65,536.
+const NO_SETTINGS: [u32; 10] = [0, 4, 5, 6, 8, 255, 257, 259, 65_537, u32::MAX];
+
+/// A decoding call with at most `longest` information blocks.
+pub fn decode(random: &mut Random, longest: usize) -> Call {
+    let (setting, blocks) = (random.pick(&SETTINGS), random.between(1, longest));
+    let mut number = setting.number;
+    let mut reception = reception(random, setting, blocks);
+    let mut message = area(random, setting.message_length(blocks));
+    let mut transmission = area(random, setting.transmission_length(blocks));
+    for rule in broken(random, 5) {
+        match rule {
+            0 => number = *random.pick(&NO_SETTINGS),
+            1 => change_length(random, &mut reception),
+            2 => spoil(random, setting, &mut reception),
+            3 => shorten(random, &mut message, setting.message_length(blocks)),
+            _ => shorten(random, &mut transmission, setting.transmission_length(blocks)),
+        }
+    }
+    Call::Decode { setting: number, reception, message, transmission }
+}
+
+/// An encoding call with at most `longest` information blocks.
+pub fn encode(random: &mut Random, longest: usize) -> Call {
+    let (setting, blocks) = (random.pick(&SETTINGS), random.between(1, longest));
+    let mut number = setting.number;
+    let mut message = message(random, setting, blocks);
+    let mut transmission = area(random, setting.transmission_length(blocks));
+    for rule in broken(random, 4) {
+        match rule {
+            0 => number = *random.pick(&NO_SETTINGS),
+            1 => change_length(random, &mut message),
+            2 => spoil(random, setting, &mut message),
+            _ => shorten(random, &mut transmission, setting.transmission_length(blocks)),
+        }
+    }
+    Call::Encode { setting: number, message, transmission }
+}
+
+/// A marking call with at most `longest` information blocks.
+pub fn marks(random: &mut Random, longest: usize) -> Call {
+    let (setting, blocks) = (random.pick(&SETTINGS), random.between(1, longest));
+    let mut number = setting.number;
+    let mut reception = reception(random, setting, blocks);
+    let mut transmission = reception.clone();
+    if random.once_in(4) {
+        transmission = random.symbols(setting, reception.len());
+    }
+    for _ in 0..random.below(20) {
+        let place = random.below(transmission.len());
+        transmission[place] = random.number() as u8;
+    }
+    let mut j = random.below(blocks) as u64;
+    for rule in broken(random, 5) {
+        match rule {
+            0 => number = *random.pick(&NO_SETTINGS),
+            1 => change_length(random, &mut reception),
+            2 => change_length(random, &mut transmission),
+            3 => j = blocks as u64 + random.below(3) as u64,
+            _ => j = *random.pick(&[1 << 32, 1 << 63, u64::MAX]),
+        }
+    }
+    Call::Marks { setting: number, reception, transmission, j }
+}
+
+/// Which of a number of rules a call breaks: none in three of four calls, else one or two.
+fn broken(random: &mut Random, rules: usize) -> Vec<usize> {
+    let count = if random.once_in(4) { random.between(1, 2) } else { 0 };
+    (0..count).map(|_| random.below(rules)).collect()
+}
+
+/// A random message, often one with many zero blocks.
+fn message(random: &mut Random, setting: &Setting, blocks: usize) -> Vec<u8> {
+    let mut message = random.symbols(setting, setting.message_length(blocks));
+    if random.once_in(3) {
+        for block in message.chunks_mut(setting.k) {
+            if !random.once_in(4) {
+                block.fill(0);
+            }
+        }
+    }
+    message
+}
+
+/// A well-formed reception: a transmission clean or damaged below, at or above the limit, or noise.
+fn reception(random: &mut Random, setting: &Setting, blocks: usize) -> Vec<u8> {
+    let mut reception = transmission(setting, &message(random, setting, blocks));
+    match random.below(9) {
+        0 => {}
+        1 => reception = random.symbols(setting, reception.len()),
+        2 => mix(random, setting, blocks, &mut reception),
+        3 => replace_block(random, setting, &mut reception),
+        4 => scatter(random, setting, &mut reception),
+        5 => damage_up_to(random, setting, &mut reception, setting.t - 1),
+        6 => damage_up_to(random, setting, &mut reception, setting.t),
+        7 => damage_evenly(random, setting, &mut reception, setting.t),
+        _ => {
+            damage_up_to(random, setting, &mut reception, setting.t);
+            let place = random.below(reception.len());
+            alter(random, setting, &mut reception[place]);
+        }
+    }
+    reception
+}
+
+/// Takes every other symbol, about, from another transmission.
+fn mix(random: &mut Random, setting: &Setting, blocks: usize, reception: &mut [u8]) {
+    let other = transmission(setting, &message(random, setting, blocks));
+    for (symbol, other) in reception.iter_mut().zip(other) {
+        if random.once_in(2) {
+            *symbol = other;
+        }
+    }
+}
+
+/// Fills one block with random symbols.
+fn replace_block(random: &mut Random, setting: &Setting, reception: &mut [u8]) {
+    let start = random.below(reception.len() / setting.n) * setting.n;
+    let block = random.symbols(setting, setting.n);
+    reception[start..][..setting.n].copy_from_slice(&block);
+}
+
+/// Alters symbols anywhere.
+fn scatter(random: &mut Random, setting: &Setting, reception: &mut [u8]) {
+    for _ in 0..random.between(1, 2 + reception.len() / 3) {
+        let place = random.below(reception.len());
+        alter(random, setting, &mut reception[place]);
+    }
+}
+
+/// A lent area of at least `length` bytes that holds anything.
+fn area(random: &mut Random, length: usize) -> Vec<u8> {
+    let more = if random.once_in(2) { 0 } else { random.below(20) };
+    random.bytes(length + more)
+}
+
+/// Makes an area too short for `length` bytes, often by just one.
+fn shorten(random: &mut Random, area: &mut Vec<u8>, length: usize) {
+    area.truncate(if random.once_in(2) { length - 1 } else { random.below(length) });
+}
+
+/// Takes bytes away, or adds a few zeros, or leaves as many as a short order has.
+fn change_length(random: &mut Random, bytes: &mut Vec<u8>) {
+    let length = match random.below(3) {
+        0 => random.below(bytes.len() + 1),
+        1 => bytes.len() + random.between(1, 8),
+        _ => random.below(22),
+    };
+    bytes.resize(length, 0);
+}
+
+/// Puts one to three bytes not below q somewhere.
+fn spoil(random: &mut Random, setting: &Setting, bytes: &mut [u8]) {
+    for _ in 0..random.between(1, 3) {
+        if bytes.is_empty() {
+            return;
+        }
+        let place = random.below(bytes.len());
+        bytes[place] = random.between(setting.q as usize, 255) as u8;
+    }
+}

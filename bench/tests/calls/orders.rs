@@ -1,0 +1,125 @@
+//! Calls whose outcome needs no search: the orders worked through in document 01, orders damaged
+//! up to the limit, the longest orders and those too long.
+
+use crate::call::{Call, Outcome};
+use orderlink_bench::calls::{Answer, Marks};
+use orderlink_bench::oracle::{transmission, Setting, SETTINGS};
+use orderlink_bench::sample::{alter, damage_evenly, Random};
+
+type Known = (Call, Outcome);
+
+/// What the areas that a call may write hold before it.
+const UNUSED: u8 = 0xee;
+
+/// The ten starred orders.
+pub fn starred() -> Vec<Known> {
+    vec![
+        encoded(1, "1", "2431 2323 2134"),
+        encoded(1, "12214334", "2431 1130 0032 0230 4100 1004 0023 0320 4024 3421"),
+        encoded(2, "10", "3132210 3411430 3665350"),
+        encoded(3, "100", "5774100 5266700"),
+        encoded(3, "010", "0577410 0461120"),
+        decoded("2400 1100 0000 0230 4100 0000 0023 0320 0000 3400", "00000000", 14),
+        refused("2431 1130 0000 0200 4100 0004 0003 0020 0004 3400"),
+        decoded("0000 0000 0000", "0", 0),
+        decoded("2431 2323 0000", "1", 4),
+        refused("2431 2320 0000"),
+    ]
+}
+
+/// A random order with just t altered symbols in every window comes back.
+pub fn at_the_limit(random: &mut Random, setting: &Setting) -> Known {
+    let blocks = random.between(1, 512);
+    let message = random.symbols(setting, setting.message_length(blocks));
+    let sent = transmission(setting, &message);
+    let mut reception = sent.clone();
+    damage_evenly(random, setting, &mut reception, setting.t);
+    let altered = sent.iter().zip(&reception).filter(|(a, b)| a != b).count();
+    decoding(setting.number, reception, yes(altered), message, sent)
+}
+
+/// Orders of 512 blocks: encoded, decoded with the last symbol altered, and that symbol marked.
+pub fn longest() -> Vec<Known> {
+    let random = &mut Random::new(512);
+    let calls = |setting: &Setting| {
+        let message = random.symbols(setting, setting.message_length(512));
+        let sent = transmission(setting, &message);
+        let mut reception = sent.clone();
+        alter(random, setting, &mut reception[sent.len() - 1]);
+        let last = 1 << ((setting.m + 1) * setting.n - 1);
+        let marks = Marks { answer: yes(0), marks: last, set: 1 };
+        [
+            encoding(setting.number, message.clone(), yes(0), sent.clone()),
+            marking(setting.number, reception.clone(), sent.clone(), 511, marks),
+            decoding(setting.number, reception, yes(1), message, sent),
+        ]
+    };
+    SETTINGS.iter().flat_map(calls).collect()
+}
+
+/// Orders of 513 blocks get 3 from every call, and nothing is written.
+pub fn too_long() -> Vec<Known> {
+    let calls = |setting: &Setting| {
+        let message = vec![0; setting.message_length(513)];
+        let sent = vec![0; setting.transmission_length(513)];
+        let unused = (vec![UNUSED; message.len()], vec![UNUSED; sent.len()]);
+        let answer = Answer::no(3);
+        let marks = Marks { answer, marks: 0, set: 0 };
+        [
+            encoding(setting.number, message, answer, unused.1.clone()),
+            marking(setting.number, sent.clone(), sent.clone(), 512, marks),
+            decoding(setting.number, sent, answer, unused.0, unused.1),
+        ]
+    };
+    SETTINGS.iter().flat_map(calls).collect()
+}
+
+/// A message with its transmission.
+fn encoded(setting: u32, message: &str, sent: &str) -> Known {
+    encoding(setting, symbols(message), yes(0), symbols(sent))
+}
+
+/// A reception in setting 1 with the message that fits and the altered count.
+fn decoded(reception: &str, message: &str, altered: usize) -> Known {
+    let message = symbols(message);
+    let sent = transmission(&SETTINGS[0], &message);
+    decoding(1, symbols(reception), yes(altered), message, sent)
+}
+
+/// A reception in setting 1 that no message fits.
+fn refused(reception: &str) -> Known {
+    let reception = symbols(reception);
+    let zeros = (vec![0; reception.len() / 4 - 2], vec![0; reception.len()]);
+    decoding(1, reception, Answer::no(7), zeros.0, zeros.1)
+}
+
+fn encoding(setting: u32, message: Vec<u8>, answer: Answer, after: Vec<u8>) -> Known {
+    let call = Call::Encode { setting, message, transmission: vec![UNUSED; after.len()] };
+    (call, Outcome::Encoded { answer, transmission: after })
+}
+
+fn decoding(
+    setting: u32,
+    reception: Vec<u8>,
+    answer: Answer,
+    message: Vec<u8>,
+    transmission: Vec<u8>,
+) -> Known {
+    let before = (vec![UNUSED; message.len()], vec![UNUSED; transmission.len()]);
+    let call = Call::Decode { setting, reception, message: before.0, transmission: before.1 };
+    (call, Outcome::Decoded { answer, message, transmission })
+}
+
+fn marking(setting: u32, reception: Vec<u8>, sent: Vec<u8>, j: u64, marks: Marks) -> Known {
+    let call = Call::Marks { setting, reception, transmission: sent, j };
+    (call, Outcome::Marked(marks))
+}
+
+fn yes(altered: usize) -> Answer {
+    Answer { altered: altered as u32, ..Answer::YES }
+}
+
+/// The digits of a text as symbols.
+fn symbols(text: &str) -> Vec<u8> {
+    text.chars().filter_map(|c| c.to_digit(10)).map(|digit| digit as u8).collect()
+}

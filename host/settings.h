@@ -1,0 +1,51 @@
+/* The table of settings, and damage up to a setting's limit, for the programs in this folder. */
+#ifndef SETTINGS_H
+#define SETTINGS_H
+
+#include <stddef.h>
+#include <stdint.h>
+
+enum { SETTING_COUNT = 3, MOST_BLOCKS = 512 };
+
+/* A row of the table; the letters are those of orderlink.h. */
+struct setting {
+    uint32_t number;
+    uint32_t q;
+    size_t n;
+    size_t k;
+    size_t m;
+    uint32_t t;
+};
+
+static const struct setting settings[SETTING_COUNT] = {
+    /* number, q, n, k, m, t */
+    { 1, 5, 4, 1, 2, 4 },
+    { 2, 8, 7, 2, 2, 5 },
+    { 3, 8, 7, 3, 1, 3 },
+};
+
+static inline size_t message_length(const struct setting *setting, size_t blocks)
+{
+    return blocks * setting->k;
+}
+
+static inline size_t transmission_length(const struct setting *setting, size_t blocks)
+{
+    return (blocks + setting->m) * setting->n;
+}
+
+/* Copies a transmission with exactly t symbols of every window altered; returns how many in all. */
+static inline uint32_t damage(const struct setting *setting, const uint8_t *sent,
+                              uint8_t *reception, size_t length)
+{
+    size_t window = (setting->m + 1) * setting->n;
+    uint32_t altered = 0;
+    for (size_t i = 0; i < length; i++) {
+        uint32_t hit = i % window % 2 == 0 && i % window < 2 * setting->t;
+        reception[i] = (uint8_t)((sent[i] + hit) % setting->q);
+        altered += hit;
+    }
+    return altered;
+}
+
+#endif
