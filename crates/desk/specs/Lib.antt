@@ -1,2 +1,4 @@
--- What the desk's functions require of one another.
+-- What the desk does with a text, and what its functions promise one another.
+pub mod Texts
 pub mod Reading
+pub mod Sample

@@ -1,40 +1,22 @@
-// The lines of a buffer, and their answers.
-ghost use mathlib.Core.Path.{_≡_};
-ghost use mathlib.Core.Bool.{false};
-ghost use Prim.Native.Nat.{_+_, _≤_, _<_};
-ghost use lib.ListN.{length};
-ghost use Rattle.desk.specs.Reading.{Kept};
-use libc::STDOUT_FILENO;
+// The lines of a text that comes in buffers, and their answers: no reading or writing here.
+ghost use mathlib.Core.List.{List, _++_};
+ghost use Prim.Native.Nat.{ℕ, _+_, _≤_, _<_};
+ghost use lib.ListN.{length, take};
+ghost use Rattle.line.specs.Questions.{mostCharacters};
+ghost use Rattle.desk.specs.Texts.{lastOf, Output};
+ghost use Rattle.desk.specs.Reading.{answerRoom, Within, Holds, Behind, Reached};
 
-// How much output waits to be written, and whether every write so far went through.
-pub struct Waiting {
-    pub filled: usize,
-    pub open: bool,
-}
-
-// How far a buffer is read: from where, how many characters of the line there are kept, and the output that waits.
+// How far a buffer is read, how many characters of the unfinished line there are kept, and how much output waits.
 pub struct Progress {
     pub from: usize,
     pub held: usize,
     pub filled: usize,
-    pub open: bool,
-}
-
-// Writes the output that waits; after a write that failed, none.
-pub fn send(output: &[u8], filled: usize, open: bool) -> bool
-    requires { ⌜ filled ≤ length (now output) ⌝ }
-    ensures { λ r. ⌜ («open» ≡ false → r ≡ false) ⌝ }
-{
-    if !open {
-        return false;
-    }
-    io::write_all(STDOUT_FILENO, &output[0..filled])
 }
 
 // Keeps a part of a line behind the characters that are kept already, as far as there is room: one character more than a line may have.
 fn keep(part: &[u8], line: &mut [u8], held: usize) -> usize
     requires { ⌜ held ≤ length (now line) ⌝ }
-    ensures { λ r. ⌜ r ≤ length (now (line .entry)) ⌝ }
+    ensures { λ r. ⌜ (r ≤ length (now (line .entry))) × ((begun : List ℕ) → Holds begun (now (line .entry)) held → Holds (begun ++ now (part .entry)) (now (line .exit)) r) ⌝ }
 {
     let room = line.len() - held;
     if room < part.len() {
@@ -47,8 +29,8 @@ fn keep(part: &[u8], line: &mut [u8], held: usize) -> usize
 
 // The answer to a line, and its newline, behind the output that waits.
 fn put(line: &[u8], output: &mut [u8], filled: usize) -> usize
-    requires { ⌜ filled + 1547 ≤ length (now output) ⌝ }
-    ensures { λ r. ⌜ r ≤ length (now (output .entry)) ⌝ }
+    requires { ⌜ filled + answerRoom ≤ length (now output) ⌝ }
+    ensures { λ r. ⌜ Behind (now (line .entry)) (now (output .entry)) filled (now (output .exit)) r ⌝ }
 {
     let long = line::answer_line(line, &mut output[filled..]);
     let end = filled + long;
@@ -56,28 +38,10 @@ fn put(line: &[u8], output: &mut [u8], filled: usize) -> usize
     end + 1
 }
 
-// The same, where the output that waits is written first if there is no room for an answer.
-pub fn answer(line: &[u8], output: &mut [u8], filled: usize, open: bool) -> Waiting
-    requires { ⌜ (filled ≤ length (now output)) × (1547 ≤ length (now output)) ⌝ }
-    ensures { λ r. ⌜ r .filled ≤ length (now (output .entry)) ⌝ }
-{
-    if output.len() - filled < 1547 {
-        let sent = send(output, filled, open);
-        return Waiting {
-            filled: put(line, output, 0),
-            open: sent,
-        };
-    }
-    Waiting {
-        filled: put(line, output, filled),
-        open: open,
-    }
-}
-
 // Reads on to the next newline and answers its line, or to the end of the buffer.
 fn step(buffer: &[u8], line: &mut [u8], output: &mut [u8], progress: Progress) -> Progress
-    requires { ⌜ Kept (length (now buffer)) (length (now line)) (length (now output)) progress × (progress .from < length (now buffer)) ⌝ }
-    ensures { λ r. ⌜ Kept (length (now (buffer .entry))) (length (now (line .entry))) (length (now (output .entry))) r × (progress .from < r .from) ⌝ }
+    requires { ⌜ Within (length (now buffer)) (length (now line)) (length (now output)) progress × (progress .from < length (now buffer)) × (mostCharacters < length (now line)) × (progress .filled + answerRoom ≤ length (now output)) ⌝ }
+    ensures { λ r. ⌜ Within (length (now (buffer .entry))) (length (now (line .entry))) (length (now (output .entry))) r × (progress .from < r .from) × ((begun : List ℕ) → Reached begun (take (progress .from) (now (buffer .entry))) (now (line .entry)) (progress .held) (now (output .entry)) (progress .filled) → Reached begun (take (r .from) (now (buffer .entry))) (now (line .exit)) (r .held) (now (output .exit)) (r .filled)) ⌝ }
 {
     let from = progress.from;
     let to = bytes::scan::find(buffer, from, buffer.len(), b'\n');
@@ -87,31 +51,42 @@ fn step(buffer: &[u8], line: &mut [u8], output: &mut [u8], progress: Progress) -
             from: to,
             held: held,
             filled: progress.filled,
-            open: progress.open,
         };
     }
-    let waiting = answer(&line[0..held], output, progress.filled, progress.open);
+    let filled = put(&line[0..held], output, progress.filled);
     Progress {
         from: to + 1,
         held: 0,
-        filled: waiting.filled,
-        open: waiting.open,
+        filled: filled,
     }
 }
 
-// Answers every line that ends in the buffer, and keeps what follows.
-pub fn lines_in(buffer: &[u8], line: &mut [u8], held: usize, output: &mut [u8]) -> Progress
-    requires { ⌜ (held ≤ length (now line)) × (1547 ≤ length (now output)) ⌝ }
-    ensures { λ r. ⌜ Kept (length (now (buffer .entry))) (length (now (line .entry))) (length (now (output .entry))) r ⌝ }
+// Answers the lines that end in the buffer, as far as the output has room, and keeps the line that follows.
+pub fn answer_lines(buffer: &[u8], line: &mut [u8], held: usize, output: &mut [u8]) -> Progress
+    requires { ⌜ (held ≤ length (now line)) × (mostCharacters < length (now line)) × (answerRoom ≤ length (now output)) ⌝ }
+    ensures { λ r. ⌜ Within (length (now (buffer .entry))) (length (now (line .entry))) (length (now (output .entry))) r × (0 < length (now (buffer .entry)) → 0 < r .from) × ((begun : List ℕ) → Holds begun (now (line .entry)) held → Reached begun (take (r .from) (now (buffer .entry))) (now (line .exit)) (r .held) (now (output .exit)) (r .filled)) ⌝ }
 {
     let mut progress = Progress {
         from: 0,
         held: held,
         filled: 0,
-        open: true,
     };
     while progress.from < buffer.len() {
+        if output.len() - progress.filled < 1547 {
+            return progress;
+        }
         progress = step(buffer, line, output, progress);
     }
     progress
+}
+
+// Answers the last line, where no newline ends it; an empty one is none.
+pub fn answer_last(line: &[u8], held: usize, output: &mut [u8]) -> usize
+    requires { ⌜ (held ≤ length (now line)) × (mostCharacters < length (now line)) × (answerRoom ≤ length (now output)) ⌝ }
+    ensures { λ r. ⌜ (r ≤ length (now (output .entry))) × ((begun : List ℕ) → Holds begun (now (line .entry)) held → Output (lastOf begun) (take r (now (output .exit)))) ⌝ }
+{
+    if held == 0 {
+        return 0;
+    }
+    put(&line[0..held], output, 0)
 }

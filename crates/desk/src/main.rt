@@ -2,8 +2,15 @@
 mod lines;
 
 use libc::STDIN_FILENO;
-ghost use Prim.Native.Nat.{_≤_, _<_};
+use libc::STDOUT_FILENO;
+ghost use mathlib.Core.Path.{_≡_};
+ghost use mathlib.Core.Bool.{true};
+ghost use mathlib.Core.List.{List};
+ghost use Prim.Native.Nat.{ℕ, _≤_, _<_};
 ghost use lib.ListN.{length};
+ghost use Rattle.line.specs.Questions.{mostCharacters};
+ghost use Rattle.desk.specs.Texts.{restOf};
+ghost use Rattle.desk.specs.Reading.{answerRoom, Holds};
 
 // What a turn leaves: how many characters of an unfinished line are kept, and whether to read on.
 struct After {
@@ -11,9 +18,33 @@ struct After {
     more: bool,
 }
 
-// One read, the lines that it ends, and one write.
+// Answers the lines that a text ends; the answers are written when the output is full, and at the end of the text.
+fn answer_text(text: &[u8], line: &mut [u8], held: usize, output: &mut [u8]) -> After
+    requires { ⌜ (held ≤ length (now line)) × (mostCharacters < length (now line)) × (answerRoom ≤ length (now output)) ⌝ }
+    ensures { λ r. ⌜ (r .held ≤ length (now (line .entry))) × ((begun : List ℕ) → Holds begun (now (line .entry)) held → r .more ≡ true → Holds (restOf begun (now (text .entry))) (now (line .exit)) (r .held)) ⌝ }
+{
+    let mut kept = held;
+    let mut from: usize = 0;
+    while from < text.len() {
+        let next = lines::answer_lines(&text[from..], line, kept, output);
+        if !io::write_all(STDOUT_FILENO, &output[..next.filled]) {
+            return After {
+                held: 0,
+                more: false,
+            };
+        }
+        kept = next.held;
+        from += next.from;
+    }
+    After {
+        held: kept,
+        more: true,
+    }
+}
+
+// One read, and the answers to the lines that it ends.
 fn turn(input: &mut [u8], line: &mut [u8], held: usize, output: &mut [u8]) -> After
-    requires { ⌜ (held ≤ length (now line)) × (1547 ≤ length (now output)) ⌝ }
+    requires { ⌜ (held ≤ length (now line)) × (mostCharacters < length (now line)) × (answerRoom ≤ length (now output)) ⌝ }
     ensures { λ r. ⌜ r .held ≤ length (now (line .entry)) ⌝ }
 {
     let got = libc::read(STDIN_FILENO, input);
@@ -24,17 +55,7 @@ fn turn(input: &mut [u8], line: &mut [u8], held: usize, output: &mut [u8]) -> Af
             more: false,
         };
     }
-    let progress = lines::lines_in(&input[..n], line, held, output);
-    if !lines::send(output, progress.filled, progress.open) {
-        return After {
-            held: 0,
-            more: false,
-        };
-    }
-    After {
-        held: progress.held,
-        more: true,
-    }
+    answer_text(&input[..n], line, held, output)
 }
 
 // The turns left after one: none where the input has ended.
@@ -48,20 +69,9 @@ fn left_after(turns: u64, more: bool) -> u64
     0
 }
 
-// The last line, where no newline ends it.
-fn finish(line: &mut [u8], held: usize, output: &mut [u8])
-    requires { ⌜ (held ≤ length (now line)) × (1547 ≤ length (now output)) ⌝ }
-{
-    if held == 0 {
-        return;
-    }
-    let waiting = lines::answer(&line[0..held], output, 0, true);
-    lines::send(output, waiting.filled, waiting.open);
-}
-
 // Nothing says that an input ends, so the turns are counted down from a number that no run uses up.
 fn desk(input: &mut [u8], line: &mut [u8], output: &mut [u8])
-    requires { ⌜ 1547 ≤ length (now output) ⌝ }
+    requires { ⌜ (mostCharacters < length (now line)) × (answerRoom ≤ length (now output)) ⌝ }
 {
     let mut held: usize = 0;
     let mut turns = u64::MAX;
@@ -70,7 +80,8 @@ fn desk(input: &mut [u8], line: &mut [u8], output: &mut [u8])
         held = next.held;
         turns = left_after(turns, next.more);
     }
-    finish(line, held, output);
+    let filled = lines::answer_last(line, held, output);
+    io::write_all(STDOUT_FILENO, &output[..filled]);
 }
 
 fn main() {

@@ -1,18 +1,19 @@
 -- The frame of a line whose questions 11, 9, 1, 3 and 10 got "yes", from decoding to the line's answer.
 -- Holds: `symbols-long`, `blocks-is` (the reception's length and T); `decoding-asked` (decoding's questions ask what is left, 4);
--- `frame-answered` (what decoding gives); `head-refused`; `read-frame` (the symbols that were read); `answered-most` (an output line's
--- length).
+-- `frame-answered` (what decoding gives); `head-refused`; `read-frame` (the symbols that were read); `answers-most`, `answered-most` (an output line's
+-- length); `answers-kept` (a line too long is answered by its beginning).
 use mathlib.Core.Path.{_≡_, refl, sym, ap, ap₂, subst, _∙_}
 use mathlib.Core.Bool.{Bool, true, false, _&&_}
 use mathlib.Core.List.{List, [], _∷_, _++_, map}
 use Prim.Native.Nat.{ℕ, _+_, _-_, _*_, _/_, _%_, _≤_, _<_}
 use native.Mathlib.Nat.{mul-le-mul-right, le-trans, lt-of-lt-of-le}
 use native.Mathlib.Omega.{arith}
+use native.Mathlib.Decide.{decLe}
 use lib.Arith.{digits-div, digits-mod}
 use lib.Dec.{T, eqb, leb, lit≤, leb→le}
 use lib.ListN.{length, take, drop, length-map, length-drop}
-use lib.Seq.{take-at, take-all}
-use borrow.Author.Tests.{eq-eqb, le-leb}
+use lib.Seq.{length-take-le, take-at, take-all}
+use borrow.Author.Tests.{eq-eqb, le-leb, lt-leb}
 use Rattle.algebra.specs.Ops.{pick}
 use Rattle.field.specs.Symbols.{Symbols}
 use Rattle.code.specs.declared.Setting.{Setting}
@@ -22,9 +23,9 @@ use Rattle.tables.proofs.Small.{Sizes, sizesOf, smallOf}
 use Rattle.link.specs.declared.Answer.{Answer}
 use Rattle.link.specs.Questions.{Question, ask, answer, firstNo, mostBlocks, blocksOf, symbolQuestion, transmissionQuestion, frameQuestions, decodingQuestions}
 use Rattle.link.specs.Decoding.{Decoded, refused as decoding-refused, found as decoding-found, none-fits as decoding-none}
-use Rattle.link.proofs.Answers.{all-yes, append-yes, message-small, transmission-small}
+use Rattle.link.proofs.Answers.{first-no, all-yes, append-yes, message-small, transmission-small}
 use Rattle.line.specs.Characters.{digitOf}
-use Rattle.line.specs.Questions.{settingIn, blocksIn, symbolsIn, characterQuestions, headQuestions, lineQuestions}
+use Rattle.line.specs.Questions.{mostCharacters, settingIn, blocksIn, symbolsIn, characterQuestions, headQuestions, lineQuestions}
 use Rattle.line.specs.Answering.{refusal, success, FitsIn, alteredIn, messageIn, Answers, refused, found, none-fits, FrameAnswered, Answered}
 use Rattle.line.proofs.Asked.{HeadYes, head-yes, after-head, in-head}
 use Rattle.line.proofs.Placed.{six, success-long}
@@ -168,7 +169,7 @@ read-frame line area e =
     ap (λ (t : ℕ). take t area) (sym (ap length all ∙ length-drop 4 line)) ∙ (e ∙ ap (map digitOf) all)
 
 -- An output line has at most 1,546 characters, those of a success line of 512 blocks of three symbols.
-answers-most : (line text : List ℕ) → Answers line text → length text ≤ 1546
+pub answers-most : (line text : List ℕ) → Answers line text → length text ≤ 1546
 answers-most line text (refused h e) = omega (arith, ap length e, six (firstNo (lineQuestions line) .number) (firstNo (lineQuestions line) .place))
 answers-most line text (found h x f e) =
     let all = all-yes (lineQuestions line) tt h in
@@ -188,3 +189,27 @@ answered-most line before r after a = at (leb (length (a .text)) (length before)
     at : (t : Bool) → r ≡ pick t (length (a .text)) 0 → r ≤ 1546
     at true e = omega (arith, answers-most line (a .text) (a .answers))
     at false e = omega arith
+
+-- Question 11 is the first, and needs no more than one character too many.
+too-long : (line : List ℕ) → mostCharacters < length line → firstNo (lineQuestions line) ≡ answer 11 0 0
+too-long line h = first-no (ask 11 (leb (length line) mostCharacters)) (drop 1 (lineQuestions line)) (lt-leb (length line) mostCharacters h)
+
+-- A line that is longer is answered by its beginning.
+pub answers-kept : (room : ℕ) → mostCharacters < room → (line text : List ℕ) → Answers (take room line) text → Answers line text
+answers-kept room h line text a = at (decLe (length line) room)
+  where
+    long : (length line ≤ room → ⊥) → Answers (take room line) text → Answers line text
+    long d (refused asked e) =
+        let whole : mostCharacters < length line = omega arith in
+        let part : mostCharacters < length (take room line) = omega (arith, length-take-le room line (omega arith)) in
+        refused (λ z. absurd (omega (arith, ap (λ r. r .number) (too-long line whole)))) (e ∙ ap refusal (too-long (take room line) part ∙ sym (too-long line whole)))
+    long d (found asked x fits e) =
+        let part : mostCharacters < length (take room line) = omega (arith, length-take-le room line (omega arith)) in
+        absurd (omega (arith, ap (λ r. r .number) (too-long (take room line) part)))
+    long d (none-fits asked far e) =
+        let part : mostCharacters < length (take room line) = omega (arith, length-take-le room line (omega arith)) in
+        absurd (omega (arith, ap (λ r. r .number) (too-long (take room line) part)))
+
+    at : Dec (length line ≤ room) → Answers line text
+    at (yes l) = subst (λ (x : List ℕ). Answers x text) (take-all room line l) a
+    at (no d) = long d a

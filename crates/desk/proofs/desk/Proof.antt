@@ -1,8 +1,10 @@
 -- `desk::desk` is safe and ends: the turns left fall.
-use mathlib.Core.Path.{_≡_}
+use mathlib.Core.Path.{_≡_, sym}
 use Prim.Native.Nat.{_≤_}
 use native.Mathlib.Omega.{arith}
+use borrow.Author.Needs.{needs}
 use lib.ListN.{length}
+use lib.Seq.{length-take-le}
 use Rattle.desk.proofs.desk.Statement.{statement}
 use Rattle.desk.proofs.desk.Tie as tie
 
@@ -17,7 +19,7 @@ loop-holds : tie.Need-loop-holds Inv-loop μ-loop
 loop-holds c = omega arith
 
 turn-requires : tie.Need-turn-requires Inv-loop μ-loop
-turn-requires c κs = omega arith
+turn-requires c κs = (omega arith, omega arith, omega arith)
 
 left-after-requires : tie.Need-left-after-requires Inv-loop μ-loop
 left-after-requires c κs = omega arith
@@ -28,8 +30,17 @@ loop-less c = omega arith
 loop-again : tie.Need-loop-again Inv-loop μ-loop
 loop-again c = omega arith
 
-finish-requires : tie.Need-finish-requires Inv-loop μ-loop
-finish-requires c κs = omega arith
+answer-last-requires : tie.Need-answer-last-requires Inv-loop μ-loop
+answer-last-requires c κs = (omega arith, omega arith, omega arith)
+
+slice-reshare-prefix-write-all : tie.Need-slice-reshare-prefix-write-all Inv-loop μ-loop
+slice-reshare-prefix-write-all c = search needs
+
+slice-aggregate-write-all : tie.Need-slice-aggregate-write-all Inv-loop μ-loop
+slice-aggregate-write-all c = sym (length-take-le _ _ (omega arith))
+
+write-all-requires : tie.Need-write-all-requires Inv-loop μ-loop
+write-all-requires c κs = search needs
 
 same-length : tie.Need-same-length Inv-loop μ-loop
 same-length c = omega arith
@@ -54,7 +65,10 @@ desk-spec =
     left-after-requires
     loop-less
     loop-again
-    finish-requires
+    answer-last-requires
+    slice-reshare-prefix-write-all
+    slice-aggregate-write-all
+    write-all-requires
     same-length
     same-length-2
     same-length-3

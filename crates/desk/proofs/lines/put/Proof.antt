@@ -1,8 +1,12 @@
--- `desk::lines::put`: an answer has at most 1,546 characters.
-use Prim.Native.Nat.{_≤_}
+-- `desk::lines::put`: an answer has at most 1,546 characters, and its newline comes behind it.
+use Prim.Native.Nat.{_≤_, _-_}
 use native.Mathlib.Omega.{arith}
 use borrow.Author.Needs.{needs}
+use denote.Ref.{now}
+use lib.ListN.{length, drop, length-drop}
+use lib.Seq.{length-take-le}
 use Rattle.line.proofs.Frames.{answered-most}
+use Rattle.desk.proofs.Texts.{put-behind}
 use Rattle.desk.proofs.lines.put.Statement.{statement}
 use Rattle.desk.proofs.lines.put.Tie as tie
 
@@ -34,7 +38,12 @@ same-length : tie.Need-same-length
 same-length c = search needs
 
 returns : tie.Need-returns
-returns c = omega (arith, most (c .before .before), c .before .before .before .before .before .before .pre)
+returns c =
+    let entry = c .before .before .before .before .before .before in
+    let a = entry .args in
+    put-behind (now (a .line)) (now (a .output)) _ (c .before .before .answer-line .last .1 .0) (a .filled) (length (now (a .output)) - a .filled) (c .before .before .answer-line .result) (entry .pre)
+    (length-take-le (length (now (a .output)) - a .filled) (drop (a .filled) (now (a .output))) (omega (arith, length-drop (a .filled) (now (a .output))))) (c .before .before .answer-line .ensures)
+    (omega (arith, most (c .before .before), entry .pre))
 
 pub put-spec : {M : Type 1} → statement M
 put-spec =

@@ -1,0 +1,2 @@
+-- What the proofs of the desk's functions share.
+pub mod Texts

@@ -1,0 +1,121 @@
+-- `desk::answer_text`: the text was read up to `from`.
+use mathlib.Core.Path.{_≡_, sym, subst}
+use mathlib.Core.Bool.{Bool, not}
+use mathlib.Core.List.{List}
+use Prim.Native.Nat.{ℕ, _-_, _≤_, _<_}
+use native.Mathlib.Omega.{arith}
+use borrow.Author.Needs.{needs}
+use denote.Ref.{now}
+use lib.Dec.{T}
+use lib.ListN.{length, take, drop, length-drop}
+use lib.Seq.{length-take-le}
+use Rattle.desk.specs.Texts.{restOf}
+use Rattle.desk.specs.Reading.{Holds}
+use Rattle.desk.proofs.Texts.{held-none, held-on, held-all}
+use Rattle.desk.proofs.answer_text.Statement.{statement}
+use Rattle.desk.proofs.answer_text.Tie as tie
+
+abbrev Inv-loop : tie.InvT-loop
+Inv-loop text line₀ held output₀ kept₀ from₀ line output kept from =
+    (length line ≡ length line₀) × (length output ≡ length output₀) × (kept ≤ length line₀) × (from ≤ length text)
+    × ((begun : List ℕ) → Holds begun line₀ held → Holds (restOf begun (take from text)) line kept)
+
+abbrev μ-loop : tie.MeasureT-loop
+μ-loop text line₀ held output₀ kept₀ from₀ line output kept from = length text - from
+
+loop-holds : tie.Need-loop-holds Inv-loop μ-loop
+loop-holds c = (omega arith, omega arith, omega arith, omega arith, λ begun H. held-none begun (now (c .before .before .before .args .text)) (now (c .before .before .before .args .line)) (c .before .before .before .args .held) H)
+
+sub-answer-lines : tie.Need-sub-answer-lines Inv-loop μ-loop
+sub-answer-lines c = omega arith
+
+part-answer-lines-start : tie.Need-part-answer-lines-start Inv-loop μ-loop
+part-answer-lines-start c = omega arith
+
+part-answer-lines-end : tie.Need-part-answer-lines-end Inv-loop μ-loop
+part-answer-lines-end c = omega arith
+
+answer-lines-requires : tie.Need-answer-lines-requires Inv-loop μ-loop
+answer-lines-requires c κs = (omega arith, omega arith, omega arith)
+
+-- What is left of the text is not empty, so something of it is read.
+left : (c : tie.After-answer-lines Inv-loop μ-loop) → length (take (length (now (c .before .before .before .before .before .before .before .before .before .args .text)) - c .before .before .before .before .before .loop .from) (drop (c .before .before .before .before .before .loop .from) (now (c .before .before .before .before .before .before .before .before .before .args .text)))) ≡ length (now (c .before .before .before .before .before .before .before .before .before .args .text)) - c .before .before .before .before .before .loop .from
+left c =
+    let text = now (c .before .before .before .before .before .before .before .before .before .args .text) in
+    let from = c .before .before .before .before .before .loop .from in
+    length-take-le (length text - from) (drop from text) (omega (arith, length-drop from text))
+
+slice-reshare-prefix-write-all : tie.Need-slice-reshare-prefix-write-all Inv-loop μ-loop
+slice-reshare-prefix-write-all c = omega (arith, c .before .before .before .before .answer-lines .ensures .0 .waiting)
+
+slice-aggregate-write-all : tie.Need-slice-aggregate-write-all Inv-loop μ-loop
+slice-aggregate-write-all c = sym (length-take-le _ _ (omega (arith, c .before .before .before .before .before .answer-lines .ensures .0 .waiting)))
+
+write-all-requires : tie.Need-write-all-requires Inv-loop μ-loop
+write-all-requires c κs = search needs
+
+same-length : tie.Need-same-length Inv-loop μ-loop
+same-length c = omega arith
+
+same-length-2 : tie.Need-same-length-2 Inv-loop μ-loop
+same-length-2 c = omega arith
+
+returns : tie.Need-returns Inv-loop μ-loop
+returns c = (omega arith, λ begun H e. absurd (subst (λ (b : Bool). T (not b)) e tt))
+
+add-from : tie.Need-add-from Inv-loop μ-loop
+add-from c = omega (arith, left (c .before .before .before .before .before .before .before .before), c .before .before .before .before .before .before .before .before .answer-lines .ensures .0 .place)
+
+loop-less : tie.Need-loop-less Inv-loop μ-loop
+loop-less c =
+    let read : 0 < c .before .before .before .before .before .before .before .before .answer-lines .result .from = c .before .before .before .before .before .before .before .before .answer-lines .ensures .1 (omega (arith, left (c .before .before .before .before .before .before .before .before))) in
+    omega (arith, read, left (c .before .before .before .before .before .before .before .before), c .before .before .before .before .before .before .before .before .answer-lines .ensures .0 .place)
+
+loop-again : tie.Need-loop-again Inv-loop μ-loop
+loop-again c =
+    let a = c .before .before .before .before .before .before .before .before .before .before .before .before .before .before .before .before .before .args in
+    let l = c .before .before .before .before .before .before .before .before .before .before .before .before .before .loop in
+    let done = c .before .before .before .before .before .before .before .before .answer-lines in
+    let few : done .result .from ≤ length (now (a .text)) - l .from = omega (arith, left (c .before .before .before .before .before .before .before .before), done .ensures .0 .place) in (
+      omega arith,
+      omega arith,
+      omega (arith, done .ensures .0 .characters),
+      omega (arith, few),
+      λ begun H. held-on begun (now (a .text)) (l .from) (done .result .from) _ (done .result .held) few (done .ensures .2 (restOf begun (take (l .from) (now (a .text)))) (l .inv .4 begun H) .kept),
+    )
+
+same-length-3 : tie.Need-same-length-3 Inv-loop μ-loop
+same-length-3 c = omega arith
+
+same-length-4 : tie.Need-same-length-4 Inv-loop μ-loop
+same-length-4 c = omega arith
+
+returns-2 : tie.Need-returns-2 Inv-loop μ-loop
+returns-2 c =
+    let a = c .before .before .before .before .before .args in
+    let l = c .before .loop in
+    (omega arith, λ begun H e. held-all begun (now (a .text)) (l .from) (l .line) (l .kept) (omega arith) (l .inv .4 begun H))
+
+pub answer-text-spec : {M : Type 1} → statement M
+answer-text-spec =
+    tie.close
+    (tie.spec
+    Inv-loop
+    μ-loop
+    loop-holds
+    sub-answer-lines
+    part-answer-lines-start
+    part-answer-lines-end
+    answer-lines-requires
+    slice-reshare-prefix-write-all
+    slice-aggregate-write-all
+    write-all-requires
+    same-length
+    same-length-2
+    returns
+    add-from
+    loop-less
+    loop-again
+    same-length-3
+    same-length-4
+    returns-2)

@@ -1,0 +1,91 @@
+-- `desk::lines::answer_lines`: the buffer was read up to `progress.from`.
+use mathlib.Core.Path.{_≡_}
+use mathlib.Core.List.{List}
+use Prim.Native.Nat.{ℕ, _-_, _<_}
+use native.Mathlib.Omega.{arith}
+use denote.Ref.{now}
+use lib.ListN.{length, take}
+use Rattle.desk.specs.Reading.{Within, Holds, Reached}
+use Rattle.desk.proofs.Texts.{reached-none}
+use Rattle.desk.proofs.lines.answer_lines.Statement.{statement}
+use Rattle.desk.proofs.lines.answer_lines.Tie as tie
+
+abbrev Inv-loop : tie.InvT-loop
+Inv-loop buffer line₀ held output₀ progress₀ line output progress =
+    (length line ≡ length line₀) × (length output ≡ length output₀) × Within (length buffer) (length line₀) (length output₀) progress
+    × (0 < progress .filled → 0 < progress .from) × ((begun : List ℕ) → Holds begun line₀ held → Reached begun (take (progress .from) buffer) line (progress .held) output (progress .filled))
+
+abbrev μ-loop : tie.MeasureT-loop
+μ-loop buffer line₀ held output₀ progress₀ line output progress = length buffer - progress .from
+
+loop-holds : tie.Need-loop-holds Inv-loop μ-loop
+loop-holds c =
+    let a = c .before .before .before .args in (
+      omega arith,
+      omega arith,
+      record { place = omega arith; characters = omega arith; waiting = omega arith },
+      λ h. absurd (omega arith),
+      λ begun H. reached-none begun (now (a .buffer)) (now (a .line)) (a .held) (now (a .output)) H,
+    )
+
+sub-if2 : tie.Need-sub-if2 Inv-loop μ-loop
+sub-if2 c = omega arith
+
+same-length : tie.Need-same-length Inv-loop μ-loop
+same-length c = omega arith
+
+same-length-2 : tie.Need-same-length-2 Inv-loop μ-loop
+same-length-2 c = omega arith
+
+-- The output is full, so something was answered.
+returns : tie.Need-returns Inv-loop μ-loop
+returns c =
+    let l = c .before .before .before .before .loop in
+    (l .inv .2, λ h. l .inv .3 (omega arith), l .inv .4)
+
+step-requires : tie.Need-step-requires Inv-loop μ-loop
+step-requires c κs =
+    (record { place = omega arith; characters = omega arith; waiting = omega arith }, omega arith, omega arith, omega arith)
+
+loop-less : tie.Need-loop-less Inv-loop μ-loop
+loop-less c = omega arith
+
+loop-again : tie.Need-loop-again Inv-loop μ-loop
+loop-again c =
+    let l = c .before .before .before .before .before .before .before .before .before .before .before .loop in
+    let done = c .before .before .before .before .step in (
+      omega arith,
+      omega arith,
+      record { place = omega arith; characters = omega arith; waiting = omega arith },
+      λ h. omega arith,
+      λ begun H. done .ensures .2 begun (l .inv .4 begun H),
+    )
+
+same-length-3 : tie.Need-same-length-3 Inv-loop μ-loop
+same-length-3 c = omega arith
+
+same-length-4 : tie.Need-same-length-4 Inv-loop μ-loop
+same-length-4 c = omega arith
+
+returns-2 : tie.Need-returns-2 Inv-loop μ-loop
+returns-2 c =
+    let l = c .before .before .loop in
+    (l .inv .2, λ h. omega arith, l .inv .4)
+
+pub answer-lines-spec : {M : Type 1} → statement M
+answer-lines-spec =
+    tie.close
+    (tie.spec
+    Inv-loop
+    μ-loop
+    loop-holds
+    sub-if2
+    same-length
+    same-length-2
+    returns
+    step-requires
+    loop-less
+    loop-again
+    same-length-3
+    same-length-4
+    returns-2)

@@ -1,0 +1,87 @@
+-- `desk::lines::step`: up to the next newline, or to the end of the buffer.
+use Prim.Native.Nat.{_-_}
+use native.Mathlib.Omega.{arith}
+use borrow.Author.Needs.{needs}
+use denote.Ref.{now}
+use Rattle.desk.proofs.Texts.{reached-unended, reached-ended}
+use Rattle.desk.proofs.lines.step.Statement.{statement}
+use Rattle.desk.proofs.lines.step.Tie as tie
+
+find-requires : tie.Need-find-requires
+find-requires c κs = search needs
+
+sub-keep : tie.Need-sub-keep
+sub-keep c = search needs
+
+part-keep-start : tie.Need-part-keep-start
+part-keep-start c = search needs
+
+part-keep-end : tie.Need-part-keep-end
+part-keep-end c = search needs
+
+keep-requires : tie.Need-keep-requires
+keep-requires c κs = search needs
+
+same-length : tie.Need-same-length
+same-length c = search needs
+
+returns : tie.Need-returns
+returns c =
+    let a = c .before .before .before .before .before .before .before .before .before .before .args in
+    let kept = c .before .before .before .keep in (
+      record { place = omega arith; characters = omega arith; waiting = omega arith },
+      omega arith,
+      λ begun R. reached-unended begun (now (a .buffer)) (a .progress .from) (now (a .line)) (a .progress .held) (now (a .output)) (a .progress .filled) R (c .before .before .before .before .before .before .find .result)
+          (c .before .before .before .before .before .before .find .ensures .0) (kept .last .1 .0) (kept .result) (kept .ensures .1 _ (R .kept)),
+    )
+
+sub-put : tie.Need-sub-put
+sub-put c = search needs
+
+part-put-start : tie.Need-part-put-start
+part-put-start c = search needs
+
+part-put-end : tie.Need-part-put-end
+part-put-end c = search needs
+
+put-requires : tie.Need-put-requires
+put-requires c κs = search needs
+
+add-t9 : tie.Need-add-t9
+add-t9 c = search needs
+
+same-length-2 : tie.Need-same-length-2
+same-length-2 c = search needs
+
+same-length-3 : tie.Need-same-length-3
+same-length-3 c = search needs
+
+returns-2 : tie.Need-returns-2
+returns-2 c =
+    let a = c .before .before .before .before .before .before .before .before .before .before .before .before .before .before .before .before .args in
+    let kept = c .before .before .before .before .before .before .before .before .before .keep in (
+      record { place = omega arith; characters = omega arith; waiting = c .before .before .put .ensures .room },
+      omega arith,
+      λ begun R. reached-ended begun (now (a .buffer)) (a .progress .from) (now (a .line)) (a .progress .held) (now (a .output)) (a .progress .filled) R (c .before .before .before .before .before .before .before .before .before .before .before .before .find .result)
+          (c .before .before .before .before .before .before .before .before .before .before .before .before .find .ensures .0) (kept .last .1 .0) (kept .result) (kept .ensures .1 _ (R .kept)) (c .before .before .put .last .1 .0) (c .before .before .put .result) (omega arith) (omega arith) (c .before .before .put .ensures),
+    )
+
+pub step-spec : {M : Type 1} → statement M
+step-spec =
+    tie.close
+    (tie.spec
+    find-requires
+    sub-keep
+    part-keep-start
+    part-keep-end
+    keep-requires
+    same-length
+    returns
+    sub-put
+    part-put-start
+    part-put-end
+    put-requires
+    add-t9
+    same-length-2
+    same-length-3
+    returns-2)
