@@ -1,14 +1,11 @@
 -- Every definition of `specs/` goes through a map that keeps the operations: what is computed and then mapped is what is computed from the mapped.
--- Holds: `Homomorphism`, and a lemma for each definition: `sum-natural`, `power-natural`, `value-natural`, `valueOf-natural`, `fromRoots-natural`, `weight-natural`.
+-- Holds: `Homomorphism`, and a lemma for each definition: `sum-natural`, `power-natural`, `value-natural`, `valueOf-natural`, `fromRoots-natural`.
 use mathlib.Core.Path.{_≡_, refl, ap, ap₂, _∙_}
-use mathlib.Core.Bool.{not}
 use mathlib.Core.List.{List, [], _∷_, map}
 use Prim.Native.Nat.{ℕ, zero, suc}
 use Rattle.algebra.specs.Ops.{Ops}
 use Rattle.algebra.specs.Sum.{sum, power}
 use Rattle.algebra.specs.Polynomial.{value, valueOf, timesRoot, timesRootAfter, fromRoots}
-use Rattle.algebra.specs.Weight.{weight}
-use Rattle.algebra.proofs.Weights.{countOf-ext}
 
 -- A map that keeps the operations.
 pub record Homomorphism {F G : Type 0} (o : Ops F) (p : Ops G) (h : F → G) : Type 0 where
@@ -57,6 +54,3 @@ module _ {F G : Type 0} (o : Ops F) (p : Ops G) (h : F → G) (H : Homomorphism 
   unfolding fromRoots
   fromRoots-natural [] = ap (λ t. t ∷ []) (H .on-one)
   fromRoots-natural (a ∷ roots) = timesRoot-natural (fromRoots o roots) a ∙ ap (timesRoot p (h a)) (fromRoots-natural roots)
-
-  pub weight-natural : (n : ℕ) (b : ℕ → F) → weight o n b ≡ weight p n (λ i. h (b i))
-  weight-natural n b = countOf-ext n (λ i. not (o .isZero (b i))) (λ i. not (p .isZero (h (b i)))) (λ i l. ap not (H .on-test (b i)))

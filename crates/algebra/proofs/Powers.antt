@@ -1,12 +1,12 @@
 -- Powers over a field, and the powers of an element of order n.
--- Holds: `power-add`, `power-power`, `power-product`, `power-of-one`, `power-nonzero`; with an element of order n: `root-nonzero`, `power-wraps`.
+-- Holds: `power-add`, `power-power`, `power-of-one`, `power-nonzero`; with an element of order n: `root-nonzero`, `power-wraps`.
 use mathlib.Core.Path.{_≡_, refl, sym, ap, _∙_}
 use Prim.Native.Nat.{ℕ, zero, suc, _+_, _*_, _<_}
 use native.Mathlib.Nat.{zero-add as nat-zero-add, suc-add as nat-suc-add, mul-zero as nat-mul-zero, mul-suc as nat-mul-suc, add-comm as nat-add-comm}
 use native.Mathlib.Omega.{arith}
 use Rattle.algebra.specs.Ops.{Ops}
 use Rattle.algebra.specs.Sum.{power}
-use Rattle.algebra.proofs.Laws.{Field, mul-assoc, one-mul, mul-one, zero-mul, mul-eq-zero, ring}
+use Rattle.algebra.proofs.Laws.{Field, mul-assoc, one-mul, zero-mul, mul-eq-zero}
 use Rattle.algebra.proofs.Order.{Order}
 
 module _ {F : Type 0} (K : Field F) where
@@ -32,14 +32,6 @@ module _ {F : Type 0} (K : Field F) where
   power-power a i (suc j) =
       ap (λ (t : F). power (K .ops) a i ⊗ t) (power-power a i j) ∙ sym (power-add a i (i * j))
       ∙ ap (power (K .ops) a) (nat-add-comm i (i * j) ∙ sym (nat-mul-suc i j))
-
-  product-step : (a b s t : F) → a ⊗ b ⊗ (s ⊗ t) ≡ a ⊗ s ⊗ (b ⊗ t)
-  product-step a b s t = simp ring
-
-  pub power-product : (a b : F) (i : ℕ) → power (K .ops) (a ⊗ b) i ≡ power (K .ops) a i ⊗ power (K .ops) b i
-  unfolding power
-  power-product a b zero = sym (mul-one K 𝟙)
-  power-product a b (suc i) = ap (λ (t : F). a ⊗ b ⊗ t) (power-product a b i) ∙ product-step a b (power (K .ops) a i) (power (K .ops) b i)
 
   pub power-nonzero : (a : F) → (a ≡ 𝟘 → ⊥) → (i : ℕ) → power (K .ops) a i ≡ 𝟘 → ⊥
   unfolding power

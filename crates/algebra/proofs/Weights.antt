@@ -1,6 +1,6 @@
 -- Totals of numbers, counts of the places at which a test holds, and weights of sequences over a field.
 -- Holds: `total-ext`, `total-mono`, `total-add`, `total-scale`, `total-split`, `total-blocks`; `countOf-ext`, `countOf-le`, `countOf-mono`,
--- `countOf-none`, `countOf-without`; `zero-test`, `nonzero-test`, `weight-short`.
+-- `countOf-without`; `zero-test`, `nonzero-test`, `weight-short`.
 use mathlib.Core.Path.{_≡_, refl, sym, ap, ap₂, subst, _∙_}
 use mathlib.Core.Bool.{Bool, true, false, not, _&&_}
 use Prim.Native.Nat.{ℕ, zero, suc, _+_, _*_, _≤_, _<_}
@@ -68,12 +68,6 @@ step-mono false false h = omega arith
 -- A test that holds wherever another does holds at least as often.
 pub countOf-mono : (n : ℕ) (f g : ℕ → Bool) → ((i : ℕ) → i < n → f i ≡ true → g i ≡ true) → countOf n f ≤ countOf n g
 countOf-mono n f g h = total-mono n (λ i. pick (f i) 1 0) (λ i. pick (g i) 1 0) (λ i l. step-mono (f i) (g i) (h i l))
-
--- A test that holds nowhere below n counts nothing.
-pub countOf-none : (n : ℕ) (f : ℕ → Bool) → ((i : ℕ) → i < n → f i ≡ false) → countOf n f ≡ 0
-unfolding total
-countOf-none zero f h = refl
-countOf-none (suc n) f h = ap₂ (λ (s : ℕ) (b : Bool). s + pick b 1 0) (countOf-none n f (λ i l. h i (omega arith))) (h n (omega arith))
 
 -- A place where the test holds adds one to the count without that place.
 pub countOf-without : (n p : ℕ) (f : ℕ → Bool) → p < n → f p ≡ true → countOf n f ≡ suc (countOf n (λ i. f i && not (eqb i p)))

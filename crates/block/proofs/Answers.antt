@@ -11,12 +11,12 @@ use lib.ListN.{length}
 use Rattle.algebra.specs.Weight.{distance}
 use Rattle.algebra.proofs.Weights.{countOf-ext}
 use Rattle.field.specs.Symbols.{Symbols}
+use Rattle.field.proofs.Symbols.{symbol-below}
 use Rattle.code.specs.declared.Setting.{Setting}
 use Rattle.code.specs.Code.{levelDistance}
 use Rattle.code.specs.Transmission.{view}
 use Rattle.code.specs.Level.{combination}
 use Rattle.code.specs.Settings.{codeOf, Sound}
-use Rattle.code.proofs.Lists.{symbol-below}
 use Rattle.code.proofs.Numbers.{positive}
 use Rattle.tables.specs.Tables.{MatrixOf}
 use Rattle.block.specs.Area.{at}

@@ -23,6 +23,7 @@ use Rattle.algebra.proofs.Below.{FieldBelow, Below, number, number-keeps, order
 use Rattle.field.specs.Fields.{opsOf, alpha}
 use Rattle.field.specs.Symbols.{Symbols}
 use Rattle.field.proofs.Laws.{lawsOf, orderOf}
+use Rattle.field.proofs.Symbols.{symbol-below}
 use Rattle.code.specs.declared.Setting.{Setting}
 use Rattle.code.specs.Code.{Code, levelDistance}
 use Rattle.code.specs.Generator.{rowSymbol, timesG}
@@ -31,7 +32,6 @@ use Rattle.code.specs.Level.{combination, evaluation, identity, Inverses}
 use Rattle.code.specs.Settings.{codeOf, Sound}
 use Rattle.code.proofs.Blocks.{codeOver}
 use Rattle.code.proofs.Naturality.{mapped, combination-natural, evaluation-natural}
-use Rattle.code.proofs.Lists.{symbol-below}
 use Rattle.block.specs.Area.{at}
 use Rattle.block.specs.Locator.{Located, Extended}
 use Rattle.block.specs.Progress.{Found}

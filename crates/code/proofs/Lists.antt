@@ -1,5 +1,5 @@
 -- Lists as blocks: tabulated lists, symbols of a list, equal parts.
--- Holds: `length-tabulate`, `getD-tabulate`, `tabulate-ext`, `view-tabulate`, `getD-zeros`, `symbol-below`, `part-below`, `equal-part`, `part-equal`.
+-- Holds: `length-tabulate`, `getD-tabulate`, `tabulate-ext`, `view-tabulate`, `getD-zeros`, `part-below`, `equal-part`, `part-equal`.
 use mathlib.Core.Path.{_≡_, refl, sym, ap, subst, _∙_}
 use mathlib.Core.List.{List, _∷_}
 use Prim.Native.Nat.{ℕ, zero, suc, _+_, _-_, _*_, _/_, _%_, _≤_, _<_}
@@ -8,7 +8,6 @@ use native.Mathlib.Decide.{decLt}
 use lib.Arith.{digits-div, digits-mod, digits-lt}
 use lib.ListN.{length, getD, take, drop, replicate, length-take, length-replicate, getD-replicate, List·getD-eq-default}
 use lib.Seq.{ext-getD, getD-take, getD-drop}
-use Rattle.field.specs.Symbols.{Symbols}
 use Rattle.code.specs.Transmission.{view, tabulate}
 
 pub length-tabulate : {A : Type 0} (n : ℕ) (f : ℕ → A) → length (tabulate n f) ≡ n
@@ -44,15 +43,7 @@ getD-zeros n i = at (decLt i n)
     at (yes l) = getD-replicate n i 0 0 l
     at (no d) = List·getD-eq-default (replicate n 0) 0 (omega (arith, length-replicate {A = ℕ} n 0))
 
--- What stands at any place of a list of symbols, and past its end, is below q.
-pub symbol-below : (q : ℕ) (l : List ℕ) → Symbols q l → 0 < q → (i : ℕ) → getD l i 0 < q
-symbol-below q l S h i = at (decLt i (length l))
-  where
-    at : Dec (i < length l) → getD l i 0 < q
-    at (yes s) = S .below i s
-    at (no d) = subst (λ (t : ℕ). t < q) (sym (List·getD-eq-default l 0 (omega arith))) h
-
--- So is what stands at any place of a part of it.
+-- Where all that stands in a list is below q, so is what stands in a part of it.
 pub part-below : (q : ℕ) (l : List ℕ) → ((i : ℕ) → getD l i 0 < q) → 0 < q → (a b i : ℕ) → getD (take a (drop b l)) i 0 < q
 part-below q l S h a b i = at (decLt i a)
   where

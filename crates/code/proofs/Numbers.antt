@@ -20,6 +20,7 @@ use Rattle.algebra.proofs.Below.{Below, number, element, number-element, number
 use Rattle.field.specs.Fields.{opsOf, alpha}
 use Rattle.field.specs.Symbols.{Symbols}
 use Rattle.field.proofs.Laws.{lawsOf, orderOf}
+use Rattle.field.proofs.Symbols.{symbol-below}
 use Rattle.code.specs.declared.Setting.{Setting}
 use Rattle.code.specs.Code.{Code}
 use Rattle.code.specs.Generator.{rowSymbol, timesG}
@@ -30,7 +31,7 @@ use Rattle.code.specs.Windows.{transmission, windowLength, windowDistanc
 use Rattle.code.proofs.Blocks.{codeOver}
 use Rattle.code.proofs.Certainty.{costTo}
 use Rattle.code.proofs.Naturality.{mapped, rowSymbol-natural, timesG-natural, sentSymbol-natural, combination-natural}
-use Rattle.code.proofs.Lists.{length-tabulate, getD-tabulate, view-tabulate, symbol-below}
+use Rattle.code.proofs.Lists.{length-tabulate, getD-tabulate, view-tabulate}
 use Rattle.code.specs.Settings.{Sound}
 
 pub transmission-long : (p : Setting) (x : List ℕ) → length (transmission p x) ≡ (length x / p .k + p .m) * p .n

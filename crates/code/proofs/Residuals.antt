@@ -12,6 +12,7 @@ use Rattle.algebra.proofs.Laws.{sub-self, add-of-sub, neg-unique, neg-mul}
 use Rattle.algebra.proofs.Weights.{total-ext}
 use Rattle.algebra.proofs.Below.{Below as Element, number, number-injective, element, number-element}
 use Rattle.field.specs.Fields.{opsOf}
+use Rattle.field.proofs.Symbols.{symbol-below}
 use Rattle.code.specs.declared.Setting.{Setting}
 use Rattle.code.specs.Transmission.{view, sentSymbol}
 use Rattle.code.specs.Level.{combination}
@@ -20,7 +21,7 @@ use Rattle.code.specs.Windows.{transmission, windowLength, windowDistanc
 use Rattle.code.specs.Reading.{Below, rebuiltDistance, Residual}
 use Rattle.code.proofs.Certainty.{costTo}
 use Rattle.code.proofs.Windows.{blockCost, rebuiltCost, sent-sub, sent-ahead, combination-ext}
-use Rattle.code.proofs.Lists.{symbol-below, part-below}
+use Rattle.code.proofs.Lists.{part-below}
 use Rattle.code.proofs.Numbers.{laws, positive, fieldOf, rootOf, overField, keeps, lifted, number-lifted, sent-number, message-below, byteCost, window-cost}
 use Rattle.code.proofs.Reading.{number-zero, elementCost, element-shift, rebuilt-cost}
 

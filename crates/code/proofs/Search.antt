@@ -19,13 +19,14 @@ use Rattle.algebra.specs.Weight.{distance}
 use Rattle.algebra.proofs.Sums.{sum-ext}
 use Rattle.algebra.proofs.Tests.{and-left, and-right, all, all-at}
 use Rattle.algebra.proofs.Weights.{countOf-ext}
+use Rattle.field.proofs.Symbols.{symbol-below}
 use Rattle.code.specs.declared.Setting.{Setting}
 use Rattle.code.specs.Code.{Code, limit}
 use Rattle.code.specs.Generator.{rowSymbol, timesG}
 use Rattle.code.specs.Transmission.{view, earlier, sentSymbol}
 use Rattle.code.specs.Settings.{codeOf, Sound}
 use Rattle.code.specs.Windows.{transmission, windowLength, windowDistance, Message, Fits}
-use Rattle.code.proofs.Lists.{getD-tabulate, symbol-below}
+use Rattle.code.proofs.Lists.{getD-tabulate}
 use Rattle.code.proofs.Numbers.{positive, message-blocks}
 use Rattle.code.proofs.Settings.{block-positive}
 

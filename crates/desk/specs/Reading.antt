@@ -1,8 +1,9 @@
--- What the desk's functions promise one another. Holds: `answerRoom`, `Within`, `Holds`, `Behind`, `Reached`.
+-- What the desk's functions promise one another. Holds: `answerRoom`, `Within`, `Room`; `Holds`, `Behind`, `Reached`; `Stepped`, `LinesRead`.
 use mathlib.Core.Path.{_≡_}
 use mathlib.Core.List.{List, [], _∷_, _++_}
-use Prim.Native.Nat.{ℕ, _≤_}
+use Prim.Native.Nat.{ℕ, _≤_, _<_}
 use lib.ListN.{length, take}
+use Rattle.line.specs.Questions.{mostCharacters}
 use Rattle.line.specs.Answering.{Answers}
 use Rattle.desk.specs.declared.lines.Progress.{Progress}
 use Rattle.desk.specs.Texts.{newline, linesOf, restOf, Output}
@@ -16,6 +17,11 @@ pub record Within (buffer line output : ℕ) (p : Progress) : Type 0 where
   pub place : p .from ≤ buffer
   pub characters : p .held ≤ line
   pub waiting : p .filled ≤ output
+
+-- A line one character too long has room, and so has an answer.
+pub record Room (line output : List ℕ) : Type 0 where
+  pub characters : mostCharacters < length line
+  pub answer : answerRoom ≤ length output
 
 -- The area keeps the first characters of the line that is begun: all, or as many as it has room for.
 pub record Holds (begun area : List ℕ) (held : ℕ) : Type 0 where
@@ -33,3 +39,16 @@ pub record Behind (line before : List ℕ) (filled : ℕ) (after : List ℕ) (r 
 pub record Reached (begun text area : List ℕ) (held : ℕ) (output : List ℕ) (filled : ℕ) : Type 0 where
   pub kept : Holds (restOf begun text) area held
   pub answered : Output (linesOf begun text) (take filled output)
+
+-- The buffer was read on from the place p to the place r.
+pub record Stepped (buffer line output : List ℕ) (p : Progress) (line' output' : List ℕ) (r : Progress) : Type 0 where
+  pub within : Within (length buffer) (length line) (length output) r
+  pub on : p .from < r .from
+  pub reached : (begun : List ℕ) → Reached begun (take (p .from) buffer) line (p .held) output (p .filled)
+      → Reached begun (take (r .from) buffer) line' (r .held) output' (r .filled)
+
+-- The buffer was read to the place r, and not in vain, whatever line was begun before it.
+pub record LinesRead (buffer line : List ℕ) (held : ℕ) (output line' output' : List ℕ) (r : Progress) : Type 0 where
+  pub within : Within (length buffer) (length line) (length output) r
+  pub on : 0 < length buffer → 0 < r .from
+  pub reached : (begun : List ℕ) → Holds begun line held → Reached begun (take (r .from) buffer) line' (r .held) output' (r .filled)

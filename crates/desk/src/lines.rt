@@ -2,9 +2,8 @@
 ghost use mathlib.Core.List.{List, _++_};
 ghost use Prim.Native.Nat.{ℕ, _+_, _≤_, _<_};
 ghost use lib.ListN.{length, take};
-ghost use Rattle.line.specs.Questions.{mostCharacters};
 ghost use Rattle.desk.specs.Texts.{lastOf, Output};
-ghost use Rattle.desk.specs.Reading.{answerRoom, Within, Holds, Behind, Reached};
+ghost use Rattle.desk.specs.Reading.{answerRoom, Within, Room, Holds, Behind, Stepped, LinesRead};
 
 // How far a buffer is read, how many characters of the unfinished line there are kept, and how much output waits.
 pub struct Progress {
@@ -40,8 +39,8 @@ fn put(line: &[u8], output: &mut [u8], filled: usize) -> usize
 
 // Reads on to the next newline and answers its line, or to the end of the buffer.
 fn step(buffer: &[u8], line: &mut [u8], output: &mut [u8], progress: Progress) -> Progress
-    requires { ⌜ Within (length (now buffer)) (length (now line)) (length (now output)) progress × (progress .from < length (now buffer)) × (mostCharacters < length (now line)) × (progress .filled + answerRoom ≤ length (now output)) ⌝ }
-    ensures { λ r. ⌜ Within (length (now (buffer .entry))) (length (now (line .entry))) (length (now (output .entry))) r × (progress .from < r .from) × ((begun : List ℕ) → Reached begun (take (progress .from) (now (buffer .entry))) (now (line .entry)) (progress .held) (now (output .entry)) (progress .filled) → Reached begun (take (r .from) (now (buffer .entry))) (now (line .exit)) (r .held) (now (output .exit)) (r .filled)) ⌝ }
+    requires { ⌜ Within (length (now buffer)) (length (now line)) (length (now output)) progress × Room (now line) (now output) × (progress .from < length (now buffer)) × (progress .filled + answerRoom ≤ length (now output)) ⌝ }
+    ensures { λ r. ⌜ Stepped (now (buffer .entry)) (now (line .entry)) (now (output .entry)) progress (now (line .exit)) (now (output .exit)) r ⌝ }
 {
     let from = progress.from;
     let to = bytes::scan::find(buffer, from, buffer.len(), b'\n');
@@ -63,8 +62,8 @@ fn step(buffer: &[u8], line: &mut [u8], output: &mut [u8], progress: Progress) -
 
 // Answers the lines that end in the buffer, as far as the output has room, and keeps the line that follows.
 pub fn answer_lines(buffer: &[u8], line: &mut [u8], held: usize, output: &mut [u8]) -> Progress
-    requires { ⌜ (held ≤ length (now line)) × (mostCharacters < length (now line)) × (answerRoom ≤ length (now output)) ⌝ }
-    ensures { λ r. ⌜ Within (length (now (buffer .entry))) (length (now (line .entry))) (length (now (output .entry))) r × (0 < length (now (buffer .entry)) → 0 < r .from) × ((begun : List ℕ) → Holds begun (now (line .entry)) held → Reached begun (take (r .from) (now (buffer .entry))) (now (line .exit)) (r .held) (now (output .exit)) (r .filled)) ⌝ }
+    requires { ⌜ (held ≤ length (now line)) × Room (now line) (now output) ⌝ }
+    ensures { λ r. ⌜ LinesRead (now (buffer .entry)) (now (line .entry)) held (now (output .entry)) (now (line .exit)) (now (output .exit)) r ⌝ }
 {
     let mut progress = Progress {
         from: 0,
@@ -82,7 +81,7 @@ pub fn answer_lines(buffer: &[u8], line: &mut [u8], held: usize, output: &mut [u
 
 // Answers the last line, where no newline ends it; an empty one is none.
 pub fn answer_last(line: &[u8], held: usize, output: &mut [u8]) -> usize
-    requires { ⌜ (held ≤ length (now line)) × (mostCharacters < length (now line)) × (answerRoom ≤ length (now output)) ⌝ }
+    requires { ⌜ (held ≤ length (now line)) × Room (now line) (now output) ⌝ }
     ensures { λ r. ⌜ (r ≤ length (now (output .entry))) × ((begun : List ℕ) → Holds begun (now (line .entry)) held → Output (lastOf begun) (take r (now (output .exit)))) ⌝ }
 {
     if held == 0 {

@@ -8,9 +8,8 @@ ghost use mathlib.Core.Bool.{true};
 ghost use mathlib.Core.List.{List};
 ghost use Prim.Native.Nat.{ℕ, _≤_, _<_};
 ghost use lib.ListN.{length};
-ghost use Rattle.line.specs.Questions.{mostCharacters};
 ghost use Rattle.desk.specs.Texts.{restOf};
-ghost use Rattle.desk.specs.Reading.{answerRoom, Holds};
+ghost use Rattle.desk.specs.Reading.{Room, Holds};
 
 // What a turn leaves: how many characters of an unfinished line are kept, and whether to read on.
 struct After {
@@ -20,7 +19,7 @@ struct After {
 
 // Answers the lines that a text ends; the answers are written when the output is full, and at the end of the text.
 fn answer_text(text: &[u8], line: &mut [u8], held: usize, output: &mut [u8]) -> After
-    requires { ⌜ (held ≤ length (now line)) × (mostCharacters < length (now line)) × (answerRoom ≤ length (now output)) ⌝ }
+    requires { ⌜ (held ≤ length (now line)) × Room (now line) (now output) ⌝ }
     ensures { λ r. ⌜ (r .held ≤ length (now (line .entry))) × ((begun : List ℕ) → Holds begun (now (line .entry)) held → r .more ≡ true → Holds (restOf begun (now (text .entry))) (now (line .exit)) (r .held)) ⌝ }
 {
     let mut kept = held;
@@ -44,7 +43,7 @@ fn answer_text(text: &[u8], line: &mut [u8], held: usize, output: &mut [u8]) -> 
 
 // One read, and the answers to the lines that it ends.
 fn turn(input: &mut [u8], line: &mut [u8], held: usize, output: &mut [u8]) -> After
-    requires { ⌜ (held ≤ length (now line)) × (mostCharacters < length (now line)) × (answerRoom ≤ length (now output)) ⌝ }
+    requires { ⌜ (held ≤ length (now line)) × Room (now line) (now output) ⌝ }
     ensures { λ r. ⌜ r .held ≤ length (now (line .entry)) ⌝ }
 {
     let got = libc::read(STDIN_FILENO, input);
@@ -71,7 +70,7 @@ fn left_after(turns: u64, more: bool) -> u64
 
 // Nothing says that an input ends, so the turns are counted down from a number that no run uses up.
 fn desk(input: &mut [u8], line: &mut [u8], output: &mut [u8])
-    requires { ⌜ (mostCharacters < length (now line)) × (answerRoom ≤ length (now output)) ⌝ }
+    requires { ⌜ Room (now line) (now output) ⌝ }
 {
     let mut held: usize = 0;
     let mut turns = u64::MAX;

@@ -1,5 +1,5 @@
 -- Lists of symbols: parts, joins and stores keep every element below q.
--- Holds: `symbol-at` (an element at any index, 0 past the end), `symbols-take`, `symbols-drop`, `symbols-part`, `symbols-append`,
+-- Holds: `symbol-below`, `symbols-take`, `symbols-drop`, `symbols-part`, `symbols-append`,
 -- `symbols-none`, `symbols-more`, `symbols-set`, `symbols-zeros`.
 use mathlib.Core.Path.{_≡_, refl, sym, ap, _∙_, subst}
 use mathlib.Core.Bool.{Bool, true, false}
@@ -17,8 +17,9 @@ module _ (q : ℕ) where
   below-of : {a b : ℕ} → a ≡ b → b < q → a < q
   below-of e h = subst (λ (x : ℕ). x < q) (sym e) h
 
-  pub symbol-at : (l : List ℕ) → 0 < q → Symbols q l → (i : ℕ) → getD l i 0 < q
-  symbol-at l positive s i = decide (ltb i (length l)) refl
+  -- What stands at any place of a list of symbols, and past its end, is below q.
+  pub symbol-below : (l : List ℕ) → Symbols q l → 0 < q → (i : ℕ) → getD l i 0 < q
+  symbol-below l s positive i = decide (ltb i (length l)) refl
     where
       decide : (t : Bool) → ltb i (length l) ≡ t → getD l i 0 < q
       decide true e = s .below i (ltb-true i (length l) e)

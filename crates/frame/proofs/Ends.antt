@@ -14,13 +14,13 @@ use Rattle.algebra.specs.Weight.{countOf}
 use Rattle.algebra.proofs.Weights.{countOf-ext}
 use Rattle.field.specs.Fields.{opsOf}
 use Rattle.field.specs.Symbols.{Symbols}
+use Rattle.field.proofs.Symbols.{symbol-below}
 use Rattle.code.specs.declared.Setting.{Setting}
 use Rattle.code.specs.Code.{limit}
 use Rattle.code.specs.Transmission.{view}
 use Rattle.code.specs.Settings.{Sound}
 use Rattle.code.specs.Windows.{transmission, windowLength, windowDistance, altered, Message}
 use Rattle.code.specs.Reading.{windowWeight, Residual}
-use Rattle.code.proofs.Lists.{symbol-below}
 use Rattle.code.proofs.Messages.{place-in-blocks}
 use Rattle.code.proofs.Settings.{block-positive}
 use Rattle.code.proofs.Numbers.{positive, transmission-view}

@@ -16,13 +16,13 @@ use borrow.Rule.Slice.PartMut.{putMid}
 use Rattle.algebra.specs.Ops.{sub, pick}
 use Rattle.field.specs.Fields.{opsOf}
 use Rattle.field.specs.Symbols.{Symbols}
+use Rattle.field.proofs.Symbols.{symbol-below, symbols-set}
 use Rattle.code.specs.declared.Setting.{Setting}
 use Rattle.code.specs.Generator.{rowSymbol, timesG}
 use Rattle.code.specs.Transmission.{view}
 use Rattle.code.specs.Settings.{codeOf, Sound}
 use Rattle.code.specs.Windows.{windowLength}
 use Rattle.code.specs.Reading.{only}
-use Rattle.code.proofs.Lists.{symbol-below}
 use Rattle.code.proofs.Numbers.{laws, positive, rowSymbol-below}
 use Rattle.code.proofs.Settings.{block-positive}
 use Rattle.code.proofs.Residuals.{window-view, add-opposite}
@@ -109,13 +109,8 @@ module _ (p : Setting) (S : Sound p) (T j r v : ℕ) (message left : List ℕ) (
 
   h-symbols : Symbols (p .q) h
   unfolding h
-  h-symbols = record { below = λ a l. at a (ℕ-discrete a (j * p .k + r)) }
-    where
-      at : (a : ℕ) → Dec (a ≡ j * p .k + r) → getD (set message (j * p .k + r) w) a 0 < p .q
-      at a (yes s) =
-          subst (λ (t : ℕ). t < p .q) (sym (ap (λ (t : ℕ). getD (set message (j * p .k + r) w) t 0) s ∙ getD-set-same message (j * p .k + r) w 0 (symbol-room p T j r message left A lj lr) ∙ sum))
-          (laws p S .add-below _ v (message-below (j * p .k + r)) lv)
-      at a (no d) = subst (λ (t : ℕ). t < p .q) (sym (getD-set-other message (j * p .k + r) a w 0 d)) (message-below a)
+  h-symbols =
+      symbols-set (p .q) message (j * p .k + r) w (subst (λ (t : ℕ). t < p .q) (sym sum) (laws p S .add-below _ v (message-below (j * p .k + r)) lv)) (A .message-symbols)
 
   placed : (a : ℕ) → a < p .k → view (p .k) h j a ≡ opsOf (p .q) .add (view (p .k) message j a) (only r v a)
   unfolding h

@@ -10,12 +10,13 @@ use lib.ListN.{length, getD, replicate, length-replicate}
 use Rattle.algebra.specs.Ops.{sub}
 use Rattle.field.specs.Fields.{opsOf}
 use Rattle.field.specs.Symbols.{Symbols}
+use Rattle.field.proofs.Symbols.{symbol-below, symbols-zeros}
 use Rattle.code.specs.declared.Setting.{Setting}
 use Rattle.code.specs.Code.{distancesTo}
 use Rattle.code.specs.Settings.{Sound}
 use Rattle.code.specs.Windows.{transmission, windowDistance, Fits}
 use Rattle.code.specs.Reading.{Below}
-use Rattle.code.proofs.Lists.{getD-zeros, symbol-below}
+use Rattle.code.proofs.Lists.{getD-zeros}
 use Rattle.code.proofs.Numbers.{positive}
 use Rattle.code.proofs.Messages.{distances-positive}
 use Rattle.code.proofs.Residuals.{ahead, ahead-below, add-back, residual-window}
@@ -33,7 +34,7 @@ module _ (p : Setting) (S : Sound p) (T : ℕ) (reception : List ℕ) (R : Symbo
       record {
         areas = record {
           message-long = ap length e ∙ length-replicate (T * p .k) 0;
-          message-symbols = record { below = λ i l. subst (λ (t : ℕ). t < p .q) (sym (zeros i)) (positive p S) };
+          message-symbols = subst (Symbols (p .q)) (sym e) (symbols-zeros (p .q) (T * p .k) (positive p S));
           left-long = long;
           left-symbols = R;
         };

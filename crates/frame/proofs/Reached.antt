@@ -9,11 +9,11 @@ use native.Mathlib.Omega.{arith}
 use lib.Dec.{T}
 use lib.ListN.{getD}
 use Rattle.field.specs.Symbols.{Symbols}
+use Rattle.field.proofs.Symbols.{symbol-below}
 use Rattle.code.specs.declared.Setting.{Setting}
 use Rattle.code.specs.Transmission.{view}
 use Rattle.code.specs.Settings.{Sound}
 use Rattle.code.specs.Reading.{Below}
-use Rattle.code.proofs.Lists.{symbol-below}
 use Rattle.code.proofs.Numbers.{positive}
 use Rattle.code.proofs.Reading.{first-certain, level-drops, level-ends}
 use Rattle.frame.specs.Window.{Near, Tried, serves, fails, Levels, served, none-serves}

@@ -7,13 +7,13 @@ use Prim.Native.Nat.{ℕ, _+_, _-_, _*_, _≤_, _<_}
 use lib.Dec.{T}
 use lib.ListN.{take, drop}
 use Rattle.field.specs.Symbols.{Symbols}
+use Rattle.field.proofs.Symbols.{symbol-below}
 use Rattle.code.specs.declared.Setting.{Setting}
 use Rattle.code.specs.Code.{levelDistance, distancesTo}
 use Rattle.code.specs.Transmission.{view}
 use Rattle.code.specs.Level.{combination}
 use Rattle.code.specs.Settings.{codeOf, Sound}
 use Rattle.code.specs.Reading.{rebuiltDistance}
-use Rattle.code.proofs.Lists.{symbol-below}
 use Rattle.code.proofs.Numbers.{positive}
 use Rattle.code.proofs.Reading.{level-refused}
 use Rattle.block.specs.Area.{Area}

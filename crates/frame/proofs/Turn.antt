@@ -9,11 +9,11 @@ use lib.Dec.{T, eqb}
 use lib.ListN.{length, getD, replicate}
 use Rattle.algebra.specs.Weight.{countOf}
 use Rattle.field.specs.Symbols.{Symbols}
+use Rattle.field.proofs.Symbols.{symbol-below}
 use Rattle.code.specs.declared.Setting.{Setting}
 use Rattle.code.specs.Code.{distancesTo}
 use Rattle.code.specs.Settings.{Sound}
 use Rattle.code.specs.Windows.{windowLength}
-use Rattle.code.proofs.Lists.{symbol-below}
 use Rattle.code.proofs.Numbers.{positive}
 use Rattle.code.proofs.Reading.{first-zero}
 use Rattle.block.specs.Area.{Area}

@@ -10,11 +10,13 @@ use lib.Seq.{ext-getD, getD-set-same, getD-set-other}
 use borrow.Rule.Slice.PartMut.{putMid}
 use Rattle.algebra.specs.Ops.{sub}
 use Rattle.field.specs.Fields.{opsOf}
+use Rattle.field.specs.Symbols.{Symbols}
+use Rattle.field.proofs.Symbols.{symbol-below, symbols-zeros}
 use Rattle.code.specs.declared.Setting.{Setting}
 use Rattle.code.specs.Transmission.{view, sentSymbol}
 use Rattle.code.specs.Settings.{codeOf, Sound}
 use Rattle.code.specs.Windows.{transmission, windowLength, Message}
-use Rattle.code.proofs.Lists.{getD-zeros, symbol-below}
+use Rattle.code.proofs.Lists.{getD-zeros}
 use Rattle.code.proofs.Numbers.{laws, positive, message-below, transmission-view, transmission-length, sent-below, transmission-symbols}
 use Rattle.code.proofs.Settings.{block-positive}
 use Rattle.code.proofs.Messages.{place-in-blocks}
@@ -34,7 +36,7 @@ module _ (p : Setting) (S : Sound p) (T : ℕ) (message : List ℕ) (M : Message
           message-long = M .long;
           message-symbols = M .symbols;
           left-long = ap length e ∙ length-replicate ((T + p .m) * p .n) 0;
-          left-symbols = record { below = λ i l. subst (λ (t : ℕ). t < p .q) (sym (zeros i)) (positive p S) };
+          left-symbols = subst (Symbols (p .q)) (sym e) (symbols-zeros (p .q) ((T + p .m) * p .n) (positive p S));
         };
         sent = λ i l. absurd (omega arith);
         unsent = λ i l. refl;

@@ -10,6 +10,7 @@ use lib.Arith.{digits-lt}
 use lib.Seq.{getD-set-same, getD-set-other}
 use borrow.Rule.Slice.PartMut.{putMid}
 use Rattle.field.specs.Symbols.{Symbols}
+use Rattle.field.proofs.Symbols.{symbols-set}
 use Rattle.code.specs.declared.Setting.{Setting}
 use Rattle.code.specs.Transmission.{view}
 use Rattle.tables.specs.Adding.{plusRow, RowAdded, RowsAdded}
@@ -25,17 +26,11 @@ module _ (p : Setting) (r u j : ℕ) (before : List ℕ) where
       let past : i < length after = omega (arith, L .long) in
       record {
         long = length-set after i v ∙ L .long;
-        symbols = record { below = λ a h. at-symbol a (ℕ-discrete a i) (omega (arith, length-set after i v)) };
+        symbols = symbols-set (p .q) after i v below (L .symbols);
         inside = λ a h. at-inside a (ℕ-discrete a i) h;
         outside = λ a h. getD-set-other after i a v 0 (omega arith) ∙ L .outside a (omega arith);
       }
     where
-      at-symbol : (a : ℕ) → Dec (a ≡ i) → a < length after → getD (set after i v) a 0 < p .q
-      at-symbol a (yes s) h =
-          let past : i < length after = omega (arith, L .long) in
-          subst (λ (t : ℕ). t < p .q) (sym (ap (λ (t : ℕ). getD (set after i v) t 0) s ∙ getD-set-same after i v 0 past)) below
-      at-symbol a (no d) h = subst (λ (t : ℕ). t < p .q) (sym (getD-set-other after i a v 0 d)) (L .symbols .below a h)
-
       at-inside : (a : ℕ) → Dec (a ≡ i) → a < i + 1 → getD (set after i v) a 0 ≡ plusRow p r u j a (getD before a 0)
       at-inside a (yes s) h =
           let past : i < length after = omega (arith, L .long) in

@@ -1,15 +1,14 @@
 -- A part of a list as it is lent, and the list with another part in its place (`putMid`, what a lent part leaves in the whole), place by place.
--- Holds: `part-length`, `part-symbol`, `symbols-part`; `put-length`, `put-before`, `put-inside`, `put-after`, `put-symbols`.
-use mathlib.Core.Path.{_≡_, sym, ap, ap₂, subst, _∙_}
+-- Holds: `part-size`, `part-length`, `part-symbol`; `put-length`, `put-before`, `put-inside`, `put-after`, `put-symbols`.
+use mathlib.Core.Path.{_≡_, sym, ap, ap₂, _∙_}
 use mathlib.Core.List.{List, _++_}
 use Prim.Native.Nat.{ℕ, _+_, _-_, _≤_, _<_, min}
 use native.Mathlib.Omega.{arith}
-use native.Mathlib.Decide.{decLt}
 use lib.ListN.{length, getD, take, drop, length-take, length-drop, List·getD-append}
 use lib.Seq.{getD-take, getD-drop, getD-append-add, length-take-le}
 use borrow.Rule.Slice.PartMut.{putMid, same-len-mid}
 use Rattle.field.specs.Symbols.{Symbols}
-use Rattle.code.proofs.Lists.{symbol-below, part-below}
+use Rattle.field.proofs.Symbols.{symbols-take, symbols-drop, symbols-append}
 
 -- The n elements from `start` on, with their number as the code computes it.
 module _ (n start : ℕ) (whole : List ℕ) where
@@ -27,10 +26,6 @@ module _ (n start : ℕ) (whole : List ℕ) where
   part-symbol i l =
       let below : i < start + n - start = omega arith in
       getD-take (start + n - start) (drop start whole) i 0 below ∙ getD-drop start whole i 0
-
-pub symbols-part : (q n start : ℕ) (whole : List ℕ) → Symbols q whole → 0 < q → Symbols q (take (start + n - start) (drop start whole))
-symbols-part q n start whole symbols h =
-    record { below = λ i l. part-below q whole (symbol-below q whole symbols h) h (start + n - start) start i }
 
 -- The whole with another part ys in the place of the k elements from a on.
 
@@ -59,11 +54,6 @@ module _ (a k : ℕ) (xs ys : List ℕ) (room : a + k ≤ length xs) (long : len
       ∙ (getD-drop k (drop a xs) (i - (a + k)) 0 ∙ (getD-drop a xs (k + (i - (a + k))) 0 ∙ ap (λ (t : ℕ). getD xs t 0) back))))
 
   pub put-symbols : (q : ℕ) → Symbols q xs → Symbols q ys → Symbols q (putMid a k xs ys)
-  put-symbols q X Y = record { below = λ i l. at i (omega (arith, put-length)) (decLt i a) (decLt i (a + k)) }
-    where
-      at : (i : ℕ) → i < length xs → Dec (i < a) → Dec (i < a + k) → getD (putMid a k xs ys) i 0 < q
-      at i l (yes b) t = subst (λ (v : ℕ). v < q) (sym (put-before i b)) (X .below i l)
-      at i l (no b) (yes t) =
-          let place : a + (i - a) ≡ i = omega arith in
-          subst (λ (v : ℕ). v < q) (sym (ap (λ (s : ℕ). getD (putMid a k xs ys) s 0) (sym place) ∙ put-inside (i - a) (omega arith))) (Y .below (i - a) (omega arith))
-      at i l (no b) (no t) = subst (λ (v : ℕ). v < q) (sym (put-after i (omega arith))) (X .below i l)
+  put-symbols q X Y =
+      symbols-append q (take a xs) (ys ++ drop k (drop a xs)) (symbols-take q a xs X)
+      (symbols-append q ys (drop k (drop a xs)) Y (symbols-drop q k (drop a xs) (symbols-drop q a xs X)))

@@ -1,10 +1,10 @@
 -- `block::repair` meets its contract: what its parts promise gives the two answers.
 use Prim.Native.Nat.{_+_, _-_, _*_, _≤_}
 use native.Mathlib.Omega.{arith}
+use Rattle.field.proofs.Symbols.{symbol-below}
 use Rattle.code.specs.Transmission.{view}
 use Rattle.code.specs.Level.{combination}
 use Rattle.code.specs.Settings.{codeOf}
-use Rattle.code.proofs.Lists.{symbol-below}
 use Rattle.block.specs.Area.{at}
 use Rattle.block.proofs.Accumulated.{zero-below, distance-le}
 use Rattle.block.proofs.Levels.{level-fits, block-short, matrix-small}

@@ -36,7 +36,7 @@ part-answer-lines-end : tie.Need-part-answer-lines-end Inv-loop μ-loop
 part-answer-lines-end c = omega arith
 
 answer-lines-requires : tie.Need-answer-lines-requires Inv-loop μ-loop
-answer-lines-requires c κs = (omega arith, omega arith, omega arith)
+answer-lines-requires c κs = (omega arith, record { characters = omega arith; answer = omega arith })
 
 -- What is left of the text is not empty, so something of it is read.
 left : (c : tie.After-answer-lines Inv-loop μ-loop) → length (take (length (now (c .before .before .before .before .before .before .before .before .before .args .text)) - c .before .before .before .before .before .loop .from) (drop (c .before .before .before .before .before .loop .from) (now (c .before .before .before .before .before .before .before .before .before .args .text)))) ≡ length (now (c .before .before .before .before .before .before .before .before .before .args .text)) - c .before .before .before .before .before .loop .from
@@ -46,10 +46,10 @@ left c =
     length-take-le (length text - from) (drop from text) (omega (arith, length-drop from text))
 
 slice-reshare-prefix-write-all : tie.Need-slice-reshare-prefix-write-all Inv-loop μ-loop
-slice-reshare-prefix-write-all c = omega (arith, c .before .before .before .before .answer-lines .ensures .0 .waiting)
+slice-reshare-prefix-write-all c = omega (arith, c .before .before .before .before .answer-lines .ensures .within .waiting)
 
 slice-aggregate-write-all : tie.Need-slice-aggregate-write-all Inv-loop μ-loop
-slice-aggregate-write-all c = sym (length-take-le _ _ (omega (arith, c .before .before .before .before .before .answer-lines .ensures .0 .waiting)))
+slice-aggregate-write-all c = sym (length-take-le _ _ (omega (arith, c .before .before .before .before .before .answer-lines .ensures .within .waiting)))
 
 write-all-requires : tie.Need-write-all-requires Inv-loop μ-loop
 write-all-requires c κs = search needs
@@ -64,24 +64,24 @@ returns : tie.Need-returns Inv-loop μ-loop
 returns c = (omega arith, λ begun H e. absurd (subst (λ (b : Bool). T (not b)) e tt))
 
 add-from : tie.Need-add-from Inv-loop μ-loop
-add-from c = omega (arith, left (c .before .before .before .before .before .before .before .before), c .before .before .before .before .before .before .before .before .answer-lines .ensures .0 .place)
+add-from c = omega (arith, left (c .before .before .before .before .before .before .before .before), c .before .before .before .before .before .before .before .before .answer-lines .ensures .within .place)
 
 loop-less : tie.Need-loop-less Inv-loop μ-loop
 loop-less c =
-    let read : 0 < c .before .before .before .before .before .before .before .before .answer-lines .result .from = c .before .before .before .before .before .before .before .before .answer-lines .ensures .1 (omega (arith, left (c .before .before .before .before .before .before .before .before))) in
-    omega (arith, read, left (c .before .before .before .before .before .before .before .before), c .before .before .before .before .before .before .before .before .answer-lines .ensures .0 .place)
+    let read : 0 < c .before .before .before .before .before .before .before .before .answer-lines .result .from = c .before .before .before .before .before .before .before .before .answer-lines .ensures .on (omega (arith, left (c .before .before .before .before .before .before .before .before))) in
+    omega (arith, read, left (c .before .before .before .before .before .before .before .before), c .before .before .before .before .before .before .before .before .answer-lines .ensures .within .place)
 
 loop-again : tie.Need-loop-again Inv-loop μ-loop
 loop-again c =
     let a = c .before .before .before .before .before .before .before .before .before .before .before .before .before .before .before .before .before .args in
     let l = c .before .before .before .before .before .before .before .before .before .before .before .before .before .loop in
     let done = c .before .before .before .before .before .before .before .before .answer-lines in
-    let few : done .result .from ≤ length (now (a .text)) - l .from = omega (arith, left (c .before .before .before .before .before .before .before .before), done .ensures .0 .place) in (
+    let few : done .result .from ≤ length (now (a .text)) - l .from = omega (arith, left (c .before .before .before .before .before .before .before .before), done .ensures .within .place) in (
       omega arith,
       omega arith,
-      omega (arith, done .ensures .0 .characters),
+      omega (arith, done .ensures .within .characters),
       omega (arith, few),
-      λ begun H. held-on begun (now (a .text)) (l .from) (done .result .from) _ (done .result .held) few (done .ensures .2 (restOf begun (take (l .from) (now (a .text)))) (l .inv .4 begun H) .kept),
+      λ begun H. held-on begun (now (a .text)) (l .from) (done .result .from) _ (done .result .held) few (done .ensures .reached (restOf begun (take (l .from) (now (a .text)))) (l .inv .4 begun H) .kept),
     )
 
 same-length-3 : tie.Need-same-length-3 Inv-loop μ-loop

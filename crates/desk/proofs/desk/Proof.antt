@@ -19,7 +19,7 @@ loop-holds : tie.Need-loop-holds Inv-loop μ-loop
 loop-holds c = omega arith
 
 turn-requires : tie.Need-turn-requires Inv-loop μ-loop
-turn-requires c κs = (omega arith, omega arith, omega arith)
+turn-requires c κs = (omega arith, record { characters = omega arith; answer = omega arith })
 
 left-after-requires : tie.Need-left-after-requires Inv-loop μ-loop
 left-after-requires c κs = omega arith
@@ -31,7 +31,7 @@ loop-again : tie.Need-loop-again Inv-loop μ-loop
 loop-again c = omega arith
 
 answer-last-requires : tie.Need-answer-last-requires Inv-loop μ-loop
-answer-last-requires c κs = (omega arith, omega arith, omega arith)
+answer-last-requires c κs = (omega arith, record { characters = omega arith; answer = omega arith })
 
 slice-reshare-prefix-write-all : tie.Need-slice-reshare-prefix-write-all Inv-loop μ-loop
 slice-reshare-prefix-write-all c = search needs

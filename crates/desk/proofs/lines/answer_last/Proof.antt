@@ -10,7 +10,7 @@ use Rattle.desk.proofs.lines.answer_last.Tie as tie
 returns : tie.Need-returns
 returns c =
     let a = c .before .before .before .args in
-    (omega arith, λ begun H. last-none begun (now (a .line)) (a .held) (now (a .output)) (c .before .before .before .pre .1) (c .if1 .taken) H)
+    (omega arith, λ begun H. last-none begun (now (a .line)) (a .held) (now (a .output)) (c .before .before .before .pre .1 .characters) (c .if1 .taken) H)
 
 sub-put : tie.Need-sub-put
 sub-put c = search needs
@@ -31,7 +31,7 @@ returns-2 : tie.Need-returns-2
 returns-2 c =
     let a = c .before .before .before .before .before .before .before .before .args in
     let done = c .before .before .put in
-    (done .ensures .room, λ begun H. last-answered begun (now (a .line)) (a .held) (now (a .output)) (done .last .1 .0) (done .result) (c .before .before .before .before .before .before .before .before .pre .1) (c .before .before .before .before .before .if1 .left) H (done .ensures))
+    (done .ensures .room, λ begun H. last-answered begun (now (a .line)) (a .held) (now (a .output)) (done .last .1 .0) (done .result) (c .before .before .before .before .before .before .before .before .pre .1 .characters) (c .before .before .before .before .before .if1 .left) H (done .ensures))
 
 pub answer-last-spec : {M : Type 1} → statement M
 answer-last-spec = tie.close (tie.spec returns sub-put part-put-start part-put-end put-requires same-length returns-2)

@@ -41,11 +41,11 @@ same-length-2 c = omega arith
 returns : tie.Need-returns Inv-loop μ-loop
 returns c =
     let l = c .before .before .before .before .loop in
-    (l .inv .2, λ h. l .inv .3 (omega arith), l .inv .4)
+    record { within = l .inv .2; on = λ h. l .inv .3 (omega arith); reached = l .inv .4 }
 
 step-requires : tie.Need-step-requires Inv-loop μ-loop
 step-requires c κs =
-    (record { place = omega arith; characters = omega arith; waiting = omega arith }, omega arith, omega arith, omega arith)
+    (record { place = omega arith; characters = omega arith; waiting = omega arith }, record { characters = omega arith; answer = omega arith }, omega arith, omega arith)
 
 loop-less : tie.Need-loop-less Inv-loop μ-loop
 loop-less c = omega arith
@@ -58,7 +58,7 @@ loop-again c =
       omega arith,
       record { place = omega arith; characters = omega arith; waiting = omega arith },
       λ h. omega arith,
-      λ begun H. done .ensures .2 begun (l .inv .4 begun H),
+      λ begun H. done .ensures .reached begun (l .inv .4 begun H),
     )
 
 same-length-3 : tie.Need-same-length-3 Inv-loop μ-loop
@@ -70,7 +70,7 @@ same-length-4 c = omega arith
 returns-2 : tie.Need-returns-2 Inv-loop μ-loop
 returns-2 c =
     let l = c .before .before .loop in
-    (l .inv .2, λ h. omega arith, l .inv .4)
+    record { within = l .inv .2; on = λ h. omega arith; reached = l .inv .4 }
 
 pub answer-lines-spec : {M : Type 1} → statement M
 answer-lines-spec =

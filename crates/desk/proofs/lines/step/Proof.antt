@@ -28,12 +28,14 @@ same-length c = search needs
 returns : tie.Need-returns
 returns c =
     let a = c .before .before .before .before .before .before .before .before .before .before .args in
-    let kept = c .before .before .before .keep in (
-      record { place = omega arith; characters = omega arith; waiting = omega arith },
-      omega arith,
-      λ begun R. reached-unended begun (now (a .buffer)) (a .progress .from) (now (a .line)) (a .progress .held) (now (a .output)) (a .progress .filled) R (c .before .before .before .before .before .before .find .result)
-          (c .before .before .before .before .before .before .find .ensures .0) (kept .last .1 .0) (kept .result) (kept .ensures .1 _ (R .kept)),
-    )
+    let found = c .before .before .before .before .before .before .find in
+    let kept = c .before .before .before .keep in
+    record {
+      within = record { place = omega arith; characters = omega arith; waiting = omega arith };
+      on = omega arith;
+      reached = λ begun R. reached-unended begun (now (a .buffer)) (a .progress .from) (now (a .line)) (a .progress .held) (now (a .output)) (a .progress .filled) R
+          (found .result) (found .ensures .0) (kept .last .1 .0) (kept .result) (kept .ensures .1 _ (R .kept));
+    }
 
 sub-put : tie.Need-sub-put
 sub-put c = search needs
@@ -59,12 +61,15 @@ same-length-3 c = search needs
 returns-2 : tie.Need-returns-2
 returns-2 c =
     let a = c .before .before .before .before .before .before .before .before .before .before .before .before .before .before .before .before .args in
-    let kept = c .before .before .before .before .before .before .before .before .before .keep in (
-      record { place = omega arith; characters = omega arith; waiting = c .before .before .put .ensures .room },
-      omega arith,
-      λ begun R. reached-ended begun (now (a .buffer)) (a .progress .from) (now (a .line)) (a .progress .held) (now (a .output)) (a .progress .filled) R (c .before .before .before .before .before .before .before .before .before .before .before .before .find .result)
-          (c .before .before .before .before .before .before .before .before .before .before .before .before .find .ensures .0) (kept .last .1 .0) (kept .result) (kept .ensures .1 _ (R .kept)) (c .before .before .put .last .1 .0) (c .before .before .put .result) (omega arith) (omega arith) (c .before .before .put .ensures),
-    )
+    let found = c .before .before .before .before .before .before .before .before .before .before .before .before .find in
+    let kept = c .before .before .before .before .before .before .before .before .before .keep in
+    let put = c .before .before .put in
+    record {
+      within = record { place = omega arith; characters = omega arith; waiting = put .ensures .room };
+      on = omega arith;
+      reached = λ begun R. reached-ended begun (now (a .buffer)) (a .progress .from) (now (a .line)) (a .progress .held) (now (a .output)) (a .progress .filled) R
+          (found .result) (found .ensures .0) (kept .last .1 .0) (kept .result) (kept .ensures .1 _ (R .kept)) (put .last .1 .0) (put .result) (omega arith) (omega arith) (put .ensures);
+    }
 
 pub step-spec : {M : Type 1} → statement M
 step-spec =

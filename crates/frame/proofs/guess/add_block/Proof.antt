@@ -4,7 +4,7 @@ use Prim.Native.Nat.{_+_, _-_, _≤_, _<_}
 use native.Mathlib.Omega.{arith}
 use denote.Ref.{now}
 use lib.ListN.{getD}
-use Rattle.code.proofs.Lists.{symbol-below}
+use Rattle.field.proofs.Symbols.{symbol-below}
 use Rattle.code.proofs.Numbers.{positive}
 use Rattle.frame.proofs.Guesses.{Adding, adding-none, adding-zero, adding-more, adding-all, added-past, revised-lengths}
 use Rattle.frame.proofs.guess.add_block.Statement.{statement}

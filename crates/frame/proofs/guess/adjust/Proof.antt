@@ -6,10 +6,10 @@ use borrow.Author.Needs.{needs}
 use denote.Ref.{now}
 use lib.ListN.{length}
 use Rattle.field.specs.Fields.{opsOf}
+use Rattle.field.proofs.Symbols.{symbol-below, symbols-part}
 use Rattle.code.specs.Windows.{windowLength}
-use Rattle.code.proofs.Lists.{symbol-below}
 use Rattle.code.proofs.Numbers.{laws, positive}
-use Rattle.tables.proofs.Parts.{part-length, symbols-part}
+use Rattle.tables.proofs.Parts.{part-length}
 use Rattle.frame.proofs.Guesses.{window-room, symbol-room, adjusted}
 use Rattle.frame.proofs.guess.adjust.Statement.{statement}
 use Rattle.frame.proofs.guess.adjust.Tie as tie
@@ -74,7 +74,7 @@ add-rows-requires c κs =
       entry .pre .2,
       c .before .negate .ensures .below,
       part-length (windowLength (a .p)) (a .i * a .p .n) (now (a .left)) (room entry),
-      symbols-part (a .p .q) (windowLength (a .p)) (a .i * a .p .n) (now (a .left)) (entry .pre .4 .left-symbols) (positive (a .p) (entry .pre .0 .sound)),
+      symbols-part (a .p .q) (a .i * a .p .n) (a .i * a .p .n + windowLength (a .p)) (now (a .left)) (entry .pre .4 .left-symbols),
     )
 
 same-length : tie.Need-same-length

@@ -3,7 +3,7 @@ use Prim.Native.Nat.{_+_, _-_, _*_, _≤_, _<_}
 use native.Mathlib.Omega.{arith}
 use denote.Ref.{now}
 use lib.ListN.{length}
-use Rattle.code.proofs.Lists.{symbol-below}
+use Rattle.field.proofs.Symbols.{symbol-below}
 use Rattle.code.proofs.Numbers.{positive}
 use Rattle.frame.specs.Frame.{Revised}
 use Rattle.frame.proofs.Guesses.{revised-none, revised-then, revised-lengths, block-room, information-short}

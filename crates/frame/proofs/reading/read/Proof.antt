@@ -4,7 +4,7 @@ use Prim.Native.Nat.{ℕ, _-_, _/_}
 use native.Mathlib.Omega.{arith}
 use borrow.Author.Needs.{needs}
 use denote.Ref.{now}
-use Rattle.code.proofs.Lists.{symbol-below}
+use Rattle.field.proofs.Symbols.{symbol-below}
 use Rattle.code.proofs.Messages.{distances-positive}
 use Rattle.code.proofs.Numbers.{positive}
 use Rattle.frame.specs.Frame.{Progress, none}

@@ -5,9 +5,9 @@ use native.Mathlib.Omega.{arith}
 use borrow.Author.Needs.{needs}
 use denote.Ref.{now}
 use lib.ListN.{length}
+use Rattle.field.proofs.Symbols.{symbols-part}
 use Rattle.code.specs.Windows.{windowLength}
-use Rattle.code.proofs.Numbers.{positive}
-use Rattle.tables.proofs.Parts.{part-length, symbols-part}
+use Rattle.tables.proofs.Parts.{part-length}
 use Rattle.block.specs.Area.{Area}
 use Rattle.frame.specs.Frame.{Progress}
 use Rattle.frame.proofs.Turn.{levels-area, levels-few}
@@ -66,7 +66,7 @@ read-window-requires c κs =
       entry .pre .0,
       entry .pre .1,
       part-length (windowLength (a .p)) (a .j * a .p .n) (c .before .before .before .before .before .before .before .guess-window .last .1 .1 .1 .1 .1 .1 .1 .0) (still-room (c .before .before .before .before .before .before .before)),
-      symbols-part (a .p .q) (windowLength (a .p)) (a .j * a .p .n) (c .before .before .before .before .before .before .before .guess-window .last .1 .1 .1 .1 .1 .1 .1 .0) (c .before .before .before .before .before .before .before .guess-window .ensures .areas .left-symbols) (positive (a .p) (entry .pre .0 .sound)),
+      symbols-part (a .p .q) (a .j * a .p .n) (a .j * a .p .n + windowLength (a .p)) (c .before .before .before .before .before .before .before .guess-window .last .1 .1 .1 .1 .1 .1 .1 .0) (c .before .before .before .before .before .before .before .guess-window .ensures .areas .left-symbols),
     )
 
 same-length : tie.Need-same-length

@@ -5,11 +5,11 @@ use native.Mathlib.Omega.{arith}
 use borrow.Author.Needs.{needs}
 use denote.Ref.{now}
 use lib.ListN.{length}
+use Rattle.field.proofs.Symbols.{symbols-part}
 use Rattle.code.specs.Code.{distancesTo}
 use Rattle.code.specs.Transmission.{view}
 use Rattle.code.specs.Reading.{rebuiltDistance}
-use Rattle.code.proofs.Numbers.{positive}
-use Rattle.tables.proofs.Parts.{part-length, symbols-part}
+use Rattle.tables.proofs.Parts.{part-length}
 use Rattle.frame.proofs.Levels.{rebuilt-few}
 use Rattle.frame.proofs.Tried.{step-area, tried-far, tried-refused, tried-serves}
 use Rattle.frame.proofs.window.try_level.Statement.{statement}
@@ -43,7 +43,7 @@ repair-requires c κs =
       entry .pre .0,
       entry .pre .1,
       part-length (a .p .n) (a .l * a .p .n) (now (a .window)) (inside (c .before .before)),
-      symbols-part (a .p .q) (a .p .n) (a .l * a .p .n) (now (a .window)) (entry .pre .3) (positive (a .p) (entry .pre .0 .sound)),
+      symbols-part (a .p .q) (a .l * a .p .n) (a .l * a .p .n + a .p .n) (now (a .window)) (entry .pre .3),
       entry .pre .4,
     )
 

@@ -5,9 +5,10 @@ use native.Mathlib.Nat.{mul-le-mul-right}
 use native.Mathlib.Omega.{arith}
 use denote.Ref.{now}
 use lib.ListN.{length}
+use Rattle.field.proofs.Symbols.{symbols-part}
 use Rattle.code.specs.Windows.{windowLength}
-use Rattle.code.proofs.Numbers.{positive, message-below}
-use Rattle.tables.proofs.Parts.{part-length, symbols-part}
+use Rattle.code.proofs.Numbers.{message-below}
+use Rattle.tables.proofs.Parts.{part-length}
 use Rattle.frame.proofs.Guesses.{window-room}
 use Rattle.link.specs.Sending.{SentTo}
 use Rattle.link.proofs.Sending.{sent-more}
@@ -83,7 +84,7 @@ add-rows-requires c κs =
       c .before .before .loop-test .taken,
       message-below (a .p) sound (a .blocks) (now (a .message)) (entry .pre .0 .message-of) (a .i) (l .r),
       part-length (windowLength (a .p)) (a .i * a .p .n) (l .area) (room (c .before)),
-      symbols-part (a .p .q) (windowLength (a .p)) (a .i * a .p .n) (l .area) (l .inv .1 .areas .left-symbols) (positive (a .p) sound),
+      symbols-part (a .p .q) (a .i * a .p .n) (a .i * a .p .n + windowLength (a .p)) (l .area) (l .inv .1 .areas .left-symbols),
     )
 
 add-r : tie.Need-add-r Inv-loop μ-loop

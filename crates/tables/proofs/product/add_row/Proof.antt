@@ -5,7 +5,7 @@ use native.Mathlib.Omega.{arith}
 use denote.Ref.{now}
 use lib.ListN.{getD}
 use Rattle.field.specs.Fields.{opsOf}
-use Rattle.code.proofs.Lists.{symbol-below}
+use Rattle.field.proofs.Symbols.{symbol-below}
 use Rattle.code.proofs.Numbers.{positive}
 use Rattle.tables.specs.Adding.{RowAdded}
 use Rattle.tables.proofs.Places.{Place, place-of}

@@ -5,9 +5,9 @@ use native.Mathlib.Omega.{arith}
 use native.Mathlib.Nat.{mul-le-mul-right}
 use denote.Ref.{now}
 use lib.ListN.{length}
-use Rattle.code.proofs.Numbers.{positive}
+use Rattle.field.proofs.Symbols.{symbols-part}
 use Rattle.tables.specs.Adding.{RowsAdded}
-use Rattle.tables.proofs.Parts.{part-length, symbols-part}
+use Rattle.tables.proofs.Parts.{part-length}
 use Rattle.tables.proofs.Adding.{rows-none, rows-more}
 use Rattle.tables.proofs.product.add_rows.Statement.{statement}
 use Rattle.tables.proofs.product.add_rows.Tie as tie
@@ -53,7 +53,7 @@ add-row-requires c κs =
       entry .pre .2,
       omega arith,
       part-length (a .p .n) (l .start) (l .window) (inside (c .before)),
-      symbols-part (a .p .q) (a .p .n) (l .start) (l .window) (l .inv .2 .symbols) (positive (a .p) (entry .pre .0 .sound)),
+      symbols-part (a .p .q) (l .start) (l .start + a .p .n) (l .window) (l .inv .2 .symbols),
     )
 
 add-j : tie.Need-add-j Inv-loop μ-loop

@@ -7,7 +7,7 @@ use lib.ListN.{getD}
 use Rattle.algebra.specs.Sum.{sum}
 use Rattle.field.specs.Fields.{opsOf}
 use Rattle.field.specs.Symbols.{Is}
-use Rattle.code.proofs.Lists.{symbol-below}
+use Rattle.field.proofs.Symbols.{symbol-below}
 use Rattle.code.proofs.Numbers.{positive}
 use Rattle.tables.proofs.Places.{Place, place-of, product-sum, sum-more, product-sum-all}
 use Rattle.tables.proofs.product.times_g.Statement.{statement}
