@@ -9,6 +9,7 @@ pub mod Lists
 pub mod Settings
 pub mod Numbers
 pub mod Reading
+pub mod LevelBlocks
 pub mod Residuals
 pub mod ResidualSteps
 pub mod Messages

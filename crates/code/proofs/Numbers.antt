@@ -1,5 +1,5 @@
 -- The bridge for the code: what a setting's definitions give on numbers below q is what the abstract code gives on elements.
--- Holds: `transmission-long`; `fieldOf`, `rootOf`, `orderAt`, `overField`, `lifted`; `sent-number`, `timesG-number`, `combination-number`, `rowSymbol-number`, `rowSymbol-below`; `transmission-view`, `transmission-length`, `sent-below`, `transmission-symbols`; `byteCost` and its law; `window-cost`.
+-- Holds: `transmission-long`; `fieldOf`, `rootOf`, `orderAt`, `overField`, `root-number`, `mapped-code`, `lifted`; `sent-number`, `timesG-number`, `combination-number`, `rowSymbol-number`, `rowSymbol-below`; `transmission-view`, `transmission-length`, `sent-below`, `transmission-symbols`; `byteCost` and its law; `window-cost`.
 use mathlib.Core.Path.{_≡_, refl, sym, ap, ap₂, subst, fun-ext, _∙_}
 use mathlib.Core.Bool.{Bool, true, false, not}
 use mathlib.Core.List.{List}
@@ -65,11 +65,12 @@ module _ (p : Setting) (S : Sound p) where
   unfolding fieldOf
   keeps = number-keeps (p .q) (opsOf (p .q)) laws
 
-  mapped-code : mapped overField (opsOf (p .q)) number ≡ codeOf p
+  pub root-number : number rootOf ≡ alpha
   unfolding rootOf
-  mapped-code =
-      ap (λ (a : ℕ). record { ops = opsOf (p .q); α = a; n = p .n; k = p .k; m = p .m })
-      (number-element (p .q) positive alpha (orderOf (p .q) (S .good) .root-below))
+  root-number = number-element (p .q) positive alpha (orderOf (p .q) (S .good) .root-below)
+
+  pub mapped-code : mapped overField (opsOf (p .q)) number ≡ codeOf p
+  mapped-code = ap (λ (a : ℕ). record { ops = opsOf (p .q); α = a; n = p .n; k = p .k; m = p .m }) root-number
 
   -- Numbers as elements.
   unfoldable pub lifted : (ℕ → ℕ → ℕ) → ℕ → ℕ → Below (p .q)

@@ -32,7 +32,7 @@ fn turn(
     let start = j * p.n;
     let end = start + size;
     super::guess::guess_window(p, products, rows, scale, blocks, j, message, left);
-    let mut information = [0u8; 16];
+    let mut information = [0u8; block::CAPACITY];
     let found = super::window::read_window(
         p,
         products,

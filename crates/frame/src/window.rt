@@ -141,7 +141,7 @@ pub fn read_window(
     let m = p.m;
     let bound = distances_to(p, m);
     if 2 * super::area::weight(window) < bound {
-        *information = [0u8; 16];
+        *information = [0u8; block::CAPACITY];
         return 1;
     }
     find_level(p, products, rows, matrix, window, information)

@@ -1,6 +1,7 @@
 -- What is shown of the tables.
 pub mod Filled
 pub mod Matrices
+pub mod LevelBlocks
 pub mod Places
 pub mod Small
 pub mod Examples
