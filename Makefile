@@ -1,11 +1,10 @@
 # make run: the desk program on document 01's sample lines. make test: all tests. make figures: the benchmark.
 .PHONY: run test gate callers figures
 
-run: target/bin/desk
-	target/bin/desk < crates/desk/stdin
-
-target/bin/desk:
+# Checks and builds first, which is quick when nothing changed.
+run:
 	rt check desk
+	target/bin/desk < crates/desk/stdin
 
 # The gate first, then the tests that use what it built; the gate's own last line comes last, and only if everything passed.
 test:

@@ -48,6 +48,17 @@ def encoded(setting, message, number, transmission):
     }
 
 
+def displayed(setting, reception, j, number):
+    """Window j of a reception: m + 1 blocks from block j on, or an empty part."""
+    n, _, m, _ = SETTINGS[setting]
+    r, part = areas(reception, reception[n * j : n * (j + m + 1)])
+    return {
+        "call": "window",
+        "args": {"number": setting, "reception": r, "j": j},
+        "result": {"answer": answered(number), "part": part if number == 0 else ""},
+    }
+
+
 def long_order(setting, T):
     """An information block 1, 10 or 100 in every block m + 1 apart: its transmission is 01's, again and again."""
     n, k, m, sent = SETTINGS[setting]
@@ -85,9 +96,13 @@ def examples():
         for i in range(0, len(altered), n * (m + 1)):
             altered[i] = (altered[i] + 1) % 5
         yield decoded(setting, altered, 0, message, transmission)
+        yield displayed(setting, altered, 511, 0)
+        yield displayed(setting, altered, 512, 12)
         message, transmission = long_order(setting, 513)
         yield encoded(setting, message, 3, transmission)
         yield decoded(setting, transmission, 3, message, transmission)
+        yield displayed(setting, transmission, 0, 3)
+        yield displayed(setting, transmission, 513, 3)
         # One question after another gets a no, the later ones getting one too.
         message, transmission = long_order(setting, 3)
         wrong = transmission[:9] + [9] + transmission[10:]

@@ -144,4 +144,44 @@ mod tests {
             }
         }
     }
+
+    /// Settings and levels with the stride from block to block, as crates/block_test takes them.
+    const COUNTED: [(u32, usize, usize); 8] = [
+        (1, 0, 1),
+        (1, 1, 1),
+        (1, 2, 1),
+        (2, 0, 523),
+        (2, 1, 523),
+        (2, 2, 16001),
+        (3, 0, 523),
+        (3, 1, 16001),
+    ];
+
+    /// Block `number`: symbol i is the digit of q^i.
+    fn numbered(code: &Code, number: usize) -> Block {
+        let q = code.field.q();
+        let digit = |i| (number / q.pow(i as u32) % q) as u8;
+        std::array::from_fn(|i| if i < code.n { digit(i) } else { 0 })
+    }
+
+    /// The verified block step's stored counts: blocks, those near a codeword, those where repair
+    /// and enumeration agree.
+    #[test]
+    fn counts_are_those_of_the_verified_block_step() {
+        let mut counts = String::new();
+        for (setting, l, stride) in COUNTED {
+            let code = Code::of(setting).unwrap();
+            let codewords = codewords(code, l);
+            let (mut blocks, mut near_blocks, mut agreed) = (0, 0, 0);
+            for number in (0..code.field.q().pow(code.n as u32)).step_by(stride) {
+                let block = numbered(code, number);
+                let near = near(code, l, &codewords, &block);
+                blocks += 1;
+                near_blocks += usize::from(!near.is_empty());
+                agreed += usize::from(repair(code, l, &block[..code.n]).as_slice() == near);
+            }
+            counts += &format!("{setting} {l} {blocks} {near_blocks} {agreed}\n");
+        }
+        assert_eq!(counts, include_str!("../../../crates/block_test/stdout"));
+    }
 }
