@@ -1,7 +1,7 @@
 -- The distance lemma: a block of n symbols that vanishes at r consecutive powers of α and has at most r nonzero symbols is zero.
 -- α has order n. Everything about distances in this project is this lemma again (the BCH bound; 000, section 2).
--- Holds: `powersWhere`, the powers of α at the places of a test; `zero-of-vanishing` (the lemma); its consequences `weight-of-vanishing`,
--- `coefficients-of-vanishing` and `spectrum-injective`.
+-- Holds: `powersWhere`, the powers of α at the places of a test; `zero-of-vanishing` (the lemma); its consequences `coefficients-of-vanishing`
+-- and `spectrum-injective`.
 use mathlib.Core.Path.{_≡_, refl, sym, ap, ap₂, subst, _∙_}
 use mathlib.Core.Bool.{Bool, true, false, not, _&&_}
 use mathlib.Core.List.{List, [], _∷_}
@@ -169,15 +169,6 @@ module _ {F : Type 0} (K : Field F) (n : ℕ) (α : F) (order : Order (K .ops) n
       light-twisted =
           subst (λ (w : ℕ). w ≤ r)
           (countOf-ext n (λ i. not (K .ops .isZero (b i))) (λ i. not (K .ops .isZero (twisted i))) (λ i u. ap not (sym (same-test i)))) light
-
-  -- A nonzero block with r consecutive zeros has more than r nonzero symbols.
-  pub weight-of-vanishing : (c r : ℕ) (b : ℕ → F) → ((s : ℕ) → s < r → valueOf (K .ops) n b (power (K .ops) α (c + s)) ≡ 𝟘)
-      → (p : ℕ) → p < n → (b p ≡ 𝟘 → ⊥) → r < weight (K .ops) n b
-  weight-of-vanishing c r b vanishes p l h = at (decLt r (weight (K .ops) n b))
-    where
-      at : Dec (r < weight (K .ops) n b) → r < weight (K .ops) n b
-      at (yes s) = s
-      at (no d) = absurd (h (zero-of-vanishing c r b vanishes (omega arith) p l))
 
   -- At most n coefficients whose polynomial vanishes at as many consecutive powers are zero.
   pub coefficients-of-vanishing : (c r : ℕ) (x : ℕ → F) → r ≤ n → ((s : ℕ) → s < r → valueOf (K .ops) r x (power (K .ops) α (c + s)) ≡ 𝟘)

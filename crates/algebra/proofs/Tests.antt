@@ -1,13 +1,16 @@
 -- Facts about every number below q by one computed test: the checker runs the test over all of them, a lemma turns it into the fact.
 -- Holds: `and-left`, `and-right`; the test `all`; `all-at`, what it says at each number; `same`, `same-pairs`, `same-triples`, equations in one, two and three
--- variables; `within`, a bound.
+-- variables; `within`, a bound; `false-not-true`.
 use mathlib.Core.Path.{_≡_, refl, subst, sym}
-use mathlib.Core.Bool.{Bool, true, false, _&&_}
+use mathlib.Core.Bool.{Bool, true, false, not, _&&_}
 use Prim.Native.Nat.{ℕ, zero, suc, _<_}
 use native.Mathlib.Nat.{not-suc-le-zero}
 use native.Mathlib.Omega.{arith}
 use lib.Dec.{T, eqb, eqb→eq, ltb, ltb→lt}
 use borrow.Author.Tests.{eqb-true, eqb-false}
+
+pub false-not-true : false ≡ true → ⊥
+false-not-true e = subst (λ (b : Bool). T (not b)) e tt
 
 pub and-left : (a b : Bool) → T (a && b) → T a
 and-left true b t = tt

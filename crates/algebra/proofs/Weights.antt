@@ -1,6 +1,6 @@
 -- Totals of numbers, counts of the places at which a test holds, and weights of sequences over a field.
--- Holds: `total-ext`, `total-mono`, `total-add`, `total-scale`, `total-split`, `total-blocks`; `countOf-ext`, `countOf-le`, `countOf-mono`,
--- `countOf-without`; `zero-test`, `nonzero-test`, `weight-short`.
+-- Holds: `total-ext`, `total-mono`, `total-add`, `total-scale`, `total-split`, `total-blocks`; `countOf-ext`, `one-le`, `countOf-le`, `countOf-mono`,
+-- `countOf-without`; `zero-test`, `nonzero-test`, `zero-uncounted`, `weight-short`.
 use mathlib.Core.Path.{_≡_, refl, sym, ap, ap₂, subst, _∙_}
 use mathlib.Core.Bool.{Bool, true, false, not, _&&_}
 use Prim.Native.Nat.{ℕ, zero, suc, _+_, _*_, _≤_, _<_}
@@ -50,7 +50,8 @@ total-blocks (suc m) n f =
 pub countOf-ext : (n : ℕ) (f g : ℕ → Bool) → ((i : ℕ) → i < n → f i ≡ g i) → countOf n f ≡ countOf n g
 countOf-ext n f g h = total-ext n (λ i. pick (f i) 1 0) (λ i. pick (g i) 1 0) (λ i l. ap {B = ℕ} (λ (b : Bool). pick b 1 0) (h i l))
 
-one-le : (b : Bool) → pick b 1 0 ≤ 1
+-- What one place adds to a count.
+pub one-le : (b : Bool) → pick b 1 0 ≤ 1
 one-le true = omega arith
 one-le false = omega arith
 
@@ -112,6 +113,10 @@ module _ {F : Type 0} (K : Field F) where
       at : {b : Bool} → Tested 𝟘 a b → b ≡ false
       at (is-zero z) = absurd (h z)
       at (non-zero d) = refl
+
+  -- A zero is not counted in a weight.
+  pub zero-uncounted : (a : F) → a ≡ 𝟘 → not (K .ops .isZero a) ≡ true → ⊥
+  zero-uncounted a e h = subst (λ (b : Bool). T (not b)) (sym (ap not (zero-test a e)) ∙ h) tt
 
   -- A sequence that is zero from r on has at most r nonzero terms.
   pub weight-short : (r n : ℕ) (b : ℕ → F) → ((i : ℕ) → r ≤ i → i < n → b i ≡ 𝟘) → weight (K .ops) n b ≤ r

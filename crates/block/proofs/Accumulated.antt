@@ -1,9 +1,9 @@
 -- A loop that adds up: what its sum is before the first term, and after one more.
--- Holds: `zero-below`, `alpha-below`, `sum-none`, `sum-more`; `zeros-at` and `area-zeros`, a cleared area; `below-set` and `area-set`, an area after a store; `distance-none`, `distance-le`, `distance-same`, `distance-more`; `square-place`.
+-- Holds: `zero-below`, `alpha-below`, `sum-none`, `sum-more`; `area-zeros`, a cleared area; `below-set` and `area-set`, an area after a store; `distance-none`, `distance-le`, `distance-same`, `distance-more`; `square-place`.
 use mathlib.Core.Path.{_≡_, refl, sym, ap, subst, _∙_}
 use mathlib.Core.Bool.{Bool, true, false, not}
 use mathlib.Core.List.{List}
-use Prim.Native.Nat.{ℕ, zero, suc, _+_, _*_, _≤_, _<_}
+use Prim.Native.Nat.{ℕ, suc, _+_, _*_, _≤_, _<_}
 use native.Mathlib.Nat.{mul-le-mul-right}
 use native.Mathlib.Numerals.{add-one}
 use native.Mathlib.Omega.{arith}
@@ -18,6 +18,7 @@ use Rattle.algebra.specs.Weight.{total, distance}
 use Rattle.algebra.proofs.Weights.{countOf-le}
 use Rattle.field.specs.Fields.{Good, five-elements, eight-elements, opsOf, alpha}
 use Rattle.field.specs.Symbols.{Is}
+use Rattle.code.proofs.Lists.{getD-zeros}
 use Rattle.block.specs.Area.{AllBelow, Area, capacity}
 
 pub zero-below : (q : ℕ) → Good q → 0 < q
@@ -52,11 +53,6 @@ below-set q l i v h b j = at (ℕ-discrete j i) (decLt i (length l))
 pub area-set : (q : ℕ) (l : List ℕ) (i v : ℕ) → Area q l → v < q → Area q (set l i v)
 area-set q l i v h b = record { size = length-set l i v ∙ h .size; below = below-set q l i v (h .below) b }
 
-pub zeros-at : (n i : ℕ) → _≡_ {A = ℕ} (getD (replicate n 0) i 0) 0
-zeros-at zero i = refl
-zeros-at (suc n) zero = refl
-zeros-at (suc n) (suc i) = zeros-at n i
-
 -- A count of differing places: none yet, one more place that agrees, one more that differs.
 module _ (a b : ℕ → ℕ) where
   pub distance-none : 0 ≡ distance 0 a b
@@ -82,4 +78,4 @@ square-place k a e h l = let next : a + 1 ≤ k = omega arith in omega (arith, m
 
 -- A cleared area.
 pub area-zeros : (q : ℕ) → Good q → Area q (replicate capacity 0)
-area-zeros q good = record { size = refl; below = λ i. subst (λ (t : ℕ). t < q) (sym (zeros-at capacity i)) (zero-below q good) }
+area-zeros q good = record { size = refl; below = λ i. subst (λ (t : ℕ). t < q) (sym (getD-zeros capacity i)) (zero-below q good) }

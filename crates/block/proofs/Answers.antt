@@ -17,13 +17,14 @@ use Rattle.code.specs.Code.{levelDistance}
 use Rattle.code.specs.Transmission.{view}
 use Rattle.code.specs.Level.{combination}
 use Rattle.code.specs.Settings.{codeOf, Sound}
+use Rattle.code.specs.Reading.{blockDistance}
 use Rattle.code.proofs.Numbers.{positive}
 use Rattle.tables.specs.Tables.{MatrixOf}
 use Rattle.block.specs.Area.{at}
 use Rattle.block.specs.Progress.{Found}
 use Rattle.block.specs.Spectrum.{SpectrumOf, Continued}
 use Rattle.block.specs.Information.{Read}
-use Rattle.block.specs.Step.{blockCost, Information, Step, near, far}
+use Rattle.block.specs.Step.{Information, Step, near, far}
 use Rattle.block.proofs.Spectra.{found-longer}
 use Rattle.block.proofs.CandidateBelow.{combination-same, length-of-near, read-of-near}
 
@@ -40,9 +41,9 @@ pub record Known (p : Setting) (l : ℕ) (block : List ℕ) (length-found : ℕ)
 
 -- A locator too long: every information is far.
 pub step-long : (p : Setting) (l : ℕ) (block found : List ℕ) (L : ℕ) → Known p l block L → levelDistance (p .n) (p .k) l ≤ 2 * L → Step p l block found false
-step-long p l block found L P h = far (λ x information. by-cost x information (decLt (blockCost p l block x) (levelDistance (p .n) (p .k) l)))
+step-long p l block found L P h = far (λ x information. by-cost x information (decLt (2 * blockDistance p (at block) l x) (levelDistance (p .n) (p .k) l)))
   where
-    by-cost : (x : ℕ → ℕ → ℕ) → Information p l x → Dec (blockCost p l block x < levelDistance (p .n) (p .k) l) → levelDistance (p .n) (p .k) l ≤ blockCost p l block x
+    by-cost : (x : ℕ → ℕ → ℕ) → Information p l x → Dec (2 * blockDistance p (at block) l x < levelDistance (p .n) (p .k) l) → levelDistance (p .n) (p .k) l ≤ 2 * blockDistance p (at block) l x
     by-cost x information (yes close) =
         let short = length-of-near p (P .sound) l (P .level) block (P .long) (P .symbols) x information (P .series) (P .locator) L close (P .located) (P .spectral) in
         absurd (omega (arith, short))
@@ -67,7 +68,7 @@ module _ (p : Setting) (l : ℕ) (block found : List ℕ) (count : ℕ) (P : Par
   step-near h = near (P .reads .area) (omega (arith, P .counted))
 
   -- If the information x were near, it would be what was read, and its count the count.
-  same-count : (x : ℕ → ℕ → ℕ) → Information p l x → blockCost p l block x < levelDistance (p .n) (p .k) l
+  same-count : (x : ℕ → ℕ → ℕ) → Information p l x → 2 * blockDistance p (at block) l x < levelDistance (p .n) (p .k) l
       → count ≡ distance (p .n) (at block) (combination (codeOf p) l x)
   same-count x information close =
       P .counted
@@ -84,8 +85,8 @@ module _ (p : Setting) (l : ℕ) (block found : List ℕ) (count : ℕ) (P : Par
           (P .inverse .inverses) (P .reads)
 
   pub step-far : levelDistance (p .n) (p .k) l ≤ 2 * count → Step p l block found false
-  step-far h = far (λ x information. by-cost x information (decLt (blockCost p l block x) (levelDistance (p .n) (p .k) l)))
+  step-far h = far (λ x information. by-cost x information (decLt (2 * blockDistance p (at block) l x) (levelDistance (p .n) (p .k) l)))
     where
-      by-cost : (x : ℕ → ℕ → ℕ) → Information p l x → Dec (blockCost p l block x < levelDistance (p .n) (p .k) l) → levelDistance (p .n) (p .k) l ≤ blockCost p l block x
+      by-cost : (x : ℕ → ℕ → ℕ) → Information p l x → Dec (2 * blockDistance p (at block) l x < levelDistance (p .n) (p .k) l) → levelDistance (p .n) (p .k) l ≤ 2 * blockDistance p (at block) l x
       by-cost x information (yes close) = let same = same-count x information close in absurd (omega (arith, same))
       by-cost x information (no d) = omega arith

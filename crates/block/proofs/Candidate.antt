@@ -8,7 +8,7 @@ use native.Mathlib.Omega.{arith}
 use Rattle.algebra.specs.Ops.{Ops, sub}
 use Rattle.algebra.specs.Sum.{sum, power}
 use Rattle.algebra.specs.Weight.{weight}
-use Rattle.algebra.proofs.Laws.{Field, neg-add, neg-neg, add-neg-cancel, ring}
+use Rattle.algebra.proofs.Laws.{Field, sub-sub, ring}
 use Rattle.algebra.proofs.Order.{Order}
 use Rattle.algebra.proofs.Sums.{sum-ext}
 use Rattle.algebra.proofs.Polynomials.{valueOf-sub}
@@ -61,9 +61,6 @@ module _ {F : Type 0} (K : Field F) (α : F) (n k m : ℕ) (order : Order (K .op
     -- The whole spectrum of v, and how the locator continued that of its error.
     module _ (whole : (s : ℕ) → s < n → c (suc s) ≡ spectrum K n α order v s)
         (d values : ℕ → F) (extended : Extended (K .ops) L (n - (l + 1) * k) ((l + 1) * k) σ c d values) where
-      back : (a b : F) → a ⊕ ⊖ (a ⊕ ⊖ b) ≡ b
-      back a b = ap (λ (t : F). a ⊕ t) (neg-add K a (⊖ b) ∙ ap (λ (t : F). ⊖ a ⊕ t) (neg-neg K b)) ∙ add-neg-cancel K a b
-
       -- What the received block has besides the error is the combination's spectrum.
       pub values-of-near : (u : ℕ) → u < (l + 1) * k → values u ≡ spectrum K n α order (λ i. combination code l x i) (n - (l + 1) * k + u)
       unfolding error sent
@@ -71,7 +68,7 @@ module _ {F : Type 0} (K : Field F) (α : F) (n k m : ℕ) (order : Order (K .op
           let place : n - (l + 1) * k + 1 + u ≡ suc (n - (l + 1) * k + u) = omega arith in
           difference-is-rest K n α order (n - (l + 1) * k) error c known-error L p scale σ τ located d values ((l + 1) * k) extended w light small u h
           ∙ ap₂ (sub (K .ops)) (ap c place ∙ whole (n - (l + 1) * k + u) (omega arith)) (spectrum-error (n - (l + 1) * k + u))
-          ∙ back (spectrum K n α order v (n - (l + 1) * k + u)) (spectrum K n α order sent (n - (l + 1) * k + u))
+          ∙ sub-sub K (spectrum K n α order v (n - (l + 1) * k + u)) (spectrum K n α order sent (n - (l + 1) * k + u))
 
       -- The matrix reads the combination's information off them.
       pub information-of-near : (M : ℕ → ℕ → F) → Inverses code M → (b a : ℕ) → b ≤ l → a < k

@@ -6,7 +6,7 @@ use mathlib.Core.List.{List}
 use Prim.Native.Nat.{ℕ, zero, suc, _+_, _-_, _*_, _≤_, _<_}
 use native.Mathlib.Numerals.{add-one}
 use native.Mathlib.Omega.{arith}
-use lib.Dec.{T, eqb}
+use lib.Dec.{eqb}
 use lib.ListN.{length, getD}
 use borrow.Author.Tests.{eqb-true}
 use Rattle.algebra.specs.Ops.{Ops, sub, pick}
@@ -17,7 +17,7 @@ use Rattle.algebra.proofs.Laws.{add-neg}
 use Rattle.algebra.proofs.Order.{Order}
 use Rattle.algebra.proofs.Sums.{sum-ext}
 use Rattle.algebra.proofs.Polynomials.{valueOf-ext, value-is-valueOf}
-use Rattle.algebra.proofs.Weights.{countOf-mono, zero-test}
+use Rattle.algebra.proofs.Weights.{countOf-mono, zero-uncounted}
 use Rattle.algebra.proofs.Naturality.{power-natural, valueOf-natural}
 use Rattle.algebra.proofs.Below.{FieldBelow, Below, number, number-keeps, orderBelow}
 use Rattle.field.specs.Fields.{opsOf, alpha}
@@ -30,6 +30,7 @@ use Rattle.code.specs.Generator.{rowSymbol, timesG}
 use Rattle.code.specs.Transmission.{view}
 use Rattle.code.specs.Level.{combination, evaluation, identity, Inverses}
 use Rattle.code.specs.Settings.{codeOf, Sound}
+use Rattle.code.specs.Reading.{blockDistance}
 use Rattle.code.proofs.Blocks.{codeOver}
 use Rattle.code.proofs.Naturality.{mapped, combination-natural, evaluation-natural}
 use Rattle.block.specs.Area.{at}
@@ -37,7 +38,7 @@ use Rattle.block.specs.Locator.{Located, Extended}
 use Rattle.block.specs.Progress.{Found}
 use Rattle.block.specs.Spectrum.{SpectrumOf, Continued}
 use Rattle.block.specs.Information.{Read}
-use Rattle.block.specs.Step.{blockCost, Information}
+use Rattle.block.specs.Step.{Information}
 use Rattle.block.proofs.Accumulated.{alpha-below}
 use Rattle.block.proofs.Levels.{level-fits}
 use Rattle.block.proofs.LocatorBelow.{K, positive, el, up, down, raise, fall, zero-down, one-down, add-down, mul-down, neg-down, sum-down, tail-down, located-up}
@@ -156,23 +157,19 @@ module _ (p : Setting) (S : Sound p) where
           (λ i. not (eqb (at block i) (combination (codeOf p) l x i)))
           (λ i h e. by-test i e (eqb (at block i) (combination (codeOf p) l x i)) refl)
         where
-          never : (t : Bool) → t ≡ true → not t ≡ true → ⊥
-          never true s e = subst (λ (b : Bool). T (not b)) e tt
-          never false s e = subst (λ (b : Bool). T (not b)) s tt
-
           by-test : (i : ℕ) → not (K q o B .ops .isZero (sub (K q o B .ops) (received i) (combination over l lifted i))) ≡ true
               → (t : Bool) → eqb (at block i) (combination (codeOf p) l x i) ≡ t → not t ≡ true
           by-test i e true s =
               let same : received i ≡ combination over l lifted i =
               raise q o B _ _ (received-down i) (combination-down i) (eqb-true (at block i) (combination (codeOf p) l x i) s) in
-              absurd (never (K q o B .ops .isZero (sub (K q o B .ops) (received i) (combination over l lifted i)))
-              (zero-test (K q o B) _ (ap (λ (t : Below q). sub (K q o B .ops) t (combination over l lifted i)) same ∙ add-neg (K q o B) (combination over l lifted i))) e)
+              absurd (zero-uncounted (K q o B) (sub (K q o B .ops) (received i) (combination over l lifted i))
+              (ap (λ (t : Below q). sub (K q o B .ops) t (combination over l lifted i)) same ∙ add-neg (K q o B) (combination over l lifted i)) e)
           by-test i e false s = refl
 
       all-known : p .n - (l + 1) * p .k + 1 - 1 ≡ p .n - (l + 1) * p .k
       all-known = omega arith
 
-      module _ (series locator : List ℕ) (L : ℕ) (close : blockCost p l block x < levelDistance (p .n) (p .k) l) (located : Found q series (p .n - (l + 1) * p .k + 1) L locator) where
+      module _ (series locator : List ℕ) (L : ℕ) (close : 2 * blockDistance p (at block) l x < levelDistance (p .n) (p .k) l) (located : Found q series (p .n - (l + 1) * p .k + 1) L locator) where
         values-up : (count : ℕ) → SpectrumOf q block count series → (s : ℕ) → s < count → up q o B (at series) (suc s) ≡ spectrum (K q o B) (p .n) root order received s
         values-up count spectral s h =
             raise q o B _ _ (down q o B (at series (suc s)) (spectral .area .below (suc s))) (spectrum-down s) (ap (at series) (sym (add-one s)) ∙ spectral .values s h)

@@ -3,12 +3,11 @@
 -- A light block e (2 × weight at most r) whose spectrum is known at α^0 .. α^(r-1): the locator of what is known annihilates the whole spectrum.
 -- Holds: `light-annihilated` (the distance lemma again), `length-of-light`, `recurs-of-light`, and `extension-is-spectrum`: the recurrence gives all of it.
 use mathlib.Core.Path.{_≡_, refl, sym, ap, ap₂, subst, _∙_}
-use mathlib.Core.Bool.{Bool, true, false, not}
+use mathlib.Core.Bool.{Bool, true, not}
 use Prim.Native.Nat.{ℕ, zero, suc, _+_, _-_, _≤_, _<_}
 use native.Mathlib.Numerals.{add-one}
 use native.Mathlib.Omega.{arith}
 use native.Mathlib.Decide.{decLt}
-use lib.Dec.{T}
 use Rattle.algebra.specs.Ops.{Ops, sub}
 use Rattle.algebra.specs.Sum.{sum, power}
 use Rattle.algebra.specs.Polynomial.{valueOf}
@@ -18,7 +17,7 @@ use Rattle.algebra.proofs.Order.{Order}
 use Rattle.algebra.proofs.Sums.{sum-ext, sum-zeros, sum-first}
 use Rattle.algebra.proofs.Powers.{power-add}
 use Rattle.algebra.proofs.Polynomials.{valueOf-scale, valueOf-twist, valueOf-of-sum, valueOf-zeros}
-use Rattle.algebra.proofs.Weights.{countOf-mono, zero-test}
+use Rattle.algebra.proofs.Weights.{countOf-mono, zero-uncounted}
 use Rattle.algebra.proofs.Distance.{zero-of-vanishing}
 use Rattle.block.specs.Locator.{convolution, tail, Located, Extended}
 use Rattle.block.proofs.LocatorStep.{convolution-short}
@@ -66,12 +65,8 @@ module _ {F : Type 0} (K : Field F) (n : ℕ) (α : F) (order : Order (K .ops) n
     weight-y : weight (K .ops) n y ≤ weight (K .ops) n e
     weight-y = countOf-mono n (λ i. not (K .ops .isZero (y i))) (λ i. not (K .ops .isZero (e i))) (λ i l h. at i h (K .tested (e i)))
       where
-        never : (t : Bool) → t ≡ true → not t ≡ true → ⊥
-        never true p q = subst (λ (b : Bool). T (not b)) q tt
-        never false p q = subst (λ (b : Bool). T (not b)) p tt
-
         at : (i : ℕ) {t : Bool} → not (K .ops .isZero (y i)) ≡ true → Tested 𝟘 (e i) t → not t ≡ true
-        at i h (is-zero z) = absurd (never (K .ops .isZero (y i)) (zero-test K (y i) (y-zero i z)) h)
+        at i h (is-zero z) = absurd (zero-uncounted K (y i) (y-zero i z) h)
         at i h (non-zero d) = refl
 
     -- A block of weight at most w whose spectrum the series annihilates at w consecutive places has its whole spectrum annihilated.

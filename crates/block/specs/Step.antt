@@ -1,29 +1,22 @@
 -- The block step's promise (01, "find the level-l code block within (d_l - 1)/2, rounded down, symbols"; a cost below d_l in place of halves rounded down).
 -- For a received block and a level either the information of a combination that is near, or that none is.
--- Holds: `blockCost`, `Information`, `Step`.
+-- Holds: `Information`, `Step`.
 use mathlib.Core.Bool.{Bool, true, false}
 use mathlib.Core.List.{List}
 use Prim.Native.Nat.{ℕ, _*_, _≤_, _<_}
-use lib.ListN.{getD}
-use Rattle.algebra.specs.Weight.{distance}
 use Rattle.code.specs.declared.Setting.{Setting}
 use Rattle.code.specs.Code.{levelDistance}
 use Rattle.code.specs.Transmission.{view}
-use Rattle.code.specs.Level.{combination}
-use Rattle.code.specs.Settings.{codeOf}
-use Rattle.block.specs.Area.{Area}
-
--- What a received block costs against the level-l combination of the information x: twice the number of differing symbols.
-abbrev pub blockCost : Setting → ℕ → List ℕ → (ℕ → ℕ → ℕ) → ℕ
-blockCost p l block x = 2 * distance (p .n) (λ i. getD block i 0) (combination (codeOf p) l x)
+use Rattle.code.specs.Reading.{blockDistance}
+use Rattle.block.specs.Area.{at, Area}
 
 -- x_0 .. x_l are information blocks: k symbols below q each.
 abbrev pub Information : Setting → ℕ → (ℕ → ℕ → ℕ) → Type 0
 Information p l x = (b r : ℕ) → b ≤ l → r < p .k → x b r < p .q
 
--- near: the l+1 information blocks that were found, symbols below q in their area, combine to a block that costs less than d_l;
--- far: every information costs d_l or more.
+-- near: the l+1 information blocks that were found, symbols below q in their area, combine to a block that costs less than d_l, a differing symbol
+-- costing 2; far: every information costs d_l or more.
 pub data Step (p : Setting) (l : ℕ) (block information : List ℕ) : Bool → Type 0 where
-  near : Area (p .q) information → blockCost p l block (view (p .k) information) < levelDistance (p .n) (p .k) l
+  near : Area (p .q) information → 2 * blockDistance p (at block) l (view (p .k) information) < levelDistance (p .n) (p .k) l
       → Step p l block information true
-  far : ((x : ℕ → ℕ → ℕ) → Information p l x → levelDistance (p .n) (p .k) l ≤ blockCost p l block x) → Step p l block information false
+  far : ((x : ℕ → ℕ → ℕ) → Information p l x → levelDistance (p .n) (p .k) l ≤ 2 * blockDistance p (at block) l x) → Step p l block information false

@@ -1,5 +1,5 @@
 -- Block facts over any field, α of order n and 1 ≤ k ≤ n (000, section 2 and Theorem 3.1; BLUEPRINT of the proof: zeros of f, twist, spectrum).
--- Holds: `codeOver`; `base-zero` and `base-nonzero` (the zeros of f); `valueOf-timesG` (the value of x × G_j); `timesG-twist` (G_(a+j) from G_j);
+-- Holds: `codeOver`; `base-zero` and `base-nonzero` (the zeros of f); `valueOf-timesG` (the value of x × G_j);
 -- `spectrum-combination`, `combination-vanishes` and `combination-on-stretch` (the spectrum of a combination).
 use mathlib.Core.Path.{_≡_, refl, sym, ap, ap₂, _∙_}
 use mathlib.Core.List.{List, _∷_, _++_}
@@ -102,25 +102,6 @@ module _ {F : Type 0} (K : Field F) (α : F) (n k m : ℕ) where
     where
       e : F
       e = pow (j * k) ⊗ y
-
-  twist-step : (x g p r : F) → x ⊗ (g ⊗ (p ⊗ r)) ≡ r ⊗ (x ⊗ (g ⊗ p))
-  twist-step x g p r = simp ring
-
-  -- The rows of G_(a+j) are those of G_j, their symbols multiplied by the powers of α^(ak): one more twist.
-  pub timesG-twist : (x : ℕ → F) (a j i : ℕ) → timesG c x (a + j) i ≡ timesG c x j i ⊗ power (K .ops) (pow (a * k)) i
-  unfolding timesG rowSymbol
-  timesG-twist x a j i =
-      sum-ext (K .ops) k (λ r. x r ⊗ (getD (replicate r 𝟘 ++ base c) i 𝟘 ⊗ pow ((a + j) * k * i)))
-      (λ r. power (K .ops) (pow (a * k)) i ⊗ (x r ⊗ (getD (replicate r 𝟘 ++ base c) i 𝟘 ⊗ pow (j * k * i))))
-      (λ r l. ap (λ (t : F). x r ⊗ (getD (replicate r 𝟘 ++ base c) i 𝟘 ⊗ t)) split
-      ∙ twist-step (x r) (getD (replicate r 𝟘 ++ base c) i 𝟘) (pow (j * k * i)) (power (K .ops) (pow (a * k)) i))
-      ∙ sum-scale K k (power (K .ops) (pow (a * k)) i) (λ r. x r ⊗ (getD (replicate r 𝟘 ++ base c) i 𝟘 ⊗ pow (j * k * i)))
-      ∙ mul-comm K (power (K .ops) (pow (a * k)) i) (sum (K .ops) k (λ r. x r ⊗ (getD (replicate r 𝟘 ++ base c) i 𝟘 ⊗ pow (j * k * i))))
-    where
-      split : pow ((a + j) * k * i) ≡ pow (j * k * i) ⊗ power (K .ops) (pow (a * k)) i
-      split =
-          let e : (a + j) * k * i ≡ j * k * i + a * k * i = omega arith in
-          ap pow e ∙ power-add K α (j * k * i) (a * k * i) ∙ ap (λ (t : F). pow (j * k * i) ⊗ t) (sym (power-power K α (a * k) i))
 
   -- What information block x contributes to the spectrum where its exponent is e.
   unfoldable pub part : (ℕ → F) → ℕ → F

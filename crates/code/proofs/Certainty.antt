@@ -1,7 +1,7 @@
 -- The certainty of the first differing block, over any field and any n, k, m with (m+1)k ≤ n (demand 3; 000, Theorem 3.4).
 -- Received symbols are of any type R; `cost v a` is what receiving v costs where a was sent, and the only law used is that two different
 -- symbols cost at least 2 together. So a later meaning of cost changes no proof here.
--- Holds: `costTo`; `sent-difference` (transmissions that agree so far differ by combinations); `first-block-certain`;
+-- Holds: `costTo`; `sent-difference` (transmissions that agree so far differ by combinations); `costs-apart`; `block-certain` (two near messages have the same block);
 -- `agree-through` (near windows 0 .. j determine blocks 0 .. j).
 use mathlib.Core.Path.{_≡_, sym, ap, ap₂, subst, _∙_}
 use mathlib.Core.Logic.{_⊎_, inl, inr}

@@ -95,7 +95,7 @@ module _ (p : Setting) (S : Sound p) where
         → 2 * windowWeight p window < distancesTo (p .n) (p .k) (p .m) → (r : ℕ) → r < p .k → y 0 r ≡ 0
     first-zero y Y near clean r l =
         sym (number-lifted p S y 0 r (Y 0 r))
-        ∙ ap number (turn-zero (fieldOf p S) (rootOf p S) (p .n) (p .k) (p .m) elementCost element-shift (orderAt p S) (S .room) elements-apart w (lifted p S y)
+        ∙ ap number (turn-zero (fieldOf p S) (rootOf p S) (p .n) (p .k) (p .m) elementCost (orderAt p S) (S .room) elements-apart w (lifted p S y)
         (subst (λ (t : ℕ). t < distancesTo (p .n) (p .k) (p .m)) (rebuilt-cost y Y (p .m)) near)
         (subst (λ (t : ℕ). t < distancesTo (p .n) (p .k) (p .m)) zero-cost clean) r l)
         ∙ number-zero
@@ -106,7 +106,7 @@ module _ (p : Setting) (S : Sound p) where
         → (r : ℕ) → r < p .k → y 0 r ≡ z 0 r
     first-certain y z Y Z l low near good r h =
         sym (number-lifted p S y 0 r (Y 0 r))
-        ∙ ap number (turn-certain (fieldOf p S) (rootOf p S) (p .n) (p .k) (p .m) elementCost element-shift (orderAt p S) (S .room) elements-apart w
+        ∙ ap number (turn-certain (fieldOf p S) (rootOf p S) (p .n) (p .k) (p .m) elementCost (orderAt p S) (S .room) elements-apart w
         (lifted p S y) (lifted p S z) l low
         (subst (λ (t : ℕ). t < distancesTo (p .n) (p .k) l) (rebuilt-cost y Y l) near)
         (subst (λ (t : ℕ). t < distancesTo (p .n) (p .k) l) (rebuilt-cost z Z l) good) r h)
@@ -119,7 +119,7 @@ module _ (p : Setting) (S : Sound p) where
         → levelDistance (p .n) (p .k) l ≤ 2 * blockDistance p (view (p .n) window l) l y
     level-refused y z Y Z l low near close bad =
         subst (λ (t : ℕ). levelDistance (p .n) (p .k) l ≤ t) (sym (block-cost y Y l l))
-        (turn-refused (fieldOf p S) (rootOf p S) (p .n) (p .k) (p .m) elementCost element-shift (orderAt p S) (S .room) elements-apart w
+        (turn-refused (fieldOf p S) (rootOf p S) (p .n) (p .k) (p .m) elementCost (orderAt p S) (S .room) elements-apart w
         (lifted p S y) (lifted p S z) l low
         (subst (λ (t : ℕ). t < distancesTo (p .n) (p .k) l) (rebuilt-cost y Y l) near)
         (subst (λ (t : ℕ). t < levelDistance (p .n) (p .k) l) (block-cost z Z l l) close)

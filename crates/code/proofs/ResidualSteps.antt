@@ -1,5 +1,5 @@
 -- The residual of a message g in a reception, on bytes: how it changes when a block of g is changed, how it begins, and what is left at the end.
--- Holds: `timesG-only`, `lessened`, `residual-step`, `residual-start`, `residual-back`, `residual-test`, `residual-distance`.
+-- Holds: `timesG-only`, `lessened`, `residual-step`, `residual-start`, `residual-back`, `residual-test`.
 use mathlib.Core.Path.{_≡_, refl, sym, ap, ap₂, subst, _∙_}
 use mathlib.Core.Bool.{Bool, true, false}
 use mathlib.Core.List.{List}
@@ -220,10 +220,7 @@ module _ (p : Setting) (S : Sound p) where
     pub residual-back : sub (opsOf (p .q)) (view (p .n) reception s i) (view (p .n) left s i) ≡ sentSymbol (codeOf p) (view (p .k) g) s i
     residual-back =
         sym (ap₂ (sub (opsOf (p .q))) number-received number-left) ∙ sym (number-sub p S received (sub (fieldOf p S .ops) received sent))
-        ∙ ap number (take-back received sent) ∙ number-sent
-      where
-        take-back : (a b : Element (p .q)) → sub (fieldOf p S .ops) a (sub (fieldOf p S .ops) a b) ≡ b
-        take-back a b = sub-sub (fieldOf p S) a b
+        ∙ ap number (sub-sub (fieldOf p S) received sent) ∙ number-sent
 
     -- The residual is zero just where the reception holds the sent symbol.
     pub residual-test : eqb (view (p .n) reception s i) (sentSymbol (codeOf p) (view (p .k) g) s i) ≡ eqb (view (p .n) left s i) 0

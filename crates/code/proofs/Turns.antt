@@ -1,6 +1,6 @@
 -- One turn of reading, at a window by itself, over any field and any n, k, m with (m+1)k ≤ n (01, "Reading a reception"; 000, Theorem 3.4).
 -- The window's blocks are w 0 .. w m; a message block sequence y contributes the combinations of y_0 .. y_l to block l (`rebuiltCost`).
--- Holds: `turn-zero`, `turn-certain`, `turn-refused`, `turn-drops`, `turn-ends`; `sent-single` (what one information block contributes to a frame).
+-- Holds: `turn-zero`, `turn-certain`, `turn-refused`; `sent-single` (what one information block contributes to a frame).
 use mathlib.Core.Path.{_≡_, refl, sym, ap, ap₂, subst, _∙_}
 use mathlib.Core.Bool.{Bool}
 use Prim.Native.Nat.{ℕ, zero, suc, _+_, _-_, _*_, _≤_, _<_}
@@ -8,9 +8,8 @@ use native.Mathlib.Omega.{arith}
 use native.Mathlib.Decide.{decLe}
 use lib.Dec.{leb, eqb}
 use borrow.Author.Tests.{le-leb, lt-leb, eq-eqb, ne-eqb}
-use Rattle.algebra.specs.Ops.{Ops, sub, pick}
+use Rattle.algebra.specs.Ops.{Ops, pick}
 use Rattle.algebra.specs.Sum.{sum}
-use Rattle.algebra.specs.Weight.{total}
 use Rattle.algebra.proofs.Laws.{Field}
 use Rattle.algebra.proofs.Order.{Order}
 use Rattle.algebra.proofs.Sums.{sum-zeros, sum-single}
@@ -91,21 +90,20 @@ module _ {F : Type 0} (K : Field F) (α : F) (n k m : ℕ) where
       (sent-ahead K α n k m y 0 s i (omega arith) (λ t r u v. absurd (omega arith))
       ∙ combination-ext K α n k m s (λ t r. y (0 + t) r) y i (λ t r u v. let same : 0 + t ≡ t = omega arith in ap (λ (a : ℕ). y a r) same))))
 
-  module _ (cost : F → F → ℕ) (shift : (v a s : F) → cost (sub (K .ops) v s) (sub (K .ops) a s) ≡ cost v a)
-      (order : Order (K .ops) n α) (fits : (m + 1) * k ≤ n) (apart : (v a b : F) → (a ≡ b → ⊥) → 2 ≤ cost v a + cost v b) (w : ℕ → ℕ → F) where
+  module _ (cost : F → F → ℕ) (order : Order (K .ops) n α) (fits : (m + 1) * k ≤ n) (apart : (v a b : F) → (a ≡ b → ⊥) → 2 ≤ cost v a + cost v b) (w : ℕ → ℕ → F) where
     -- A window near zero: every near y has a zero first block.
     pub turn-zero : (y : ℕ → ℕ → F) → rebuiltCost c cost w 0 y m < distancesTo n k m → costTo n cost w (λ s i. 𝟘) 0 m < distancesTo n k m
         → (r : ℕ) → r < k → y 0 r ≡ 𝟘
     turn-zero y near clean =
         let m-le : m ≤ m = omega arith in
-        zero-window K α n k m cost shift order fits apart w y 0 (λ s r u v. absurd (omega arith))
+        zero-window K α n k m cost order fits apart w y 0 (λ s r u v. absurd (omega arith))
         (subst (λ (t : ℕ). t < distancesTo n k m) (sym (sent-cost cost w y m m-le)) near) clean
 
     -- Two near sequences have the same first block.
     pub turn-certain : (y z : ℕ → ℕ → F) (l : ℕ) → l ≤ m → rebuiltCost c cost w 0 y l < distancesTo n k l → rebuiltCost c cost w 0 z l < distancesTo n k l
         → (r : ℕ) → r < k → y 0 r ≡ z 0 r
     turn-certain y z l low near good =
-        candidate-right K α n k m cost shift order fits apart w y z 0 l low (λ s r u v. absurd (omega arith))
+        candidate-right K α n k m cost order fits apart w y z 0 l low (λ s r u v. absurd (omega arith))
         (subst (λ (t : ℕ). t < distancesTo n k l) (sym (sent-cost cost w y l low)) near) good
 
     -- A candidate of level l that is refused: block l of every near sequence costs at least d_l.
@@ -118,20 +116,6 @@ module _ {F : Type 0} (K : Field F) (α : F) (n k m : ℕ) where
         (total-ext n _ _ (λ i q. ap₂ cost (ap (λ (a : ℕ). w a i) same)
         (sent-ahead K α n k m y 0 l i low (λ t r u v. absurd (omega arith))
         ∙ combination-ext K α n k m l (λ t r. y (0 + t) r) y i (λ t r u v. let place : 0 + t ≡ t = omega arith in ap (λ (a : ℕ). y a r) place))))
-        (refused-costs K α n k m cost shift order fits apart w y z 0 l low (λ s r u v. absurd (omega arith))
+        (refused-costs K α n k m cost order fits apart w y z 0 l low (λ s r u v. absurd (omega arith))
         (subst (λ (t : ℕ). t < distancesTo n k l) (sym (sent-cost cost w y l low)) near)
         (subst (λ (a : ℕ). blockCost c cost (w a) l z < levelDistance n k l) (sym same) close) bad)
-
-  module _ (cost : F → F → ℕ) (w : ℕ → ℕ → F) where
-    -- After a refused level the blocks below it are near..
-    pub turn-drops : (y : ℕ → ℕ → F) (l : ℕ) → rebuiltCost c cost w 0 y (suc l) < distancesTo n k (suc l)
-        → levelDistance n k (suc l) ≤ blockCost c cost (w (suc l)) (suc l) y → rebuiltCost c cost w 0 y l < distancesTo n k l
-    unfolding rebuiltCost distancesTo total
-    turn-drops y l near heavy =
-        let same : 0 + suc l ≡ suc l = omega arith in
-        omega (arith, ap (λ (a : ℕ). blockCost c cost (w a) (suc l) y) same)
-
-    -- .. and level 0 is not refused.
-    pub turn-ends : (y : ℕ → ℕ → F) → rebuiltCost c cost w 0 y 0 < distancesTo n k 0 → levelDistance n k 0 ≤ blockCost c cost (w 0) 0 y → ⊥
-    unfolding rebuiltCost distancesTo total
-    turn-ends y near heavy = omega arith

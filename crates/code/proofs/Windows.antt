@@ -1,8 +1,8 @@
 -- Reading a window, over any field and any n, k, m with (m+1)k ≤ n (01, "Reading a reception"; 000, Algorithms 2.3 and 3.3, Theorem 3.4).
--- The received frame w and the sent frames have symbols of the field; `cost` is a symbol's cost, with its two laws: different symbols cost at least
--- 2 together, and a cost stays when the same symbol is subtracted on both sides.
--- Holds: `sent-sub` and `residual-cost` (a message against the residual of a guess); `sent-ahead`; `zero-window`; `candidate-right`;
--- `refused-costs` and `far-costs` (a refused level: its block alone costs at least d_l), `cost-drops` and `no-level-left` (the chain of refusals).
+-- The received frame w and the sent frames have symbols of the field; `cost` is a symbol's cost, with one law: different symbols cost at least
+-- 2 together.
+-- Holds: `blockCost` and `rebuiltCost`; `sent-sub` (the transmission of a difference) and `sent-ahead`; `zero-window`; `candidate-right`;
+-- `combination-certain`; `refused-costs` (a refused level: its block alone costs at least d_l).
 use mathlib.Core.Path.{_≡_, refl, sym, ap, subst, _∙_}
 use mathlib.Core.Bool.{Bool, true, false, not}
 use Prim.Native.Nat.{ℕ, zero, suc, _+_, _-_, _*_, _≤_, _<_}
@@ -117,17 +117,7 @@ module _ {F : Type 0} (K : Field F) (α : F) (n k m : ℕ) where
       sent-ahead (placed b z) b l i low (λ s r h q. placed-before b z s r h)
       ∙ combination-ext l (λ s r. placed b z (b + s) r) z i (λ s r h q. placed-at b z s r)
 
-  module _ (cost : F → F → ℕ) (shift : (v a s : F) → cost (sub (K .ops) v s) (sub (K .ops) a s) ≡ cost v a) where
-    -- What message x costs for what was received is what x - g costs for the residual of g.
-    pub residual-cost : (w x g : ℕ → ℕ → F) (b l : ℕ)
-        → costTo n cost (λ s i. sub (K .ops) (w s i) (sentSymbol c g s i)) (sentSymbol c (λ s r. sub (K .ops) (x s r) (g s r))) b l
-        ≡ costTo n cost w (sentSymbol c x) b l
-    unfolding costTo
-    residual-cost w x g b l =
-        total-ext (suc l) _ _ (λ s h. total-ext n _ _
-        (λ i q. ap (cost (sub (K .ops) (w (b + s) i) (sentSymbol c g (b + s) i))) (sym (sent-sub x g (b + s) i))
-        ∙ shift (w (b + s) i) (sentSymbol c x (b + s) i) (sentSymbol c g (b + s) i)))
-
+  module _ (cost : F → F → ℕ) where
     placed-cost : (w : ℕ → ℕ → F) (b : ℕ) (z : ℕ → ℕ → F) (l : ℕ) → l ≤ m → costTo n cost w (sentSymbol c (placed b z)) b l ≡ rebuiltCost c cost w b z l
     unfolding costTo rebuiltCost blockCost
     placed-cost w b z l low =
@@ -218,22 +208,3 @@ module _ {F : Type 0} (K : Field F) (α : F) (n k m : ℕ) where
               (λ i q. ap (cost (w (b + s) i)) (sent-ahead y b s i (omega arith) zeros
               ∙ combination-ext s ahead z i (λ t r u v. same t r (omega arith) v)))) in
               absurd (omega arith)
-
-      -- No candidate at level l: the same.
-      pub far-costs : (w y : ℕ → ℕ → F) (b l : ℕ) → l ≤ m → ((s r : ℕ) → s < b → r < k → y s r ≡ 𝟘)
-          → levelDistance n k l ≤ blockCost c cost (w (b + l)) l (λ s r. y (b + s) r) → levelDistance n k l ≤ total n (λ i. cost (w (b + l) i) (sentSymbol c y (b + l) i))
-      unfolding blockCost
-      far-costs w y b l low zeros far =
-          subst (λ (t : ℕ). levelDistance n k l ≤ t) (total-ext n _ _ (λ i q. ap (cost (w (b + l) i)) (sym (sent-ahead y b l i low zeros)))) far
-
-      -- After a refused level the blocks below it are near.
-      pub cost-drops : (w a : ℕ → ℕ → F) (b l : ℕ) → costTo n cost w a b (suc l) < distancesTo n k (suc l)
-          → levelDistance n k (suc l) ≤ total n (λ i. cost (w (b + suc l) i) (a (b + suc l) i)) → costTo n cost w a b l < distancesTo n k l
-      unfolding costTo distancesTo total
-      cost-drops w a b l near heavy = omega arith
-
-      -- Level 0 is not refused.
-      pub no-level-left : (w a : ℕ → ℕ → F) (b : ℕ) → costTo n cost w a b 0 < distancesTo n k 0
-          → levelDistance n k 0 ≤ total n (λ i. cost (w (b + 0) i) (a (b + 0) i)) → ⊥
-      unfolding costTo distancesTo total
-      no-level-left w a b near heavy = omega arith

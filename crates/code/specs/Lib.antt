@@ -1,4 +1,4 @@
--- The code in 01's order and words: the generator, the transmission, the level codes, the settings, windows and fits.
+-- The code in 01's order and words: the generator, the transmission, the level codes, the settings, windows and fits, reading.
 pub mod Code
 pub mod Generator
 pub mod Transmission

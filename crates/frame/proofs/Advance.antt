@@ -5,8 +5,8 @@ use mathlib.Core.Bool.{Bool, true, false, not}
 use mathlib.Core.List.{List}
 use Prim.Native.Nat.{ℕ, _+_, _-_, _*_, _<_}
 use native.Mathlib.Omega.{arith}
-use lib.Dec.{T}
 use lib.ListN.{length, getD, take, drop}
+use Rattle.algebra.proofs.Tests.{false-not-true}
 use Rattle.field.specs.Symbols.{Symbols}
 use Rattle.code.specs.declared.Setting.{Setting}
 use Rattle.code.specs.Settings.{Sound}
@@ -15,9 +15,6 @@ use Rattle.frame.specs.Window.{Near, Levels, served, none-serves}
 use Rattle.frame.specs.Frame.{Progress, Added, NoneFits, Advanced, advanced, stopped}
 use Rattle.frame.proofs.Guesses.{windowAt}
 use Rattle.frame.proofs.Progress.{progress-found, progress-none}
-
-absurd-bool : false ≡ true → ⊥
-absurd-bool e = subst (λ (b : Bool). T (not b)) e tt
 
 module _ (p : Setting) (S : Sound p) (T : ℕ) (reception : List ℕ) (R : Symbols (p .q) reception) (long : length reception ≡ (T + p .m) * p .n)
     (j : ℕ) (message left : List ℕ) (P : Progress p T reception j message left) (l : j < T) (information : List ℕ) where
@@ -47,13 +44,13 @@ module _ (p : Setting) (T : ℕ) (reception : List ℕ) (j : ℕ) (message left 
   -- A turn that did not stop has advanced..
   pub advance-more : {r : Bool} → Advanced p T reception j message left r → not r ≡ false → Progress p T reception j message left
   advance-more (advanced progress) h = progress
-  advance-more (stopped far) h = absurd (absurd-bool (sym h))
+  advance-more (stopped far) h = absurd (false-not-true (sym h))
 
   -- .. and one that stopped shows that no message fits, whatever the areas hold.
   pub advance-stopped : {r : Bool} (i : ℕ) (message' left' : List ℕ) → Advanced p T reception j message left r → not r ≡ true → Advanced p T reception i message' left' false
-  advance-stopped i message' left' (advanced progress) h = absurd (absurd-bool h)
+  advance-stopped i message' left' (advanced progress) h = absurd (false-not-true h)
   advance-stopped i message' left' (stopped far) h = stopped far
 
   pub stopped-none : {r : Bool} → Advanced p T reception j message left r → not r ≡ true → NoneFits p T reception
-  stopped-none (advanced progress) h = absurd (absurd-bool h)
+  stopped-none (advanced progress) h = absurd (false-not-true h)
   stopped-none (stopped far) h = far

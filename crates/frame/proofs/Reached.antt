@@ -1,13 +1,13 @@
 -- The levels of a window in turn, from m down (the chain of refusals; 000, Theorem 3.4).
 -- Holds: `Reached` (how far every near y has come once the levels from l on failed), `reached-start`, `reached-next`, `reached-served`, `reached-none`.
 use mathlib.Core.Path.{_≡_, sym, ap, subst, _∙_}
-use mathlib.Core.Bool.{Bool, true, false, not}
+use mathlib.Core.Bool.{Bool, true, false}
 use mathlib.Core.List.{List}
 use Prim.Native.Nat.{ℕ, zero, suc, _+_, _-_, _*_, _≤_}
 use native.Mathlib.Numerals.{add-one}
 use native.Mathlib.Omega.{arith}
-use lib.Dec.{T}
 use lib.ListN.{getD}
+use Rattle.algebra.proofs.Tests.{false-not-true}
 use Rattle.field.specs.Symbols.{Symbols}
 use Rattle.field.proofs.Symbols.{symbol-below}
 use Rattle.code.specs.declared.Setting.{Setting}
@@ -33,7 +33,7 @@ reached-start p window = subst (Reached p window) (sym (add-one (p .m))) (λ y Y
 module _ (p : Setting) (S : Sound p) (window information : List ℕ) (symbols : Symbols (p .q) window) where
   pub reached-next : (l : ℕ) {r : Bool} → Tried p window l information r → r ≡ false → Reached p window (suc l) → Reached p window l
   unfolding Reached reach
-  reached-next l (serves area good) e reached = absurd (subst T e tt)
+  reached-next l (serves area good) e reached = absurd (false-not-true (sym e))
   reached-next zero (fails heavy) e reached = λ y Y near. level-ends p S window y (reached y Y near) (heavy y Y (reached y Y near))
   reached-next (suc l) (fails heavy) e reached = λ y Y near. level-drops p S window y l (reached y Y near) (heavy y Y (reached y Y near))
 
@@ -44,7 +44,7 @@ module _ (p : Setting) (S : Sound p) (window information : List ℕ) (symbols : 
       first-certain p S window (symbol-below (p .q) window symbols (positive p S)) y (view (p .k) information) Y (λ s t. area .below (s * p .k + t)) l low
       (reached y Y near) good r h
       ∙ (let place : 0 * p .k + r ≡ r = omega arith in ap (λ (t : ℕ). getD information t 0) place))
-  reached-served l low (fails heavy) e reached = absurd (subst (λ (b : Bool). T (not b)) e tt)
+  reached-served l low (fails heavy) e reached = absurd (false-not-true e)
 
 pub reached-none : (p : Setting) (window information : List ℕ) → Reached p window 0 → Levels p window information 0
 unfolding Reached reach

@@ -4,8 +4,8 @@ use mathlib.Core.Path.{_≡_, refl, sym, subst}
 use mathlib.Core.Bool.{Bool, true, false, not}
 use mathlib.Core.List.{List}
 use Prim.Native.Nat.{ℕ, _+_, _-_, _*_, _≤_, _<_}
-use lib.Dec.{T}
 use lib.ListN.{take, drop}
+use Rattle.algebra.proofs.Tests.{false-not-true}
 use Rattle.field.specs.Symbols.{Symbols}
 use Rattle.field.proofs.Symbols.{symbol-below}
 use Rattle.code.specs.declared.Setting.{Setting}
@@ -21,21 +21,18 @@ use Rattle.block.specs.Step.{Step, near, far}
 use Rattle.frame.specs.Window.{Tried, serves, fails}
 use Rattle.frame.proofs.Levels.{part-distance}
 
-absurd-bool : false ≡ true → ⊥
-absurd-bool e = subst (λ (b : Bool). T (not b)) e tt
-
 module _ (p : Setting) (l : ℕ) (block information : List ℕ) where
   -- The block step's information is an area of symbols, if it answered "near".
   pub step-area : {r : Bool} → Step p l block information r → not r ≡ false → Area (p .q) information
   step-area (near area close) h = area
-  step-area (far none) h = absurd (absurd-bool (sym h))
+  step-area (far none) h = absurd (false-not-true (sym h))
 
 module _ (p : Setting) (S : Sound p) (window : List ℕ) (symbols : Symbols (p .q) window) (l : ℕ) (level : l ≤ p .m) (information : List ℕ) where
   abbrev block : List ℕ
   block = take (l * p .n + p .n - l * p .n) (drop (l * p .n) window)
 
   pub tried-far : {r : Bool} → Step p l block information r → not r ≡ true → Tried p window l information false
-  tried-far (near area close) e = absurd (absurd-bool e)
+  tried-far (near area close) e = absurd (false-not-true e)
   tried-far (far none) e =
       fails (λ y Y h. subst (λ (t : ℕ). levelDistance (p .n) (p .k) l ≤ 2 * t)
       (part-distance (p .n) l (l * p .n) window (combination (codeOf p) l y) refl) (none y (λ b r u v. Y b r)))
@@ -47,7 +44,7 @@ module _ (p : Setting) (S : Sound p) (window : List ℕ) (symbols : Symbols (p .
       l level good
       (subst (λ (t : ℕ). 2 * t < levelDistance (p .n) (p .k) l) (part-distance (p .n) l (l * p .n) window (combination (codeOf p) l (view (p .k) information)) refl) close)
       bad)
-  tried-refused (far none) h bad = absurd (absurd-bool (sym h))
+  tried-refused (far none) h bad = absurd (false-not-true (sym h))
 
   pub tried-serves : {r : Bool} → Step p l block information r → not r ≡ false
       → 2 * rebuiltDistance p window l (view (p .k) information) < distancesTo (p .n) (p .k) l → Tried p window l information true

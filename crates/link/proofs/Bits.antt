@@ -1,7 +1,7 @@
--- Marks as bits of a number. Holds: `bit-inside` and `bit-past` (bit i of `bits n test` is the test at i for i < n, and 0 from n on), `bits-small`,
+-- Marks as bits of a number. Holds: `bit-inside` and `bit-past` (bit i of the number is the test at i for i < n, and 0 from n on), `bits-small`,
 -- `bits-front` (one more test before the others), `ones-bits` (as many ones as tests that hold).
 use mathlib.Core.Path.{_≡_, refl, sym, ap, ap₂, fun-ext, _∙_}
-use mathlib.Core.Bool.{Bool, true, false}
+use mathlib.Core.Bool.{Bool}
 use Prim.Native.Nat.{ℕ, zero, suc, _+_, _-_, _*_, _/_, _%_, _^_, _≤_, _<_}
 use native.Mathlib.Nat.{div-div-eq-div-mul, div-eq-of-lt, div-one, mul-comm, pow-suc}
 use native.Mathlib.Omega.{arith}
@@ -10,22 +10,18 @@ use lib.Dec.{lit<}
 use lib.Pow.{pow-mono}
 use Rattle.algebra.specs.Ops.{pick}
 use Rattle.algebra.specs.Weight.{total, countOf}
+use Rattle.algebra.proofs.Weights.{one-le}
 use Rattle.link.specs.Marks.{bits}
-
--- A bit is 0 or 1.
-bit-small : (t : Bool) → pick t 1 0 ≤ 1
-bit-small true = omega arith
-bit-small false = omega arith
 
 -- The lowest bit, and the others.
 module _ (n : ℕ) (test : ℕ → Bool) where
   lowest : bits (suc n) test % 2 ≡ pick (test 0) 1 0
   unfolding bits
-  lowest = omega (arith, bit-small (test 0))
+  lowest = omega (arith, one-le (test 0))
 
   others : bits (suc n) test / 2 ≡ bits n (λ i. test (suc i))
   unfolding bits
-  others = omega (arith, bit-small (test 0))
+  others = omega (arith, one-le (test 0))
 
 pub bits-small : (n : ℕ) (test : ℕ → Bool) → bits n test < 2 ^ n
 unfolding bits
@@ -33,7 +29,7 @@ bits-small zero test = lit< tt
 bits-small (suc n) test =
     let rest : bits n (λ i. test (suc i)) < 2 ^ n = bits-small n (λ i. test (suc i)) in
     let twice : 2 ^ suc n ≡ 2 ^ n * 2 = pow-suc 2 n in
-    omega (arith, bit-small (test 0))
+    omega (arith, one-le (test 0))
 
 -- Bit i + 1 is bit i of the half.
 halved : (a i : ℕ) → a / 2 ^ suc i ≡ a / 2 / 2 ^ i

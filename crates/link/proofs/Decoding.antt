@@ -7,11 +7,12 @@ use mathlib.Core.List.{List, _++_}
 use Prim.Native.Nat.{ℕ, _+_, _-_, _*_, _≤_, _<_}
 use native.Mathlib.Omega.{arith}
 use native.Mathlib.Decide.{ℕ-discrete}
-use lib.Dec.{T, eqb}
+use lib.Dec.{eqb}
 use lib.ListN.{length, getD, drop, set, replicate, length-set}
 use lib.Seq.{ext-getD, getD-set-same, getD-set-other}
 use Rattle.algebra.specs.Ops.{sub}
 use Rattle.algebra.specs.Weight.{countOf}
+use Rattle.algebra.proofs.Tests.{false-not-true}
 use Rattle.field.specs.Fields.{opsOf}
 use Rattle.field.specs.Symbols.{Symbols}
 use Rattle.code.specs.declared.Setting.{Setting}
@@ -48,29 +49,26 @@ module _ (q : ℕ) (reception before : List ℕ) where
           ∙ ap (λ (t : ℕ). sub (opsOf q) (getD reception t 0) (getD before t 0)) (sym s)
       at a (no d) h = getD-set-other after i a v 0 d ∙ R .inside a (omega arith)
 
-absurd-bool : false ≡ true → ⊥
-absurd-bool e = subst (λ (b : Bool). T (not b)) e tt
-
 module _ (p : Setting) (T : ℕ) (reception message left : List ℕ) where
   -- What the frame's reader leaves, if it found a message..
   pub left-symbols : {r : Bool} → FrameRead p T reception message left r → not r ≡ false → Symbols (p .q) left
   left-symbols (fits F symbols long residual) h = symbols
-  left-symbols (none far) h = absurd (absurd-bool (sym h))
+  left-symbols (none far) h = absurd (false-not-true (sym h))
 
   pub left-long : {r : Bool} → FrameRead p T reception message left r → not r ≡ false → length left ≡ length reception
   left-long (fits F symbols long residual) h = long
-  left-long (none far) h = absurd (absurd-bool (sym h))
+  left-long (none far) h = absurd (false-not-true (sym h))
 
   -- .. and if it found none.
   pub frame-decoded-none : {r : Bool} (a : Answer) (cleared emptied : List ℕ) → FrameRead p T reception message left r → not r ≡ true → a ≡ answer 7 0 0
       → cleared ≡ replicate (T * p .k) 0 → emptied ≡ replicate ((T + p .m) * p .n) 0 → FrameDecoded p T reception a cleared emptied
-  frame-decoded-none a cleared emptied (fits F symbols long residual) h e f g = absurd (absurd-bool h)
+  frame-decoded-none a cleared emptied (fits F symbols long residual) h e f g = absurd (false-not-true h)
   frame-decoded-none a cleared emptied (none far) h e f g = frame-none far e f g
 
   pub frame-decoded-found : Sound p → {r : Bool} (restored : List ℕ) (weight : ℕ) → Symbols (p .q) reception → length reception ≡ (T + p .m) * p .n
       → FrameRead p T reception message left r → not r ≡ false → weight ≡ countOf (length left) (λ i. not (eqb (getD left i 0) 0))
       → Restored (p .q) (length left) reception left restored → FrameDecoded p T reception (answer 0 0 weight) message restored
-  frame-decoded-found S restored weight R long (none far) h counted back = absurd (absurd-bool (sym h))
+  frame-decoded-found S restored weight R long (none far) h counted back = absurd (false-not-true (sym h))
   frame-decoded-found S restored weight R long (fits F symbols same residual) h counted back =
       frame-found F
       (ap (answer 0 0) (counted ∙ (ap (λ (t : ℕ). countOf t (λ i. not (eqb (getD left i 0) 0))) (same ∙ long)

@@ -1,5 +1,5 @@
 -- "Orders that were worked through" (01): the ten starred ones, encodings and receptions alike, as one list with one statement.
--- Holds: `orders`; `orders-kept`, each of them is kept (`Kept` of `OrderKinds`). One more order is one more line: encoded, read, or with number 7.
+-- Holds: `orders`; `orders-kept`, each of them is kept (Kept, of OrderKinds). One more order is one more line: encoded, read, or with number 7.
 use mathlib.Core.List.{List, [], _∷_, List·Memᴰ}
 use Prim.Native.Nat.{ℕ}
 use lib.Dec.{T as Passes}
