@@ -23,6 +23,7 @@ settings = setting 5 1 2 ∷ setting 8 2 2 ∷ setting 8 3 1 ∷ []
 abbrev pub isSetting : ℕ → Bool
 isSetting s = leb 1 s && leb s (length settings)
 
+-- The setting with a number; what it says of a number that is none matters nowhere, since every call asks question 1 first.
 abbrev pub settingOf : ℕ → Setting
 settingOf s = getD settings (s - 1) (setting 0 0 0)
 
