@@ -1,14 +1,15 @@
 -- A setting's rows, filled from its nested table one row after the other.
 -- Holds: `rowOf`, `entry`, `Filled`, `filled-none`, `filled-more`, `rows-of` (the filled rows are the generator's, for every setting).
-use mathlib.Core.Path.{_≡_, sym, ap, ap₂, subst, _∙_}
-use mathlib.Core.List.{List, [], _++_}
+use mathlib.Core.Path.{_≡_, refl, sym, ap, ap₂, subst, _∙_}
+use mathlib.Core.List.{List, [], _++_, append-assoc}
 use Prim.Native.Nat.{ℕ, _+_, _-_, _*_, _/_, _%_, _≤_, _<_}
 use native.Mathlib.Nat.{mod-lt, div-lt-iff-lt-mul}
 use native.Mathlib.Omega.{arith}
 use native.Mathlib.Decide.{decLt}
 use lib.Arith.{digits-div, digits-mod, digits-lt}
-use lib.ListN.{length, getD, take, drop, replicate, length-replicate, List·getD-append}
-use lib.Seq.{paste, length-paste, length-paste-head, length-take-le, getD-append-add, getD-take, getD-drop}
+use lib.ListN.{length, getD, take, drop, replicate, length-replicate}
+use lib.Seq.{paste, take-length, drop-drop}
+use borrow.Rule.Slice.PartMut.{putMid}
 use Rattle.code.specs.declared.Setting.{Setting}
 use Rattle.code.specs.Generator.{rowSymbol}
 use Rattle.code.specs.Transmission.{tabulate}
@@ -18,6 +19,7 @@ use Rattle.code.specs.Settings.{Sound}
 use Rattle.code.proofs.Settings.{block-positive}
 use Rattle.code.proofs.Numbers.{rowSymbol-below, positive}
 use Rattle.tables.specs.Tables.{generatorOf, RowsOf}
+use Rattle.tables.proofs.Parts.{put-length, put-before, put-inside, put-after}
 
 -- Row a of a nested table of groups of k rows.
 abbrev pub rowOf : ℕ → List (List (List ℕ)) → ℕ → List ℕ
@@ -33,26 +35,10 @@ pub record Filled (size n k : ℕ) (table : List (List (List ℕ))) (a : ℕ) (r
   pub at : (b : ℕ) → b < a * n → getD rows b 0 ≡ entry n k table b
   pub past : (b : ℕ) → a * n ≤ b → getD rows b 0 ≡ 0
 
--- What stands in a list after a part of it was replaced.
-module _ (d : List ℕ) (at : ℕ) (s : List ℕ) (n : ℕ) (room : at + n ≤ length d) (enough : n ≤ length s) where
-  front : length (take at d ++ take n s) ≡ at + n
-  front = length-paste-head d at s n (omega arith) enough
-
-  paste-below : (b : ℕ) → b < at → getD (paste d at s n) b 0 ≡ getD d b 0
-  paste-below b l =
-      List·getD-append (take at d ++ take n s) (drop (at + n) d) 0 b (omega (arith, front))
-      ∙ (List·getD-append (take at d) (take n s) 0 b (omega (arith, length-take-le at d (omega arith))) ∙ getD-take at d b 0 l)
-
-  paste-inside : (i : ℕ) → i < n → getD (paste d at s n) (at + i) 0 ≡ getD s i 0
-  paste-inside i l =
-      List·getD-append (take at d ++ take n s) (drop (at + n) d) 0 (at + i) (omega (arith, front))
-      ∙ (ap (λ (t : ℕ). getD (take at d ++ take n s) (t + i) 0) (sym (length-take-le at d (omega arith)))
-      ∙ (getD-append-add (take at d) (take n s) i 0 ∙ getD-take n s i 0 l))
-
-  paste-past : (i : ℕ) → getD (paste d at s n) (at + n + i) 0 ≡ getD d (at + n + i) 0
-  paste-past i =
-      ap (λ (t : ℕ). getD (paste d at s n) (t + i) 0) (sym front)
-      ∙ (getD-append-add (take at d ++ take n s) (drop (at + n) d) i 0 ∙ getD-drop (at + n) d i 0)
+-- A row laid out is the part in its place.
+paste-put : (d : List ℕ) (at : ℕ) (s : List ℕ) → paste d at s (length s) ≡ putMid at (length s) d s
+paste-put d at s =
+    append-assoc (take at d) (take (length s) s) (drop (at + length s) d) ∙ ap₂ (λ (l r : List ℕ). take at d ++ (l ++ r)) (take-length s) (sym (drop-drop (length s) at d))
 
 module _ (size n k : ℕ) (table : List (List (List ℕ))) where
   pub filled-none : Filled size n k table 0 (replicate size 0)
@@ -62,29 +48,27 @@ module _ (size n k : ℕ) (table : List (List (List ℕ))) where
   pub filled-more : (a : ℕ) (rows after : List ℕ) → Filled size n k table a rows → a * n + n ≤ size → length (rowOf k table a) ≡ n
       → after ≡ paste rows (a * n) (rowOf k table a) (length (rowOf k table a)) → Filled size n k table (a + 1) after
   filled-more a rows after f l e p =
-      subst (Filled size n k table (a + 1)) (sym (p ∙ ap (paste rows (a * n) (rowOf k table a)) e))
-      (record { long = length-paste rows (a * n) (rowOf k table a) n room enough ∙ f .long; at = λ b h. at b h (decLt b (a * n)); past = past })
+      subst (Filled size n k table (a + 1)) (sym (p ∙ paste-put rows (a * n) row))
+      (record {
+        long = put-length (a * n) (length row) rows row room refl ∙ f .long;
+        at = λ b h. at b h (decLt b (a * n));
+        past = λ b h. put-after (a * n) (length row) rows row room refl b (omega (arith, e)) ∙ f .past b (omega arith);
+      })
     where
-      room : a * n + n ≤ length rows
-      room = omega (arith, f .long)
+      row : List ℕ
+      row = rowOf k table a
 
-      enough : n ≤ length (rowOf k table a)
-      enough = omega (arith, e)
+      room : a * n + length row ≤ length rows
+      room = omega (arith, f .long, e)
 
-      at : (b : ℕ) → b < (a + 1) * n → Dec (b < a * n) → getD (paste rows (a * n) (rowOf k table a) n) b 0 ≡ entry n k table b
-      at b h (yes g) = paste-below rows (a * n) (rowOf k table a) n room enough b g ∙ f .at b g
+      at : (b : ℕ) → b < (a + 1) * n → Dec (b < a * n) → getD (putMid (a * n) (length row) rows row) b 0 ≡ entry n k table b
+      at b h (yes g) = put-before (a * n) (length row) rows row room refl b g ∙ f .at b g
       at b h (no g) =
           let i : ℕ = b - a * n in
           let place : b ≡ a * n + i = omega arith in
           let inside : i < n = omega arith in
-          rw place (paste-inside rows (a * n) (rowOf k table a) n room enough i inside
+          rw place (put-inside (a * n) (length row) rows row room refl i (omega (arith, e))
           ∙ sym (ap₂ (λ (r c : ℕ). getD (rowOf k table r) c 0) (digits-div a inside) (digits-mod a inside)))
-
-      past : (b : ℕ) → (a + 1) * n ≤ b → getD (paste rows (a * n) (rowOf k table a) n) b 0 ≡ 0
-      past b h =
-          let i : ℕ = b - (a * n + n) in
-          let place : b ≡ a * n + n + i = omega arith in
-          rw place (paste-past rows (a * n) (rowOf k table a) n room enough i ∙ f .past (a * n + n + i) (omega arith))
 
 -- The generator's symbols, at each place of the nested table.
 entry-generator : (p : Setting) (b : ℕ) → b / p .n / p .k < p .m + 1 → b / p .n % p .k < p .k → b % p .n < p .n

@@ -1,10 +1,10 @@
 -- A part of a list as it is lent, and the list with another part in its place (`putMid`, what a lent part leaves in the whole), place by place.
 -- Holds: `part-size`, `part-length`, `part-symbol`; `put-length`, `put-before`, `put-inside`, `put-after`, `put-symbols`.
-use mathlib.Core.Path.{_≡_, sym, ap, ap₂, _∙_}
+use mathlib.Core.Path.{_≡_, sym, ap, _∙_}
 use mathlib.Core.List.{List, _++_}
-use Prim.Native.Nat.{ℕ, _+_, _-_, _≤_, _<_, min}
+use Prim.Native.Nat.{ℕ, _+_, _-_, _≤_, _<_}
 use native.Mathlib.Omega.{arith}
-use lib.ListN.{length, getD, take, drop, length-take, length-drop, List·getD-append}
+use lib.ListN.{length, getD, take, drop, length-drop, List·getD-append}
 use lib.Seq.{getD-take, getD-drop, getD-append-add, length-take-le}
 use borrow.Rule.Slice.PartMut.{putMid, same-len-mid}
 use Rattle.field.specs.Symbols.{Symbols}
@@ -16,11 +16,7 @@ module _ (n start : ℕ) (whole : List ℕ) where
   part-size = omega arith
 
   pub part-length : start + n ≤ length whole → length (take (start + n - start) (drop start whole)) ≡ n
-  part-length h =
-      length-take (start + n - start) (drop start whole) ∙ (ap₂ min part-size (length-drop start whole) ∙ least (length whole - start) (omega arith))
-    where
-      least : (b : ℕ) → n ≤ b → min n b ≡ n
-      least b l = omega arith
+  part-length h = length-take-le (start + n - start) (drop start whole) (omega (arith, length-drop start whole)) ∙ part-size
 
   pub part-symbol : (i : ℕ) → i < n → getD (take (start + n - start) (drop start whole)) i 0 ≡ getD whole (start + i) 0
   part-symbol i l =
@@ -28,7 +24,6 @@ module _ (n start : ℕ) (whole : List ℕ) where
       getD-take (start + n - start) (drop start whole) i 0 below ∙ getD-drop start whole i 0
 
 -- The whole with another part ys in the place of the k elements from a on.
-
 module _ (a k : ℕ) (xs ys : List ℕ) (room : a + k ≤ length xs) (long : length ys ≡ k) where
   start-long : length (take a xs) ≡ a
   start-long = length-take-le a xs (omega arith)
