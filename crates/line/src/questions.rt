@@ -3,22 +3,11 @@ ghost use mathlib.Core.Path.{_≡_};
 ghost use mathlib.Core.List.{_++_};
 ghost use Prim.Native.Nat.{_≤_};
 ghost use lib.ListN.{length};
-ghost use Rattle.link.specs.Questions.{answer, firstNo};
+ghost use Rattle.link.specs.Questions.{firstNo};
 ghost use Rattle.line.specs.Characters.{digitOf};
 ghost use Rattle.line.specs.Questions.{settingIn, blocksIn, characterQuestions, headQuestions};
 use super::characters;
 use link::Answer;
-
-// "A "no" gives the number .. the count is 0." Number and place 0 say that every answer is "yes".
-fn answered(number: u32, place: usize) -> Answer
-    ensures { λ r. ⌜ r ≡ answer number place 0 ⌝ }
-{
-    Answer {
-        number: number,
-        altered: 0,
-        place: place as u64,
-    }
-}
 
 fn value(character: u8) -> u32
     ensures { λ r. ⌜ r ≡ digitOf character ⌝ }
@@ -50,16 +39,16 @@ fn character_questions(line: &[u8]) -> Answer
     ensures { λ r. ⌜ r ≡ firstNo (characterQuestions (now (line .entry))) ⌝ }
 {
     if 3602 < line.len() {
-        return answered(11, 0);
+        return link::questions::no(11, 0);
     }
     let right = characters::first_wrong(line);
     if line.len() < 4 {
-        return answered(9, right);
+        return link::questions::no(9, right as u64);
     }
     if right != line.len() {
-        return answered(9, right);
+        return link::questions::no(9, right as u64);
     }
-    answered(0, 0)
+    link::questions::yes()
 }
 
 // Questions 1, 3 and 10.
@@ -69,22 +58,22 @@ fn head_questions(line: &[u8]) -> Answer
 {
     let number = setting_in(line);
     if !tables::is_setting(number) {
-        return answered(1, 0);
+        return link::questions::no(1, 0);
     }
     let blocks = blocks_in(line);
     if 512 < blocks {
-        return answered(3, 0);
+        return link::questions::no(3, 0);
     }
     if blocks < 1 {
-        return answered(10, 0);
+        return link::questions::no(10, 0);
     }
     let p = tables::setting(number);
     let n = p.n;
     let m = p.m;
     if line.len() - 4 != (blocks as usize + m) * n {
-        return answered(10, 0);
+        return link::questions::no(10, 0);
     }
-    answered(0, 0)
+    link::questions::yes()
 }
 
 // Questions 11, 9, 1, 3 and 10.

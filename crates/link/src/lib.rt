@@ -3,7 +3,7 @@ pub mod decode;
 pub mod display;
 pub mod encode;
 pub mod mark;
-mod questions;
+pub mod questions;
 
 // The answer of every call: the number and place of the first question answered "no", or 0 and 0, and the number of symbols altered.
 #[repr(C)]

@@ -24,14 +24,14 @@ setting-in-requires c κs = search needs
 is-setting-requires : tie.Need-is-setting-requires
 is-setting-requires c κs = search needs
 
-answered-requires : tie.Need-answered-requires
-answered-requires c κs = search needs
+no-requires : tie.Need-no-requires
+no-requires c κs = search needs
 
 returns : tie.Need-returns
 returns c =
     let line = now (c .before .before .before .before .before .args .line) in
     let number = c .before .before .before .setting-in .result in
-    c .answered .ensures
+    c .no .ensures
     ∙ sym (head-of line number (blocksIn line) (c .before .before .before .setting-in .ensures) refl
     ∙ first-no (ask 1 (isSetting number)) (headLater (blocksIn line) (length line - 4) (settingOf number))
     (sym (c .before .before .is-setting .ensures) ∙ not-true _ (c .before .if1 .taken)))
@@ -39,8 +39,8 @@ returns c =
 blocks-in-requires : tie.Need-blocks-in-requires
 blocks-in-requires c κs = search needs
 
-answered-requires-2 : tie.Need-answered-requires-2
-answered-requires-2 c κs = search needs
+no-requires-2 : tie.Need-no-requires-2
+no-requires-2 c κs = search needs
 
 -- Question 1 got "yes".
 known : (c : tie.Else1) → isSetting (c .before .before .setting-in .result) ≡ true
@@ -55,13 +55,13 @@ later c p e =
     (c .before .before .before .setting-in .ensures) (c .blocks-in .ensures) (known (c .before)) e
 
 returns-2 : tie.Need-returns-2
-returns-2 c = c .answered2 .ensures ∙ sym (later (c .before .before) _ refl ∙ simp (lt-leb _ _ (c .before .if2 .taken)))
+returns-2 c = c .no2 .ensures ∙ sym (later (c .before .before) _ refl ∙ simp (lt-leb _ _ (c .before .if2 .taken)))
 
-answered-requires-3 : tie.Need-answered-requires-3
-answered-requires-3 c κs = search needs
+no-requires-3 : tie.Need-no-requires-3
+no-requires-3 c κs = search needs
 
 returns-3 : tie.Need-returns-3
-returns-3 c = c .answered3 .ensures ∙ sym (later (c .before .before .before) _ refl ∙ simp (le-leb _ _ (c .before .before .if2 .left), lt-leb _ _ (c .before .if3 .taken)))
+returns-3 c = c .no3 .ensures ∙ sym (later (c .before .before .before) _ refl ∙ simp (le-leb _ _ (c .before .before .if2 .left), lt-leb _ _ (c .before .if3 .taken)))
 
 setting-requires : tie.Need-setting-requires
 setting-requires c κs = subst T (sym (known (c .before .before .before))) tt
@@ -83,21 +83,21 @@ add-if4 c = omega (arith, c .before .before .if2 .left, sizes c .memory-most)
 mul-if4 : tie.Need-mul-if4
 mul-if4 c = omega (arith, transmission-small (c .setting .result) (c .before .before .before .blocks-in .result) (sizes c) (c .before .before .if2 .left))
 
-answered-requires-4 : tie.Need-answered-requires-4
-answered-requires-4 c κs = search needs
+no-requires-4 : tie.Need-no-requires-4
+no-requires-4 c κs = search needs
 
 returns-4 : tie.Need-returns-4
 returns-4 c =
-    c .answered4 .ensures
+    c .no4 .ensures
     ∙ sym (later (c .before .before .before .before .before) (c .before .before .setting .result) (c .before .before .setting .ensures)
     ∙ simp (le-leb _ _ (c .before .before .before .before .if2 .left), le-leb _ _ (c .before .before .before .if3 .left), ne-eqb _ _ (c .before .if4 .taken)))
 
-answered-requires-5 : tie.Need-answered-requires-5
-answered-requires-5 c κs = search needs
+yes-requires : tie.Need-yes-requires
+yes-requires c κs = search needs
 
 returns-5 : tie.Need-returns-5
 returns-5 c =
-    c .answered5 .ensures
+    c .yes .ensures
     ∙ sym (later (c .before .before .before .before .before) (c .before .before .setting .result) (c .before .before .setting .ensures)
     ∙ simp (le-leb _ _ (c .before .before .before .before .if2 .left), le-leb _ _ (c .before .before .before .if3 .left), eq-eqb _ _ (c .before .if4 .left)))
 
@@ -107,19 +107,19 @@ head-questions-spec =
     (tie.spec
     setting-in-requires
     is-setting-requires
-    answered-requires
+    no-requires
     returns
     blocks-in-requires
-    answered-requires-2
+    no-requires-2
     returns-2
-    answered-requires-3
+    no-requires-3
     returns-3
     setting-requires
     sub-if4
     cast-if4
     add-if4
     mul-if4
-    answered-requires-4
+    no-requires-4
     returns-4
-    answered-requires-5
+    yes-requires
     returns-5)
