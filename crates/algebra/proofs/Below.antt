@@ -11,10 +11,10 @@ use native.Mathlib.Omega.{arith}
 use lib.Dec.{eqb}
 use borrow.Author.Tests.{eqb-true, eqb-false}
 use Rattle.algebra.specs.Ops.{Ops}
-use Rattle.algebra.specs.Sum.{power}
+use Rattle.algebra.specs.Sum.{sum, power}
 use Rattle.algebra.proofs.Laws.{Field, Tested, is-zero, non-zero}
 use Rattle.algebra.proofs.Order.{Order}
-use Rattle.algebra.proofs.Naturality.{Homomorphism, power-natural}
+use Rattle.algebra.proofs.Naturality.{Homomorphism, power-natural, sum-natural}
 
 -- The laws of a field on the numbers below q.
 pub record FieldBelow (q : ℕ) (o : Ops ℕ) : Type 0 where
@@ -36,12 +36,13 @@ pub record FieldBelow (q : ℕ) (o : Ops ℕ) : Type 0 where
   pub distributes : (a b c : ℕ) → a < q → b < q → c < q → o .mul a (o .add b c) ≡ o .add (o .mul a b) (o .mul a c)
   pub inverse : (a : ℕ) → a < q → (a ≡ 0 → ⊥) → o .mul a (o .inv a) ≡ 1
 
--- The number α has order n: α^0 .. α^(n-1) are distinct numbers below q, and α^n = 1.
+-- The number α has order n: α^0 .. α^(n-1) are distinct numbers below q, and α^n = 1; n times 1 is -1.
 pub record OrderBelow (q : ℕ) (o : Ops ℕ) (n α : ℕ) : Type 0 where
   pub root-below : α < q
   pub power-below : (i : ℕ) → power o α i < q
   pub distinct : (i j : ℕ) → i < n → j < n → power o α i ≡ power o α j → i ≡ j
   pub full : power o α n ≡ 1
+  pub ones : sum o n (λ i. 1) ≡ o .neg 1
 
 abbrev pub Below : ℕ → Type 0
 Below q = (a : ℕ) × (a < q)
@@ -124,6 +125,9 @@ module _ (q : ℕ) (o : Ops ℕ) (B : FieldBelow q o) where
       record {
         distinct = λ i j l s e. A .distinct i j l s (sym (at i) ∙ ap number e ∙ at j);
         full = number-injective _ _ (at n ∙ A .full ∙ sym (number-keeps .on-one ∙ B .one-is));
+        ones = number-injective _ _ (sum-natural (fieldBelow .ops) o number number-keeps n (λ i. fieldBelow .ops .one)
+            ∙ ap (λ (t : ℕ). sum o n (λ i. t)) (number-keeps .on-one ∙ B .one-is) ∙ A .ones
+            ∙ sym (number-keeps .on-neg (fieldBelow .ops .one) ∙ ap (o .neg) (number-keeps .on-one ∙ B .one-is)));
       }
     where
       at : (i : ℕ) → number (power (fieldBelow .ops) (element q h α) i) ≡ power o α i

@@ -7,6 +7,7 @@ pub mod Polynomials
 pub mod Pairing
 pub mod Weights
 pub mod Distance
+pub mod Synthesis
 pub mod Naturality
 pub mod Below
 pub mod Tests

@@ -1,11 +1,11 @@
 -- Every definition of `specs/` goes through a map that keeps the operations: what is computed and then mapped is what is computed from the mapped.
--- Holds: `Homomorphism`, and a lemma for each definition: `sum-natural`, `power-natural`, `value-natural`, `valueOf-natural`, `fromRoots-natural`.
+-- Holds: `Homomorphism`, and a lemma for each definition: `sum-natural`, `power-natural`, `value-natural`, `valueOf-natural`, `falling-natural`, `fromRoots-natural`.
 use mathlib.Core.Path.{_≡_, refl, ap, ap₂, _∙_}
 use mathlib.Core.List.{List, [], _∷_, map}
 use Prim.Native.Nat.{ℕ, zero, suc}
 use Rattle.algebra.specs.Ops.{Ops}
 use Rattle.algebra.specs.Sum.{sum, power}
-use Rattle.algebra.specs.Polynomial.{value, valueOf, timesRoot, timesRootAfter, fromRoots}
+use Rattle.algebra.specs.Polynomial.{value, valueOf, falling, timesRoot, timesRootAfter, fromRoots}
 
 -- A map that keeps the operations.
 pub record Homomorphism {F G : Type 0} (o : Ops F) (p : Ops G) (h : F → G) : Type 0 where
@@ -40,6 +40,13 @@ module _ {F G : Type 0} (o : Ops F) (p : Ops G) (h : F → G) (H : Homomorphism 
   valueOf-natural (suc n) c x =
       H .on-add (c 0) (o .mul x (valueOf o n (λ i. c (suc i)) x))
       ∙ ap (p .add (h (c 0))) (H .on-mul x (valueOf o n (λ i. c (suc i)) x) ∙ ap (p .mul (h x)) (valueOf-natural n (λ i. c (suc i)) x))
+
+  pub falling-natural : (n : ℕ) (v : ℕ → F) (x : F) → h (falling o n v x) ≡ falling p n (λ i. h (v i)) (h x)
+  unfolding falling
+  falling-natural zero v x = H .on-zero
+  falling-natural (suc n) v x =
+      H .on-mul (o .add (falling o n v x) (v n)) x
+      ∙ ap (λ t. p .mul t (h x)) (H .on-add (falling o n v x) (v n) ∙ ap (λ t. p .add t (h (v n))) (falling-natural n v x))
 
   timesRootAfter-natural : (c : List F) (a b : F) → map h (timesRootAfter o a b c) ≡ timesRootAfter p (h a) (h b) (map h c)
   unfolding timesRootAfter

@@ -1,6 +1,6 @@
 -- Polynomial values over a field (01, "The value of a polynomial"): sums, multiples, shorter sequences, the twist, products with (x - a) and with powers of x.
 -- Holds: `valueOf-ext`, `valueOf-add`, `valueOf-scale`, `valueOf-neg`, `valueOf-zeros`, `valueOf-is-sum`, `valueOf-of-sum`, `valueOf-twist`,
--- `value-is-valueOf`, `value-timesRoot`, `value-shift`, `value-at-root`, `value-off-roots`, `length-fromRoots`.
+-- `value-is-valueOf`, `value-timesRoot`, `value-shift`, `value-at-root`, `value-off-roots`, `length-fromRoots`, `monic-fromRoots`.
 use mathlib.Core.Path.{_≡_, refl, sym, ap, ap₂, _∙_}
 use mathlib.Core.List.{List, [], _∷_, _++_}
 use Prim.Native.Nat.{ℕ, zero, suc, _+_, _<_, _≤_}
@@ -155,6 +155,21 @@ pub length-fromRoots : {F : Type 0} (o : Ops F) (roots : List F) → length (fro
 unfolding fromRoots
 length-fromRoots o [] = refl
 length-fromRoots o (a ∷ roots) = length-timesRootAfter o (fromRoots o roots) a (o .zero) ∙ ap suc (length-fromRoots o roots)
+
+last-timesRootAfter : {F : Type 0} (o : Ops F) (p : List F) (a b : F) → getD (timesRootAfter o a b p) (length p) (o .zero) ≡ getD (b ∷ p) (length p) (o .zero)
+unfolding timesRootAfter
+last-timesRootAfter o [] a b = refl
+last-timesRootAfter o (c ∷ p) a b = last-timesRootAfter o p a c
+
+-- The product has the first coefficient 1.
+pub monic-fromRoots : {F : Type 0} (o : Ops F) (roots : List F) → getD (fromRoots o roots) (length roots) (o .zero) ≡ o .one
+unfolding fromRoots
+monic-fromRoots o [] = refl
+monic-fromRoots o (a ∷ roots) =
+    ap (λ (t : ℕ). getD (timesRoot o a (fromRoots o roots)) t (o .zero)) (sym (length-fromRoots o roots))
+    ∙ last-timesRootAfter o (fromRoots o roots) a (o .zero)
+    ∙ ap (λ (t : ℕ). getD (o .zero ∷ fromRoots o roots) t (o .zero)) (length-fromRoots o roots)
+    ∙ monic-fromRoots o roots
 
 -- Membership in a list of points.
 pub data In {F : Type 0} (x : F) : List F → Type 0 where

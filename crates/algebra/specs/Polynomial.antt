@@ -1,6 +1,6 @@
 -- Polynomials as coefficient lists, lowest power first (01, "The transmission").
 -- Holds: `value`, the value of a polynomial as 01 words it; `valueOf`, the same for the first n terms of a sequence;
--- `timesRoot` and `fromRoots`, products of (x - a).
+-- `falling`, the value with the powers falling; `timesRoot` and `fromRoots`, products of (x - a).
 use mathlib.Core.List.{List, [], _∷_}
 use Prim.Native.Nat.{ℕ, zero, suc}
 use Rattle.algebra.specs.Ops.{Ops, sub}
@@ -14,6 +14,11 @@ value o (c ∷ rest) x = o .add c (o .mul x (value o rest x))
 unfoldable pub valueOf : {F : Type 0} → Ops F → ℕ → (ℕ → F) → F → F
 valueOf o zero c x = o .zero
 valueOf o (suc n) c x = o .add (c 0) (o .mul x (valueOf o n (λ i. c (suc i)) x))
+
+-- v_0 x^n + .. + v_(n-1) x, as an upward loop makes it.
+unfoldable pub falling : {F : Type 0} → Ops F → ℕ → (ℕ → F) → F → F
+falling o zero v x = o .zero
+falling o (suc n) v x = o .mul (o .add (falling o n v x) (v n)) x
 
 -- The coefficients of x × p - a × p, the coefficient before p being known.
 unfoldable pub timesRootAfter : {F : Type 0} → Ops F → F → F → List F → List F

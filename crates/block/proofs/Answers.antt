@@ -11,15 +11,12 @@ use lib.ListN.{length}
 use Rattle.algebra.specs.Weight.{distance}
 use Rattle.algebra.proofs.Weights.{countOf-ext}
 use Rattle.field.specs.Symbols.{Symbols}
-use Rattle.field.proofs.Symbols.{symbol-below}
 use Rattle.code.specs.declared.Setting.{Setting}
 use Rattle.code.specs.Code.{levelDistance}
 use Rattle.code.specs.Transmission.{view}
 use Rattle.code.specs.Level.{combination}
 use Rattle.code.specs.Settings.{codeOf, Sound}
 use Rattle.code.specs.Reading.{blockDistance}
-use Rattle.code.proofs.Numbers.{positive}
-use Rattle.tables.specs.Tables.{MatrixOf}
 use Rattle.block.specs.Area.{at}
 use Rattle.block.specs.Progress.{Found}
 use Rattle.block.specs.Spectrum.{SpectrumOf, Continued}
@@ -53,14 +50,12 @@ step-long p l block found L P h = far (λ x information. by-cost x information (
 pub record Parts (p : Setting) (l : ℕ) (block found : List ℕ) (count : ℕ) : Type 0 where
   pub length-found : ℕ
   pub begun : Known p l block length-found
-  pub matrix : List ℕ
-  pub inverse : MatrixOf p matrix
   pub series : List ℕ
   pub spectral : SpectrumOf (p .q) block (p .n) series
   pub after : List ℕ
   pub values : List ℕ
   pub continued : Continued (p .q) length-found (p .n - (l + 1) * p .k) ((l + 1) * p .k) (begun .locator) series after values
-  pub reads : Read (p .q) (p .k) (l + 1) matrix values found
+  pub reads : Read p (l + 1) values found
   pub counted : count ≡ distance (p .n) (at block) (combination (codeOf p) l (view (p .k) found))
 
 module _ (p : Setting) (l : ℕ) (block found : List ℕ) (count : ℕ) (P : Parts p l block found count) where
@@ -80,9 +75,7 @@ module _ (p : Setting) (l : ℕ) (block found : List ℕ) (count : ℕ) (P : Par
           read-of-near p (P .begun .sound) l (P .begun .level) block (P .begun .long) (P .begun .symbols) x information
           (P .series) (P .begun .locator) (P .length-found) close
           (found-longer (p .q) block (p .n - (l + 1) * p .k) (p .n) (P .begun .series) (P .series) (omega arith) (P .begun .spectral) (P .spectral) (P .begun .located))
-          (P .after) (P .values) (P .matrix) found (P .spectral) (P .continued)
-          (symbol-below (p .q) (P .matrix) (P .inverse .symbols) (positive p (P .begun .sound)))
-          (P .inverse .inverses) (P .reads)
+          (P .after) (P .values) found (P .spectral) (P .continued) (P .reads)
 
   pub step-far : levelDistance (p .n) (p .k) l ≤ 2 * count → Step p l block found false
   step-far h = far (λ x information. by-cost x information (decLt (2 * blockDistance p (at block) l x) (levelDistance (p .n) (p .k) l)))

@@ -6,16 +6,17 @@ use Prim.Native.Nat.{ℕ, zero, suc, _+_, _-_, _*_, _≤_, _<_}
 use native.Mathlib.Nat.{mul-le-mul-right}
 use native.Mathlib.Omega.{arith}
 use Rattle.algebra.specs.Ops.{Ops, sub}
-use Rattle.algebra.specs.Sum.{sum, power}
+use Rattle.algebra.specs.Sum.{power}
 use Rattle.algebra.specs.Weight.{weight}
 use Rattle.algebra.proofs.Laws.{Field, sub-sub, ring}
 use Rattle.algebra.proofs.Order.{Order}
-use Rattle.algebra.proofs.Sums.{sum-ext}
 use Rattle.algebra.proofs.Polynomials.{valueOf-sub}
 use Rattle.code.specs.Code.{Code}
-use Rattle.code.specs.Level.{combination, Inverses}
+use Rattle.code.specs.Level.{combination}
+use Rattle.code.specs.Recovery.{Recovered}
 use Rattle.code.proofs.Blocks.{codeOver, combination-vanishes}
-use Rattle.code.proofs.LevelCode.{stretch, information-of-spectrum}
+use Rattle.code.proofs.LevelCode.{information-of-spectrum}
+use Rattle.code.proofs.Recovery.{recovered-part}
 use Rattle.block.specs.Locator.{Located, Extended}
 use Rattle.block.proofs.ErrorSpectrum.{spectrum, length-of-light, difference-is-rest}
 
@@ -70,13 +71,12 @@ module _ {F : Type 0} (K : Field F) (α : F) (n k m : ℕ) (order : Order (K .op
           ∙ ap₂ (sub (K .ops)) (ap c place ∙ whole (n - (l + 1) * k + u) (omega arith)) (spectrum-error (n - (l + 1) * k + u))
           ∙ sub-sub K (spectrum K n α order v (n - (l + 1) * k + u)) (spectrum K n α order sent (n - (l + 1) * k + u))
 
-      -- The matrix reads the combination's information off them.
-      pub information-of-near : (M : ℕ → ℕ → F) → Inverses code M → (b a : ℕ) → b ≤ l → a < k
-          → sum (K .ops) k (λ e. M a e ⊗ values (b * k + e)) ≡ x b a
-      information-of-near M inverse b a below inside =
-          sum-ext (K .ops) k (λ e. M a e ⊗ values (b * k + e)) (λ e. M a e ⊗ spectrum K n α order (λ i. combination code l x i) (stretch K α n k m order l b e))
-          (λ e h. ap (λ (t : F). M a e ⊗ t) (values-of-near (b * k + e) (within e h) ∙ ap (spectrum K n α order (λ i. combination code l x i)) (place e h)))
-          ∙ information-of-spectrum K α n k m order M inverse l x fits (spectrum K n α order (λ i. combination code l x i)) (λ s h. refl) b a below inside
+      -- A block recovered from its values is the combination's information block.
+      pub information-of-near : (b : ℕ) (y : ℕ → F) → b ≤ l → Recovered code (λ e. values (b * k + e)) k y → (a : ℕ) → a < k → y a ≡ x b a
+      information-of-near b y below h =
+          information-of-spectrum K α n k m order l b x y fits below
+          (λ e u. recovered-part K α n k m order (λ e. values (b * k + e)) y (omega (arith, next, fits)) h e u
+          ∙ values-of-near (b * k + e) (within e u) ∙ ap (spectrum K n α order (λ i. combination code l x i)) (place e u))
         where
           together : (l - b + 1 + b) * k ≡ (l + 1) * k
           together = let same : l - b + 1 + b ≡ l + 1 = omega arith in ap (λ (t : ℕ). t * k) same

@@ -1,6 +1,6 @@
 -- The same on the numbers below q, as the code has it: if the information x is near, it is the information that was read.
--- Holds: `combination-same`, `length-of-near`, `read-of-near`.
-use mathlib.Core.Path.{_≡_, refl, sym, ap, subst, _∙_}
+-- Holds: `combination-same`, `recovered-more`, `length-of-near`, `read-of-near`.
+use mathlib.Core.Path.{_≡_, refl, sym, ap, ap₂, subst, fun-ext, _∙_}
 use mathlib.Core.Bool.{Bool, true, false, not}
 use mathlib.Core.List.{List}
 use Prim.Native.Nat.{ℕ, zero, suc, _+_, _-_, _*_, _≤_, _<_}
@@ -9,7 +9,7 @@ use native.Mathlib.Omega.{arith}
 use lib.Dec.{eqb}
 use lib.ListN.{length, getD}
 use borrow.Author.Tests.{eqb-true}
-use Rattle.algebra.specs.Ops.{Ops, sub, pick}
+use Rattle.algebra.specs.Ops.{Ops, sub}
 use Rattle.algebra.specs.Sum.{sum, power}
 use Rattle.algebra.specs.Polynomial.{value, valueOf}
 use Rattle.algebra.specs.Weight.{weight, distance}
@@ -28,11 +28,13 @@ use Rattle.code.specs.declared.Setting.{Setting}
 use Rattle.code.specs.Code.{Code, levelDistance}
 use Rattle.code.specs.Generator.{rowSymbol, timesG}
 use Rattle.code.specs.Transmission.{view}
-use Rattle.code.specs.Level.{combination, evaluation, identity, Inverses}
+use Rattle.code.specs.Level.{combination}
+use Rattle.code.specs.Recovery.{ending, Recovered}
 use Rattle.code.specs.Settings.{codeOf, Sound}
 use Rattle.code.specs.Reading.{blockDistance}
 use Rattle.code.proofs.Blocks.{codeOver}
-use Rattle.code.proofs.Naturality.{mapped, combination-natural, evaluation-natural}
+use Rattle.code.proofs.Naturality.{mapped, timesG-natural, combination-natural, ending-natural}
+use Rattle.code.proofs.Recovery.{recovered-step}
 use Rattle.block.specs.Area.{at}
 use Rattle.block.specs.Locator.{Located, Extended}
 use Rattle.block.specs.Progress.{Found}
@@ -40,8 +42,8 @@ use Rattle.block.specs.Spectrum.{SpectrumOf, Continued}
 use Rattle.block.specs.Information.{Read}
 use Rattle.block.specs.Step.{Information}
 use Rattle.block.proofs.Accumulated.{alpha-below}
-use Rattle.block.proofs.Levels.{level-fits}
-use Rattle.block.proofs.LocatorBelow.{K, positive, el, up, down, raise, fall, zero-down, one-down, add-down, mul-down, neg-down, sum-down, tail-down, located-up}
+use Rattle.block.proofs.Levels.{level-fits, information-fits}
+use Rattle.block.proofs.LocatorBelow.{K, positive, el, up, down, raise, fall, add-down, neg-down, tail-down, located-up}
 use Rattle.block.proofs.ErrorSpectrum.{spectrum}
 use Rattle.block.proofs.Candidate.{length-of-near as length-of-near-field, information-of-near}
 
@@ -83,26 +85,36 @@ module _ (p : Setting) (S : Sound p) where
   power-down : (s : ℕ) → number (power (K q o B .ops) root s) ≡ power o alpha s
   power-down s = power-natural (K q o B .ops) o number (number-keeps q o B) root s ∙ ap (λ (a : ℕ). power o a s) root-down
 
-  evaluation-down : (e a : ℕ) → number (evaluation over e a) ≡ evaluation (codeOf p) e a
-  evaluation-down e a = evaluation-natural over o number (number-keeps q o B) e a ∙ ap (λ (c : Code ℕ). evaluation c e a) mapped-code
+  timesG-down : (x : ℕ → ℕ) → ((r : ℕ) → x r < q) → (j i : ℕ) → number (timesG over (up q o B x) j i) ≡ timesG (codeOf p) x j i
+  timesG-down x below j i =
+      timesG-natural over o number (number-keeps q o B) (up q o B x) j i
+      ∙ ap₂ (λ (c : Code ℕ) (y : ℕ → ℕ). timesG c y j i) mapped-code (fun-ext (λ r. down q o B (x r) (below r)))
 
-  identity-down : (a b : ℕ) → number (identity (K q o B .ops) a b) ≡ identity o a b
-  identity-down a b = by-test (eqb a b)
-    where
-      by-test : (t : Bool) → number (pick t (K q o B .ops .one) (K q o B .ops .zero)) ≡ pick t (o .one) (o .zero)
-      by-test true = one-down q o B
-      by-test false = zero-down q o B
+  ending-down : (v : ℕ → ℕ) → ((e : ℕ) → v e < q) → (j : ℕ) → number (ending over (up q o B v) j) ≡ ending (codeOf p) v j
+  ending-down v below j =
+      ending-natural over o number (number-keeps q o B) (up q o B v) j
+      ∙ ap₂ (λ (c : Code ℕ) (w : ℕ → ℕ). ending c w j) mapped-code (fun-ext (λ e. down q o B (v e) (below e)))
 
-  inverses-up : (M : ℕ → ℕ → ℕ) → ((a e : ℕ) → M a e < q) → Inverses (codeOf p) M → Inverses over (λ a e. el q o B (M a e))
-  inverses-up M below h =
-      record {
-        left = λ a b s t. raise q o B _ _
-            (sum-down q o B (p .k) _ (λ e. o .mul (M a e) (evaluation (codeOf p) e b)) (λ e u. mul-down q o B _ _ (down q o B (M a e) (below a e)) (evaluation-down e b)))
-            (identity-down a b) (h .left a b s t);
-        right = λ d e s t. raise q o B _ _
-            (sum-down q o B (p .k) _ (λ a. o .mul (evaluation (codeOf p) d a) (M a e)) (λ a u. mul-down q o B _ _ (evaluation-down d a) (down q o B (M a e) (below a e))))
-            (identity-down d e) (h .right d e s t);
-      }
+  module _ (v : ℕ → ℕ) (v-below : (e : ℕ) → v e < q) where
+    recovered-up : (j : ℕ) (x : ℕ → ℕ) → ((r : ℕ) → x r < q) → Recovered (codeOf p) v j x → Recovered over (up q o B v) j (up q o B x)
+    recovered-up j x below h =
+        record { symbol = λ a l. raise q o B _ _ (timesG-down x below 0 (p .n - suc a)) (ending-down v v-below (suc a)) (h .symbol a l) }
+
+    -- One symbol more.
+    pub recovered-more : (j : ℕ) (x y : ℕ → ℕ) → ((r : ℕ) → x r < q) → ((r : ℕ) → y r < q) → j < p .k → Recovered (codeOf p) v j x
+        → ((r : ℕ) → r < p .k → (r ≡ p .k - suc j → ⊥) → y r ≡ x r)
+        → y (p .k - suc j) ≡ o .add (x (p .k - suc j)) (sub o (ending (codeOf p) v (suc j)) (timesG (codeOf p) x 0 (p .n - suc j)))
+        → Recovered (codeOf p) v (suc j) y
+    recovered-more j x y x-below y-below l h same new =
+        record { symbol = λ a s. fall q o B (timesG-down y y-below 0 (p .n - suc a)) (ending-down v v-below (suc a)) (above .symbol a s) }
+      where
+        above : Recovered over (up q o B v) (suc j) (up q o B y)
+        above =
+            recovered-step (K q o B) root (p .n) (p .k) (p .m) (up q o B v) (up q o B x) (up q o B y) j l (information-fits p S) (recovered-up j x x-below h)
+            (λ r s d. ap (el q o B) (same r s d))
+            (raise q o B _ _ (down q o B (y (p .k - suc j)) (y-below (p .k - suc j)))
+            (add-down q o B _ _ (down q o B (x (p .k - suc j)) (x-below (p .k - suc j)))
+            (add-down q o B _ _ (ending-down v v-below (suc j)) (neg-down q o B _ (timesG-down x x-below 0 (p .n - suc j))))) new)
 
   extended-up : (L r m : ℕ) (σ c d values : ℕ → ℕ) → ((i : ℕ) → σ i < q) → ((i : ℕ) → c i < q) → ((i : ℕ) → d i < q) → ((i : ℕ) → values i < q)
       → Extended o L r m σ c d values → Extended (K q o B .ops) L r m (up q o B σ) (up q o B c) (up q o B d) (up q o B values)
@@ -189,19 +201,14 @@ module _ (p : Setting) (S : Sound p) where
             L (located .place) (el q o B (located .scale)) (up q o B (at locator)) (up q o B (at (located .former))) (locator-up (spectral .area .below)) in
             omega (arith, short)
 
-        pub read-of-near : (after values matrix found : List ℕ)
+        pub read-of-near : (after values found : List ℕ)
             → SpectrumOf q block (p .n) series
             → Continued q L (p .n - (l + 1) * p .k) ((l + 1) * p .k) locator series after values
-            → ((i : ℕ) → at matrix i < q) → Inverses (codeOf p) (view (p .k) matrix)
-            → Read q (p .k) (l + 1) matrix values found
+            → Read p (l + 1) values found
             → (b a : ℕ) → b ≤ l → a < p .k → at found (b * p .k + a) ≡ x b a
         unfolding lifted
-        read-of-near after values matrix found spectral continued matrix-below inverses reads b a below inside =
-            reads .symbols b a (omega arith) inside
-            ∙ fall q o B
-            (sum-down q o B (p .k) _ (λ e. o .mul (at matrix (a * p .k + e)) (at values (b * p .k + e)))
-            (λ e h. mul-down q o B _ _ (down q o B _ (matrix-below (a * p .k + e))) (down q o B _ (continued .values-area .below (b * p .k + e)))))
-            (down q o B (x b a) (information b a below inside))
+        read-of-near after values found spectral continued reads b a below inside =
+            fall q o B (down q o B (at found (b * p .k + a)) (reads .area .below (b * p .k + a))) (down q o B (x b a) (information b a below inside))
             (information-of-near (K q o B) root (p .n) (p .k) (p .m) order l fits received lifted
             (distance (p .n) (at block) (combination (codeOf p) l x)) error-light (omega arith)
             (up q o B (at series)) (λ s h. values-up (p .n) spectral s (omega arith))
@@ -210,5 +217,6 @@ module _ (p : Setting) (S : Sound p) where
             (up q o B (at after)) (up q o B (at values))
             (extended-up L (p .n - (l + 1) * p .k) ((l + 1) * p .k) (at locator) (at series) (at after) (at values)
             (located .placed .locator-area .below) (spectral .area .below) (continued .area .below) (continued .values-area .below) (continued .extended))
-            (λ d e. el q o B (view (p .k) matrix d e)) (inverses-up (view (p .k) matrix) (λ d e. matrix-below (d * p .k + e)) inverses)
-            b a below inside)
+            b (up q o B (view (p .k) found b)) below
+            (recovered-up (view (p .k) values b) (λ e. continued .values-area .below (b * p .k + e)) (p .k) (view (p .k) found b) (λ r. reads .area .below (b * p .k + r)) (reads .recovered b (omega arith)))
+            a inside)

@@ -8,6 +8,6 @@ pub mod Levels
 pub mod Multiples
 pub mod Placing
 pub mod Spectra
-pub mod Reading
 pub mod CandidateBelow
+pub mod Reading
 pub mod Answers

@@ -1,70 +1,116 @@
--- The loop that reads information off the values, place by place: place t is symbol t % k of block t / k.
--- Holds: `symbolAt`, `ReadTo`, `read-none`, `read-more`, `read-done`; `block-end`, where a place's block ends.
-use mathlib.Core.Path.{_≡_, sym, ap, ap₂, subst, _∙_}
+-- The loops that recover information blocks from the values.
+-- Holds: `falling-none`, `falling-more`; `back-none`, `back-more`, the powers of 1/α; `block-none`, `block-more`, `is-lacking`; `read-none`, `read-more`.
+use mathlib.Core.Path.{_≡_, refl, sym, ap, ap₂, subst, _∙_}
 use mathlib.Core.List.{List}
-use Prim.Native.Nat.{ℕ, _+_, _-_, _*_, _/_, _%_, _≤_, _<_}
-use native.Mathlib.Nat.{mul-le-mul-right, div-add-mod'}
+use Prim.Native.Nat.{ℕ, suc, _+_, _-_, _*_, _≤_, _<_}
+use native.Mathlib.Nat.{mul-le-mul-right}
+use native.Mathlib.Numerals.{add-one}
 use native.Mathlib.Omega.{arith}
-use native.Mathlib.Decide.{ℕ-discrete, decLt}
-use lib.Arith.{digits-mod, digits-lt}
+use native.Mathlib.Decide.{ℕ-discrete}
 use lib.ListN.{getD, set, replicate}
 use lib.Seq.{getD-set-same, getD-set-other}
-use Rattle.algebra.specs.Sum.{sum}
-use Rattle.field.specs.Fields.{Good, opsOf}
+use Rattle.algebra.specs.Ops.{sub}
+use Rattle.algebra.specs.Sum.{power}
+use Rattle.algebra.specs.Polynomial.{falling}
+use Rattle.algebra.proofs.Sums.{sum-ext}
+use Rattle.field.specs.Fields.{Good, opsOf, alpha}
 use Rattle.field.specs.Symbols.{Is}
+use Rattle.field.proofs.Laws.{lawsOf}
+use Rattle.code.specs.declared.Setting.{Setting}
+use Rattle.code.specs.Code.{Code}
+use Rattle.code.specs.Generator.{rowSymbol, timesG}
+use Rattle.code.specs.Transmission.{view}
+use Rattle.code.specs.Recovery.{ending, Recovered}
+use Rattle.code.specs.Settings.{codeOf, Sound}
 use Rattle.block.specs.Area.{Area, at, capacity}
-use Rattle.block.specs.Information.{Read}
-use Rattle.block.proofs.Accumulated.{area-zeros, area-set}
+use Rattle.block.specs.Information.{lacking, BlockRead, Read}
+use Rattle.block.proofs.Accumulated.{zero-below, area-zeros, area-set}
+use Rattle.block.proofs.CandidateBelow.{recovered-more}
 
--- What is to stand at place t.
-unfoldable pub symbolAt : ℕ → ℕ → List ℕ → List ℕ → ℕ → ℕ
-symbolAt q k matrix values t = sum (opsOf q) k (λ e. opsOf q .mul (at matrix (t % k * k + e)) (at values (t - t % k + e)))
+module _ (q : ℕ) (good : Good q) where
+  pub falling-none : (v : ℕ → ℕ) (y : ℕ) → Is q 0 (falling (opsOf q) 0 v y)
+  unfolding falling opsOf
+  falling-none v y = record { same = refl; below = zero-below q good }
 
-pub record ReadTo (q k count : ℕ) (matrix values information : List ℕ) : Type 0 where
-  pub area : Area q information
-  pub symbols : (t : ℕ) → t < count → at information t ≡ symbolAt q k matrix values t
-
-module _ (q k : ℕ) (matrix values : List ℕ) where
-  pub read-none : Good q → ReadTo q k 0 matrix values (replicate capacity 0)
-  read-none good =
+  pub falling-more : (v : ℕ → ℕ) (y e s more r : ℕ) → Is q s (falling (opsOf q) e v y) → Is q more (opsOf q .add s (v e)) → Is q r (opsOf q .mul more y)
+      → Is q r (falling (opsOf q) (e + 1) v y)
+  unfolding falling
+  falling-more v y e s more r h a t =
       record {
-        area = area-zeros q good;
-        symbols = λ t l. absurd (omega arith);
+        same = t .same ∙ ap (λ (u : ℕ). opsOf q .mul u y) (a .same ∙ ap (λ (u : ℕ). opsOf q .add u (v e)) (h .same)) ∙ ap (λ (u : ℕ). falling (opsOf q) u v y) (sym (add-one e));
+        below = t .below;
       }
 
-  pub read-more : (information : List ℕ) (place v : ℕ) → ReadTo q k place matrix values information → place < capacity
-      → Is q v (sum (opsOf q) k (λ e. opsOf q .mul (at matrix (place % k * k + e)) (at values (place - place % k + e))))
-      → ReadTo q k (place + 1) matrix values (set information place v)
-  unfolding symbolAt
-  read-more information place v h room is-symbol =
-      record { area = area-set q information place v (h .area) (is-symbol .below); symbols = λ t l. by-place t l (ℕ-discrete t place) }
+  pub back-none : Is q 1 (power (opsOf q) (opsOf q .inv alpha) 0)
+  unfolding power opsOf
+  back-none = record { same = refl; below = lawsOf q good .one-below }
+
+  pub back-more : (j back y r : ℕ) → Is q back (opsOf q .inv alpha) → Is q y (power (opsOf q) (opsOf q .inv alpha) j) → Is q r (opsOf q .mul back y)
+      → Is q r (power (opsOf q) (opsOf q .inv alpha) (j + 1))
+  unfolding power
+  back-more j back y r b h t =
+      record { same = t .same ∙ ap₂ (opsOf q .mul) (b .same) (h .same) ∙ ap (power (opsOf q) (opsOf q .inv alpha)) (sym (add-one j)); below = t .below }
+
+-- Only the block's symbols count, over any operations.
+recovered-same : {F : Type 0} (c : Code F) (v : ℕ → F) (count : ℕ) (x y : ℕ → F) → ((r : ℕ) → r < c .k → y r ≡ x r) → Recovered c v count x → Recovered c v count y
+unfolding timesG
+recovered-same c v count x y same h =
+    record {
+      symbol = λ j l. sum-ext (c .ops) (c .k) (λ r. c .ops .mul (y r) (rowSymbol c 0 r (c .n - suc j))) (λ r. c .ops .mul (x r) (rowSymbol c 0 r (c .n - suc j)))
+          (λ r s. ap (λ t. c .ops .mul t (rowSymbol c 0 r (c .n - suc j))) (same r s)) ∙ h .symbol j l;
+    }
+
+module _ (p : Setting) (S : Sound p) (values : List ℕ) (values-area : Area (p .q) values) where
+  pub block-none : (from : ℕ) (information : List ℕ) → Area (p .q) information → BlockRead p from 0 values information information
+  block-none from information h = record { area = h; recovered = record { symbol = λ j l. absurd (omega arith) }; kept = λ i l. refl }
+
+  pub block-more : (from j point v : ℕ) (before information : List ℕ) → from + p .k ≤ capacity → j < p .k → BlockRead p from j values before information
+      → Is (p .q) point (power (opsOf (p .q)) (opsOf (p .q) .inv alpha) (j + 1)) → Is (p .q) v (lacking p values from point information (j + 1))
+      → BlockRead p from (j + 1) values before (set information (from + (p .k - (j + 1))) v)
+  unfolding ending
+  block-more from j point v before information room l h powers is =
+      record {
+        area = after-area;
+        recovered = subst (λ (t : ℕ). Recovered (codeOf p) (λ e. at values (from + e)) t (λ r. at after (from + r))) (sym (add-one j))
+            (recovered-more p S (λ e. at values (from + e)) (λ e. values-area .below (from + e)) j (λ r. at information (from + r)) (λ r. at after (from + r))
+            (λ r. h .area .below (from + r)) (λ r. after-area .below (from + r)) l (h .recovered)
+            (λ r s d. getD-set-other information place (from + r) v 0 (λ e. d (omega (arith, next))))
+            (ap (λ (t : ℕ). at after (from + (p .k - t))) (sym next) ∙ getD-set-same information place v 0 (omega (arith, h .area .size))
+            ∙ is .same ∙ ap (λ (y : ℕ). lacking p values from y information (j + 1)) (powers .same)
+            ∙ ap (λ (t : ℕ). lacking p values from (power (opsOf (p .q)) (opsOf (p .q) .inv alpha) t) information t) next));
+        kept = λ i s. getD-set-other information place i v 0 (λ e. omega (arith, e, s)) ∙ h .kept i s;
+      }
     where
-      by-place : (t : ℕ) → t < place + 1 → Dec (t ≡ place) → getD (set information place v) t 0 ≡ symbolAt q k matrix values t
-      by-place t l (yes e) =
-          ap (λ (i : ℕ). getD (set information place v) i 0) e
-          ∙ getD-set-same information place v 0 (subst (λ (i : ℕ). place < i) (sym (h .area .size)) room)
-          ∙ is-symbol .same ∙ ap (symbolAt q k matrix values) (sym e)
-      by-place t l (no d) = getD-set-other information place t v 0 d ∙ h .symbols t (omega arith)
+      place : ℕ
+      place = from + (p .k - (j + 1))
 
-  pub read-done : (blocks : ℕ) (information : List ℕ) → ReadTo q k (blocks * k) matrix values information → Read q k blocks matrix values information
-  unfolding symbolAt
-  read-done blocks information h =
+      next : j + 1 ≡ suc j
+      next = add-one j
+
+      after : List ℕ
+      after = set information place v
+
+      after-area : Area (p .q) after
+      after-area = area-set (p .q) information place v (h .area) (is .below)
+
+  pub is-lacking : (from point j sum end known lack r : ℕ) (information : List ℕ) → Is (p .q) sum (falling (opsOf (p .q)) (p .k) (λ e. at values (from + e)) point)
+      → Is (p .q) end (opsOf (p .q) .neg sum) → Is (p .q) known (timesG (codeOf p) (λ a. at information (from + a)) 0 (p .n - j)) → Is (p .q) lack (sub (opsOf (p .q)) end known)
+      → Is (p .q) r (opsOf (p .q) .add (at information (from + (p .k - j))) lack) → Is (p .q) r (lacking p values from point information j)
+  is-lacking from point j sum end known lack r information s e g l h =
       record {
-        area = h .area;
-        symbols = λ b a l s.
-            let row : (b * k + a) % k ≡ a = digits-mod b s in
-            let from : b * k + a - a ≡ b * k = omega arith in
-            h .symbols (b * k + a) (digits-lt l s)
-            ∙ ap₂ (λ (x y : ℕ). sum (opsOf q) k (λ e. opsOf q .mul (at matrix (x * k + e)) (at values (y + e)))) row (ap (λ (t : ℕ). b * k + a - t) row ∙ from);
+        same = h .same ∙ ap (opsOf (p .q) .add (at information (from + (p .k - j)))) (l .same ∙ ap₂ (sub (opsOf (p .q))) (e .same ∙ ap (opsOf (p .q) .neg) (s .same)) (g .same));
+        below = h .below;
       }
 
--- The block of a place ends within so many blocks.
-pub block-end : (k blocks place : ℕ) → 0 < k → place < blocks * k → place - place % k + k ≤ blocks * k
-block-end k blocks place h l = within (decLt (place / k) blocks)
-  where
-    whole : place / k * k + place % k ≡ place
-    whole = div-add-mod' place k
+  pub read-none : Read p 0 values (replicate capacity 0)
+  read-none = record { area = area-zeros (p .q) (S .good); recovered = λ b l. absurd (omega arith) }
 
-    within : Dec (place / k < blocks) → place - place % k + k ≤ blocks * k
-    within (yes s) = let next : place / k + 1 ≤ blocks = omega arith in omega (arith, mul-le-mul-right k next, whole)
-    within (no d) = let past : blocks ≤ place / k = omega arith in absurd (omega (arith, mul-le-mul-right k past, whole))
+  pub read-more : (b : ℕ) (before after : List ℕ) → Read p b values before → BlockRead p (b * p .k) (p .k) values before after → Read p (b + 1) values after
+  read-more b before after h new = record { area = new .area; recovered = λ a l. by-block a l (ℕ-discrete a b) }
+    where
+      by-block : (a : ℕ) → a < b + 1 → Dec (a ≡ b) → Recovered (codeOf p) (view (p .k) values a) (p .k) (view (p .k) after a)
+      by-block a l (yes e) = subst (λ (t : ℕ). Recovered (codeOf p) (view (p .k) values t) (p .k) (view (p .k) after t)) (sym e) (new .recovered)
+      by-block a l (no d) =
+          let up : a + 1 ≤ b = omega arith in
+          recovered-same (codeOf p) (view (p .k) values a) (p .k) (view (p .k) before a) (view (p .k) after a)
+          (λ r s. new .kept (a * p .k + r) (omega (arith, mul-le-mul-right (p .k) up))) (h .recovered a (omega arith))

@@ -1,5 +1,5 @@
 -- The arrays of the block step: symbols of the field, in a fixed number of places. A larger setting only raises the number.
--- Holds: `at`, a list as a sequence; `AllBelow`, every symbol below q; `capacity`, `matrixCapacity`, `Area`.
+-- Holds: `at`, a list as a sequence; `AllBelow`, every symbol below q; `capacity`, `Area`.
 use mathlib.Core.Path.{_≡_}
 use mathlib.Core.List.{List}
 use Prim.Native.Nat.{ℕ, _<_}
@@ -16,10 +16,6 @@ AllBelow q l = (i : ℕ) → getD l i 0 < q
 -- The places of an area (`CAPACITY`): a block's spectrum and a 1 before it.
 abbrev pub capacity : ℕ
 capacity = 16
-
--- The places of the lent matrix (`tables::Matrix`).
-abbrev pub matrixCapacity : ℕ
-matrixCapacity = 9
 
 pub record Area (q : ℕ) (l : List ℕ) : Type 0 where
   pub size : length l ≡ capacity

@@ -2,7 +2,7 @@
 ghost use mathlib.Core.Path.{_≡_};
 ghost use Prim.Native.Nat.{_+_, _*_, _≤_, _<_};
 ghost use lib.ListN.{length};
-ghost use Rattle.algebra.specs.Sum.{sum};
+ghost use Rattle.algebra.specs.Polynomial.{falling as fallingOf};
 ghost use Rattle.algebra.specs.Weight.{distance};
 ghost use Rattle.field.specs.Fields.{Good, opsOf};
 ghost use Rattle.field.specs.Symbols.{Is};
@@ -11,56 +11,88 @@ ghost use Rattle.code.specs.Transmission.{view};
 ghost use Rattle.code.specs.Level.{combination};
 ghost use Rattle.code.specs.Settings.{codeOf};
 ghost use Rattle.tables.specs.Tables.{Ready};
-ghost use Rattle.block.specs.Area.{AllBelow, Area, at, capacity, matrixCapacity};
-ghost use Rattle.block.specs.Information.{Read};
+ghost use Rattle.block.specs.Area.{Area, at, capacity};
+ghost use Rattle.block.specs.Information.{lacking, BlockRead, Read};
 use super::CAPACITY;
 use super::locator::Series;
 use code::Setting;
 use field::Tables;
-use tables::Matrix;
 use tables::Rows;
 
-// Row a of the matrix times the k values from a place on.
-fn times_row(
-    q: usize,
-    products: &Tables,
-    k: usize,
-    matrix: &Matrix,
-    a: usize,
-    values: &Series,
-    from: usize,
-) -> u8
-    requires { ⌜ Good q × Lent q (now products) × (k * k ≤ matrixCapacity) × AllBelow q (now matrix) × (a < k) × Area q (now values) × (from + k ≤ capacity) ⌝ }
-    ensures { λ r. ⌜ Is q r (sum (opsOf q) k (λ e. opsOf q .mul (at (now (matrix .entry)) (a * k + e)) (at (now (values .entry)) (from + e)))) ⌝ }
+// v_0 y^k + .. + v_(k-1) y for the k values v from a place on.
+fn falling(q: usize, products: &Tables, k: usize, values: &Series, from: usize, y: u8) -> u8
+    requires { ⌜ Good q × Lent q (now products) × Area q (now values) × (from + k ≤ capacity) × (y < q) ⌝ }
+    ensures { λ r. ⌜ Is q r (fallingOf (opsOf q) k (λ e. at (now (values .entry)) (from + e)) y) ⌝ }
 {
     let mut sum: u8 = 0;
     let mut e: usize = 0;
     while e < k {
-        sum = field::add_product(q, products, sum, matrix[a * k + e], values[from + e]);
+        let more = field::add(q, sum, values[from + e]);
+        sum = field::multiply(q, products, more, y);
         e += 1;
     }
     sum
 }
 
-// The information that the matrix reads off the values of so many blocks of k places.
-pub fn read(
-    q: usize,
+// What symbol k - j of the information block at `from` becomes, where those after it are recovered; the point is (1/α)^j.
+fn symbol(
+    p: Setting,
     products: &Tables,
-    k: usize,
-    blocks: usize,
-    matrix: &Matrix,
+    rows: &Rows,
     values: &Series,
-) -> Series
-    requires { ⌜ Good q × Lent q (now products) × (0 < k) × (k * k ≤ matrixCapacity) × (blocks * k ≤ capacity) × AllBelow q (now matrix) × Area q (now values) ⌝ }
-    ensures { λ r. ⌜ Read q k blocks (now (matrix .entry)) (now (values .entry)) r ⌝ }
+    from: usize,
+    point: u8,
+    information: &Series,
+    j: usize,
+) -> u8
+    requires { ⌜ Ready p (now products) (now rows) × Area (p .q) (now values) × Area (p .q) (now information) × (from + p .k ≤ capacity) × (point < p .q) × (0 < j) × (j ≤ p .k) ⌝ }
+    ensures { λ r. ⌜ Is (p .q) r (lacking p (now (values .entry)) from point (now (information .entry)) j) ⌝ }
 {
+    let q = p.q;
+    let k = p.k;
+    let sum = falling(q, products, k, values, from, point);
+    let ending = field::negate(q, sum);
+    let known = tables::product::times_g(p, products, rows, information, from, 0, p.n - j);
+    let lack = field::subtract(q, ending, known);
+    field::add(q, information[from + (k - j)], lack)
+}
+
+// Recovers the information block at `from` from the values there, its last symbol first.
+fn read_block(
+    p: Setting,
+    products: &Tables,
+    rows: &Rows,
+    values: &Series,
+    from: usize,
+    information: &mut Series,
+)
+    requires { ⌜ Ready p (now products) (now rows) × Area (p .q) (now values) × Area (p .q) (now information) × (from + p .k ≤ capacity) ⌝ }
+    ensures { λ _. ⌜ BlockRead p from (p .k) (now (values .entry)) (now (information .entry)) (now (information .exit)) ⌝ }
+{
+    let q = p.q;
+    let k = p.k;
+    let back = field::inverse(q, products, 2);
+    let mut point: u8 = 1;
+    let mut j: usize = 0;
+    while j < k {
+        j += 1;
+        point = field::multiply(q, products, back, point);
+        let found = symbol(p, products, rows, values, from, point, information, j);
+        information[from + (k - j)] = found;
+    }
+}
+
+// The information of so many blocks of k places.
+pub fn read(p: Setting, products: &Tables, rows: &Rows, blocks: usize, values: &Series) -> Series
+    requires { ⌜ Ready p (now products) (now rows) × (blocks * p .k ≤ capacity) × Area (p .q) (now values) ⌝ }
+    ensures { λ r. ⌜ Read p blocks (now (values .entry)) r ⌝ }
+{
+    let k = p.k;
     let mut information = [0u8; CAPACITY];
-    let count = blocks * k;
-    let mut place: usize = 0;
-    while place < count {
-        let a = place % k;
-        information[place] = times_row(q, products, k, matrix, a, values, place - a);
-        place += 1;
+    let mut b: usize = 0;
+    while b < blocks {
+        read_block(p, products, rows, values, b * k, &mut information);
+        b += 1;
     }
     information
 }

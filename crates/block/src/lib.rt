@@ -1,7 +1,7 @@
 // The block step: from a received block the information of the code block within the limit, or that there is none (01, "Reading a reception").
 // A block's spectrum is its values at α^0, α^1, ... That of a level-l code block is zero at the first n - (l+1)k places, so there the received block shows
 // the spectrum of the error. The locator that annihilates what is known of it continues it by a recurrence, rightly if the error is light; what the
-// received block has besides is the code block's spectrum, and the matrix reads the information off it. The block is rebuilt from the rows and
+// received block has besides is the code block's spectrum, and the information is read off it. The block is rebuilt from the rows and
 // compared, so a good answer rests on nothing else.
 pub mod information;
 mod locator;
@@ -11,11 +11,10 @@ ghost use mathlib.Core.Path.{_≡_};
 ghost use Prim.Native.Nat.{_≤_};
 ghost use lib.ListN.{length};
 ghost use Rattle.field.specs.Symbols.{Symbols};
-ghost use Rattle.tables.specs.Tables.{Ready, MatrixOf};
+ghost use Rattle.tables.specs.Tables.{Ready};
 ghost use Rattle.block.specs.Step.{Step};
 use code::Setting;
 use field::Tables;
-use tables::Matrix;
 use tables::Rows;
 
 // Room for a block's spectrum and a 1 before it. A larger setting raises it, here and in specs/Area.antt.
@@ -29,12 +28,11 @@ pub fn repair(
     p: Setting,
     products: &Tables,
     rows: &Rows,
-    matrix: &Matrix,
     block: &[u8],
     l: usize,
     information: &mut Series,
 ) -> bool
-    requires { ⌜ Ready p (now products) (now rows) × MatrixOf p (now matrix) × (length (now block) ≡ p .n) × Symbols (p .q) (now block) × (l ≤ p .m) ⌝ }
+    requires { ⌜ Ready p (now products) (now rows) × (length (now block) ≡ p .n) × Symbols (p .q) (now block) × (l ≤ p .m) ⌝ }
     ensures { λ r. ⌜ Step p l (now (block .entry)) (now (information .exit)) r ⌝ }
 {
     let q = p.q;
@@ -53,7 +51,7 @@ pub fn repair(
     }
     spectrum::add_values(q, products, block, zeros, p.n, point, &mut series);
     let values = spectrum::extend(q, products, length, &locator, zeros, count, &mut series);
-    let found = information::read(q, products, k, blocks, matrix, &values);
+    let found = information::read(p, products, rows, blocks, &values);
     *information = found;
     let differing = information::differing(p, products, rows, &found, l, block);
     if 2 * differing < distance {

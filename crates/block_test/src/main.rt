@@ -5,14 +5,13 @@ ghost use Prim.Native.Nat.{_≤_, _<_};
 ghost use lib.Dec.{T};
 ghost use Rattle.field.specs.Fields.{Good};
 ghost use Rattle.code.specs.Settings.{isSetting, settingOf};
-ghost use Rattle.tables.specs.Tables.{Ready, MatrixOf};
+ghost use Rattle.tables.specs.Tables.{Ready};
 ghost use Rattle.block.specs.Area.{Area};
 use block::CAPACITY;
 use block::Series;
 use code::Setting;
 use field::Tables;
 use libc::STDOUT_FILENO;
-use tables::Matrix;
 use tables::Rows;
 
 // A number's digits to the base q: its i-th block, or its i-th information.
@@ -94,28 +93,19 @@ fn one(
     p: Setting,
     products: &Tables,
     rows: &Rows,
-    matrix: &Matrix,
     l: usize,
     distance: usize,
     count: usize,
     number: usize,
 ) -> Tally
-    requires { ⌜ Ready p (now products) (now rows) × MatrixOf p (now matrix) × (l ≤ p .m) ⌝ }
+    requires { ⌜ Ready p (now products) (now rows) × (l ≤ p .m) ⌝ }
     ensures { λ r. ⌜ (r .near ≤ 1) × (r .agree ≤ 1) ⌝ }
 {
     let n = p.n;
     let received = digits(p.q, number);
     let expected = some_near(p, products, rows, l, &received, distance, count);
     let mut information = [0u8; CAPACITY];
-    let found = block::repair(
-        p,
-        products,
-        rows,
-        matrix,
-        &received[0..n],
-        l,
-        &mut information,
-    );
+    let found = block::repair(p, products, rows, &received[0..n], l, &mut information);
     if found {
         if expected {
             return Tally { near: 1, agree: 1 };
@@ -140,21 +130,20 @@ fn compare(
     p: Setting,
     products: &Tables,
     rows: &Rows,
-    matrix: &Matrix,
     l: usize,
     distance: usize,
     count: usize,
     stride: usize,
     end: usize,
 )
-    requires { ⌜ Ready p (now products) (now rows) × MatrixOf p (now matrix) × (l ≤ p .m) × (0 < stride) × (stride ≤ 4194304) × (end ≤ 4194304) ⌝ }
+    requires { ⌜ Ready p (now products) (now rows) × (l ≤ p .m) × (0 < stride) × (stride ≤ 4194304) × (end ≤ 4194304) ⌝ }
 {
     let mut blocks: usize = 0;
     let mut near: usize = 0;
     let mut agree: usize = 0;
     let mut number: usize = 0;
     while number < end {
-        let tally = one(p, products, rows, matrix, l, distance, count, number);
+        let tally = one(p, products, rows, l, distance, count, number);
         near += tally.near;
         agree += tally.agree;
         blocks += 1;
@@ -172,20 +161,9 @@ fn level(number: u32, l: usize, distance: usize, count: usize, stride: usize, en
     let p = tables::setting(number);
     let products = field::tables(p.q);
     let rows = tables::rows(number);
-    let matrix = tables::matrix(number);
     print(number as usize, b' ');
     print(l, b' ');
-    compare(
-        p,
-        &products,
-        &rows,
-        &matrix,
-        l,
-        distance,
-        count,
-        stride,
-        end,
-    );
+    compare(p, &products, &rows, l, distance, count, stride, end);
 }
 
 fn main() {

@@ -62,7 +62,7 @@ module _ {F : Type 0} (K : Field F) (α : F) (n k m : ℕ) where
   unfolding base
   base-zero s l = value-at-root K (in-points (K .ops) α (n - k) s l)
 
-  length-base : length (base c) ≡ suc (n - k)
+  pub length-base : length (base c) ≡ suc (n - k)
   unfolding base
   length-base = length-fromRoots (K .ops) (points (K .ops) α (n - k)) ∙ ap suc (length-points (K .ops) α (n - k))
 
@@ -116,7 +116,7 @@ module _ {F : Type 0} (K : Field F) (α : F) (n k m : ℕ) where
       (λ j u. valueOf-timesG (x (l - j)) j (pow s) h
       ∙ ap (λ (t : F). valueOf (K .ops) k (x (l - j)) t ⊗ value (K .ops) (base c) t) (sym (power-add K α (j * k) s)))
 
-  part-low : (x : ℕ → F) (e : ℕ) → e < n - k → part x e ≡ 𝟘
+  pub part-low : (x : ℕ → F) (e : ℕ) → e < n - k → part x e ≡ 𝟘
   unfolding part
   part-low x e l = ap (λ (t : F). valueOf (K .ops) k x (pow e) ⊗ t) (base-zero e l) ∙ mul-zero K (valueOf (K .ops) k x (pow e))
 

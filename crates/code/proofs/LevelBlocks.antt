@@ -1,22 +1,21 @@
 -- 01's words on a level's block code, on lists of bytes: "It consists exactly of the blocks whose polynomials vanish at α^0 .. α^(n-(l+1)k-1). Its nonzero
 -- blocks have at least d_l nonzero symbols."
--- Holds: `Vanishes`, `InLevel`; `level-vanishes`, `vanishing-in-level` (exactly those blocks), `vanishing-heavy` (d_l).
-use mathlib.Core.Path.{_≡_, sym, ap, ap₂, _∙_}
-use mathlib.Core.Bool.{Bool, true, false, not}
+-- Holds: `Vanishes`, `InLevel`; `level-vanishes`, `vanishing-in-level` (exactly those blocks), `vanishing-heavy` (d_l); `LevelCode`, `level-blocks`, all three of every setting.
+use mathlib.Core.Path.{_≡_, sym, ap, _∙_}
+use mathlib.Core.Bool.{not}
 use mathlib.Core.List.{List}
 use Prim.Native.Nat.{ℕ, _+_, _-_, _*_, _≤_, _<_}
+use native.Mathlib.Nat.{mul-le-mul-right}
 use native.Mathlib.Omega.{arith}
 use native.Mathlib.Decide.{decLe}
-use lib.Dec.{eqb}
+use lib.Dec.{T, eqb}
 use lib.ListN.{length, getD}
-use Rattle.algebra.specs.Ops.{pick}
-use Rattle.algebra.specs.Sum.{sum, power}
+use Rattle.algebra.specs.Sum.{power}
 use Rattle.algebra.specs.Polynomial.{value, valueOf}
 use Rattle.algebra.specs.Weight.{countOf, weight}
-use Rattle.algebra.proofs.Sums.{sum-ext}
 use Rattle.algebra.proofs.Polynomials.{valueOf-ext, value-is-valueOf}
 use Rattle.algebra.proofs.Weights.{countOf-ext}
-use Rattle.algebra.proofs.Naturality.{sum-natural, power-natural, valueOf-natural}
+use Rattle.algebra.proofs.Naturality.{power-natural, valueOf-natural}
 use Rattle.algebra.proofs.Below.{Below as Element, number, number-injective, element, number-element}
 use Rattle.algebra.proofs.Distance.{zero-of-vanishing}
 use Rattle.field.specs.Fields.{opsOf, alpha}
@@ -24,11 +23,12 @@ use Rattle.field.specs.Symbols.{Symbols}
 use Rattle.field.proofs.Symbols.{symbol-below}
 use Rattle.code.specs.declared.Setting.{Setting}
 use Rattle.code.specs.Code.{Code, levelDistance}
-use Rattle.code.specs.Level.{combination, evaluation, identity, Inverses}
-use Rattle.code.specs.Settings.{codeOf, Sound}
+use Rattle.code.specs.Level.{combination}
+use Rattle.code.specs.Settings.{codeOf, Sound, isSetting, settingOf}
 use Rattle.code.proofs.Blocks.{combination-vanishes}
 use Rattle.code.proofs.LevelCode.{informationOf, level-code}
-use Rattle.code.proofs.Naturality.{evaluation-natural, combination-natural}
+use Rattle.code.proofs.Naturality.{combination-natural}
+use Rattle.code.proofs.Settings.{soundOf}
 use Rattle.code.proofs.Numbers.{laws, positive, fieldOf, rootOf, orderAt, overField, keeps, root-number, mapped-code, lifted, combination-number}
 use Rattle.code.proofs.Reading.{number-zero}
 
@@ -91,51 +91,41 @@ module _ (p : Setting) (S : Sound p) (l : ℕ) (fits : (l + 1) * p .k ≤ p .n) 
           (omega (arith, weight-same)) i u)
           ∙ number-zero p S)))
 
-  -- A block that vanishes there is of the level, if the setting has its matrix.
-  module _ (M : ℕ → ℕ → ℕ) (M-below : (a e : ℕ) → M a e < p .q) (inverse : Inverses (codeOf p) M) where
-    M' : ℕ → ℕ → Element (p .q)
-    M' a e = element (p .q) (positive p S) (M a e)
+  -- A block that vanishes there is of the level.
+  pub vanishing-in-level : Vanishes p l block → InLevel p l block
+  vanishing-in-level zeros =
+      record {
+        information = λ b r. number (x b r);
+        below = λ b r. x b r .1;
+        same = λ i u. sym (received-number i)
+            ∙ (ap number (sym (level-code (fieldOf p S) (rootOf p S) (p .n) (p .k) (p .m) (orderAt p S) l received fits (vanishes-over zeros) i u))
+            ∙ (combination-natural (overField p S) (opsOf (p .q)) number (keeps p S) l x i ∙ ap (λ (c : Code ℕ). combination c l (λ b r. number (x b r)) i) (mapped-code p S)));
+      }
+    where
+      x : ℕ → ℕ → Element (p .q)
+      x = informationOf (fieldOf p S) (rootOf p S) (p .n) (p .k) (p .m) (orderAt p S) l (λ s. valueOf (fieldOf p S .ops) (p .n) received (power (fieldOf p S .ops) (rootOf p S) s))
 
-    M-number : (a e : ℕ) → number (M' a e) ≡ M a e
-    unfolding M'
-    M-number a e = number-element (p .q) (positive p S) (M a e) (M-below a e)
+-- "It consists exactly of the blocks whose polynomials vanish at α^0 .. α^(n-(l+1)k-1). Its nonzero blocks have at least d_l nonzero symbols."
+pub record LevelCode (p : Setting) (l : ℕ) (block : List ℕ) : Type 0 where
+  pub vanishes : InLevel p l block → Vanishes p l block
+  pub exactly : Vanishes p l block → InLevel p l block
+  pub heavy : InLevel p l block → (i : ℕ) → i < p .n → (getD block i 0 ≡ 0 → ⊥)
+      → levelDistance (p .n) (p .k) l ≤ countOf (p .n) (λ i. not (eqb (getD block i 0) 0))
 
-    evaluation-number : (e a : ℕ) → number (evaluation (overField p S) e a) ≡ evaluation (codeOf p) e a
-    evaluation-number e a = evaluation-natural (overField p S) (opsOf (p .q)) number (keeps p S) e a ∙ ap (λ (c : Code ℕ). evaluation c e a) (mapped-code p S)
+pub level-blocks : (s : ℕ) → T (isSetting s) → (l : ℕ) → l ≤ settingOf s .m → (block : List ℕ) → length block ≡ settingOf s .n → Symbols (settingOf s .q) block
+    → LevelCode (settingOf s) l block
+level-blocks s t l low block long symbols =
+    record {
+      vanishes = level-vanishes p S l fits block long symbols;
+      exactly = vanishing-in-level p S l fits block long symbols;
+      heavy = λ c. vanishing-heavy p S l fits block long symbols (level-vanishes p S l fits block long symbols c);
+    }
+  where
+    p : Setting
+    p = settingOf s
 
-    identity-number : (a b : ℕ) → number (identity (fieldOf p S .ops) a b) ≡ identity (opsOf (p .q)) a b
-    identity-number a b = at (eqb a b)
-      where
-        at : (t : Bool) → number (pick t (fieldOf p S .ops .one) (fieldOf p S .ops .zero)) ≡ pick t (opsOf (p .q) .one) (opsOf (p .q) .zero)
-        at true = keeps p S .on-one
-        at false = keeps p S .on-zero
+    S : Sound (settingOf s)
+    S = soundOf s t
 
-    product-number : (f g : ℕ → Element (p .q)) (f' g' : ℕ → ℕ) → ((e : ℕ) → number (f e) ≡ f' e) → ((e : ℕ) → number (g e) ≡ g' e)
-        → number (sum (fieldOf p S .ops) (p .k) (λ e. fieldOf p S .ops .mul (f e) (g e))) ≡ sum (opsOf (p .q)) (p .k) (λ e. opsOf (p .q) .mul (f' e) (g' e))
-    product-number f g f' g' same-f same-g =
-        sum-natural (fieldOf p S .ops) (opsOf (p .q)) number (keeps p S) (p .k) (λ e. fieldOf p S .ops .mul (f e) (g e))
-        ∙ sum-ext (opsOf (p .q)) (p .k) _ _ (λ e h. keeps p S .on-mul (f e) (g e) ∙ ap₂ (opsOf (p .q) .mul) (same-f e) (same-g e))
-
-    inverse-over : Inverses (overField p S) M'
-    inverse-over =
-        record {
-          left = λ a b la lb. number-injective _ _
-              (product-number (M' a) (λ e. evaluation (overField p S) e b) (M a) (λ e. evaluation (codeOf p) e b) (M-number a) (λ e. evaluation-number e b)
-              ∙ (inverse .left a b la lb ∙ sym (identity-number a b)));
-          right = λ d e ld le. number-injective _ _
-              (product-number (evaluation (overField p S) d) (λ a. M' a e) (evaluation (codeOf p) d) (λ a. M a e) (evaluation-number d) (λ a. M-number a e)
-              ∙ (inverse .right d e ld le ∙ sym (identity-number d e)));
-        }
-
-    pub vanishing-in-level : Vanishes p l block → InLevel p l block
-    vanishing-in-level zeros =
-        record {
-          information = λ b r. number (x b r);
-          below = λ b r. x b r .1;
-          same = λ i u. sym (received-number i)
-              ∙ (ap number (sym (level-code (fieldOf p S) (rootOf p S) (p .n) (p .k) (p .m) (orderAt p S) M' inverse-over l received fits (vanishes-over zeros) i u))
-              ∙ (combination-natural (overField p S) (opsOf (p .q)) number (keeps p S) l x i ∙ ap (λ (c : Code ℕ). combination c l (λ b r. number (x b r)) i) (mapped-code p S)));
-        }
-      where
-        x : ℕ → ℕ → Element (p .q)
-        x = informationOf (fieldOf p S) (rootOf p S) (p .n) (p .k) (p .m) (orderAt p S) M' inverse-over l (λ s. valueOf (fieldOf p S .ops) (p .n) received (power (fieldOf p S .ops) (rootOf p S) s))
+    fits : (l + 1) * p .k ≤ p .n
+    fits = let top : l + 1 ≤ p .m + 1 = omega arith in omega (arith, mul-le-mul-right (p .k) top, S .room)

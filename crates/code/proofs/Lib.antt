@@ -1,5 +1,6 @@
 -- What is true of the code, over any field and any n, k, m; then of the settings, on lists of bytes.
 pub mod Blocks
+pub mod Recovery
 pub mod LevelCode
 pub mod Certainty
 pub mod Windows

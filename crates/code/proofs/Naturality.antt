@@ -1,5 +1,5 @@
 -- The definitions of the code go through a map that keeps the operations: from the abstract carrier to the numbers below q.
--- Holds: `mapped`; `base-natural`, `rowSymbol-natural`, `timesG-natural`, `sentSymbol-natural`, `combination-natural`, `evaluation-natural`.
+-- Holds: `mapped`; `base-natural`, `rowSymbol-natural`, `timesG-natural`, `sentSymbol-natural`, `combination-natural`, `ending-natural`.
 use mathlib.Core.Path.{_≡_, refl, sym, ap, ap₂, _∙_}
 use mathlib.Core.Bool.{Bool, true, false}
 use mathlib.Core.List.{List, [], _∷_, _++_, map}
@@ -8,13 +8,14 @@ use lib.Dec.{leb}
 use lib.ListN.{getD, replicate, List·getD-map}
 use Rattle.algebra.specs.Ops.{Ops, pick}
 use Rattle.algebra.specs.Sum.{power}
-use Rattle.algebra.specs.Polynomial.{value}
+use Rattle.algebra.specs.Polynomial.{falling}
 use Rattle.algebra.proofs.Sums.{sum-ext}
-use Rattle.algebra.proofs.Naturality.{Homomorphism, sum-natural, power-natural, value-natural, fromRoots-natural}
+use Rattle.algebra.proofs.Naturality.{Homomorphism, sum-natural, power-natural, falling-natural, fromRoots-natural}
 use Rattle.code.specs.Code.{Code}
 use Rattle.code.specs.Generator.{points, base, rowSymbol, timesG}
 use Rattle.code.specs.Transmission.{earlier, sentSymbol}
-use Rattle.code.specs.Level.{combination, evaluation}
+use Rattle.code.specs.Level.{combination}
+use Rattle.code.specs.Recovery.{ending}
 
 -- The code with α mapped, over other operations.
 abbrev pub mapped : {F G : Type 0} → Code F → Ops G → (F → G) → Code G
@@ -84,11 +85,9 @@ module _ {F G : Type 0} (c : Code F) (p : Ops G) (h : F → G) (H : Homomorphism
       ∙ sum-ext p (suc l) (λ j. h (timesG c (x (l - j)) j i)) (λ j. timesG (mapped c p h) (λ r. h (x (l - j) r)) j i)
       (λ j s. timesG-natural (x (l - j)) j i)
 
-  pub evaluation-natural : (e a : ℕ) → h (evaluation c e a) ≡ evaluation (mapped c p h) e a
-  unfolding evaluation
-  evaluation-natural e a =
-      H .on-mul (value (c .ops) (base c) (power (c .ops) (c .α) (c .n - c .k + e))) (power (c .ops) (c .α) ((c .n - c .k + e) * a))
-      ∙ ap₂ (p .mul)
-      (value-natural (c .ops) p h H (base c) (power (c .ops) (c .α) (c .n - c .k + e))
-      ∙ ap₂ (value p) base-natural (power-natural (c .ops) p h H (c .α) (c .n - c .k + e)))
-      (power-natural (c .ops) p h H (c .α) ((c .n - c .k + e) * a))
+  pub ending-natural : (v : ℕ → F) (j : ℕ) → h (ending c v j) ≡ ending (mapped c p h) (λ e. h (v e)) j
+  unfolding ending
+  ending-natural v j =
+      H .on-neg (falling (c .ops) (c .k) v (power (c .ops) (c .ops .inv (c .α)) j))
+      ∙ ap (p .neg) (falling-natural (c .ops) p h H (c .k) v (power (c .ops) (c .ops .inv (c .α)) j)
+      ∙ ap (falling p (c .k) (λ e. h (v e))) (power-natural (c .ops) p h H (c .ops .inv (c .α)) j ∙ ap (λ t. power p t j) (H .on-inv (c .α))))

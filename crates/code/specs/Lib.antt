@@ -3,6 +3,7 @@ pub mod Code
 pub mod Generator
 pub mod Transmission
 pub mod Level
+pub mod Recovery
 pub mod Settings
 pub mod Windows
 pub mod Reading

@@ -13,6 +13,7 @@ use lib.Bits.{bitXor, xor-lt, xor-comm, xor-zero-r, xor-self, xor-shr, xor-shift
 use lib.Dec.{eqb, ltb, lit<}
 use borrow.Author.Tests.{ltb-true, ltb-false, lt-ltb}
 use Rattle.algebra.specs.Ops.{pick}
+use Rattle.algebra.specs.Sum.{sum}
 use Rattle.algebra.proofs.Below.{FieldBelow, OrderBelow}
 use Rattle.field.specs.Binary.{timesAlpha, timesBits, binary}
 use Rattle.field.proofs.Xor.{xor-assoc, xor-swap, xor-double}
@@ -136,6 +137,6 @@ module _ (w r : ℕ) (low : 2 ^ w ≤ r) (high : r < 2 * 2 ^ w) where
     unfolding binary
     binary-field = field-with generated (timesBits (timesAlpha w r) w) agrees
 
-    pub binary-order : OrderBelow (2 ^ w) (binary w r) n (timesAlpha w r 1)
+    pub binary-order : sum (binary w r) n (λ i. 1) ≡ 1 → OrderBelow (2 ^ w) (binary w r) n (timesAlpha w r 1)
     unfolding binary
     binary-order = order-with generated (timesBits (timesAlpha w r) w) agrees

@@ -5,6 +5,7 @@ use mathlib.Core.List.{List, [], _∷_}
 use Prim.Native.Nat.{ℕ, _+_, _-_, _*_, _%_, _<_}
 use native.Mathlib.Nat.{mod-lt}
 use lib.Dec.{lit<}
+use Rattle.algebra.specs.Sum.{sum as total}
 use Rattle.algebra.proofs.Below.{FieldBelow, OrderBelow}
 use Rattle.algebra.proofs.Tests.{all, same, same-pairs, same-triples}
 use Rattle.field.specs.Modular.{modular}
@@ -66,5 +67,5 @@ unfolding five modular
 five-field = field-with generated (λ a b. a * b % 5) agrees
 
 pub five-order : OrderBelow 5 five 4 alpha
-unfolding five modular
-five-order = order-with generated (λ a b. a * b % 5) agrees
+unfolding five modular total
+five-order = order-with generated (λ a b. a * b % 5) agrees refl

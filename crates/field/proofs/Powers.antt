@@ -13,7 +13,7 @@ use lib.Dec.{T, eqb, eqb→eq, ltb, ltb→lt}
 use lib.ListN.{getD}
 use borrow.Author.Tests.{eqb-true, eqb-false, ne-eqb}
 use Rattle.algebra.specs.Ops.{pick}
-use Rattle.algebra.specs.Sum.{power}
+use Rattle.algebra.specs.Sum.{sum, power}
 use Rattle.algebra.proofs.Below.{FieldBelow, OrderBelow}
 use Rattle.algebra.proofs.Tests.{all, all-at, same, within}
 use Rattle.field.specs.Numbers.{inverseBelow, numbers}
@@ -301,8 +301,8 @@ module _ {q n : ℕ} {add : ℕ → ℕ → ℕ} {neg double : ℕ → ℕ} {pow
         ∙ agrees (double 1) (doublings double i 1) (double-below 1 one-below) (alpha-below i)
         ∙ product-power 1 (doublings double i 1) (alpha-below i)
 
-    pub order-with : OrderBelow q (numbers q add neg mul) n (double 1)
-    order-with =
+    pub order-with : sum (numbers q add neg mul) n (λ i. 1) ≡ neg 1 → OrderBelow q (numbers q add neg mul) n (double 1)
+    order-with ones =
         record {
           root-below = double-below 1 one-below;
           power-below = λ i. subst (λ (x : ℕ). x < q) (sym (power-is i)) (alpha-below i);
@@ -311,4 +311,5 @@ module _ {q n : ℕ} {add : ℕ → ℕ → ℕ} {neg double : ℕ → ℕ} {pow
               sym (mod-eq-of-lt hi) ∙ sym (exponent-of i) ∙ ap (at exponents) (sym (power-is i) ∙ e ∙ power-is j)
               ∙ exponent-of j ∙ mod-eq-of-lt hj;
           full = power-is n ∙ doublings-one n ∙ ap (at powers) (mod-self n) ∙ first;
+          ones = ones;
         }

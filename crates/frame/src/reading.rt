@@ -5,11 +5,10 @@ ghost use lib.ListN.{length};
 ghost use Rattle.field.specs.Symbols.{Symbols};
 ghost use Rattle.code.specs.Code as distances;
 ghost use Rattle.code.specs.Settings.{Sound};
-ghost use Rattle.tables.specs.Tables.{Ready, Small, MatrixOf};
+ghost use Rattle.tables.specs.Tables.{Ready, Small};
 ghost use Rattle.frame.specs.Frame.{Progress, Advanced, Compared, FrameRead};
 use code::Setting;
 use field::Tables;
-use tables::Matrix;
 use tables::Rows;
 
 // One turn: the blocks of window j are guessed, and then block j made certain by what the window says.
@@ -17,7 +16,6 @@ fn turn(
     p: Setting,
     products: &Tables,
     rows: &Rows,
-    matrix: &Matrix,
     scale: u8,
     blocks: usize,
     reception: &[u8],
@@ -25,7 +23,7 @@ fn turn(
     message: &mut [u8],
     left: &mut [u8],
 ) -> bool
-    requires { ⌜ Ready p (now products) (now rows) × MatrixOf p (now matrix) × (scale < p .q) × (length (now reception) ≡ (blocks + p .m) * p .n) × Symbols (p .q) (now reception) × (j < blocks) × Progress p blocks (now reception) j (now message) (now left) ⌝ }
+    requires { ⌜ Ready p (now products) (now rows) × (scale < p .q) × (length (now reception) ≡ (blocks + p .m) * p .n) × Symbols (p .q) (now reception) × (j < blocks) × Progress p blocks (now reception) j (now message) (now left) ⌝ }
     ensures { λ r. ⌜ Advanced p blocks (now (reception .entry)) (j + 1) (now (message .exit)) (now (left .exit)) r ⌝ }
 {
     let size = (p.m + 1) * p.n;
@@ -33,14 +31,7 @@ fn turn(
     let end = start + size;
     super::guess::guess_window(p, products, rows, scale, blocks, j, message, left);
     let mut information = [0u8; block::CAPACITY];
-    let found = super::window::read_window(
-        p,
-        products,
-        rows,
-        matrix,
-        &left[start..end],
-        &mut information,
-    );
+    let found = super::window::read_window(p, products, rows, &left[start..end], &mut information);
     if found == 0 {
         return false;
     }
@@ -63,14 +54,13 @@ fn read_windows(
     p: Setting,
     products: &Tables,
     rows: &Rows,
-    matrix: &Matrix,
     scale: u8,
     blocks: usize,
     reception: &[u8],
     message: &mut [u8],
     left: &mut [u8],
 ) -> bool
-    requires { ⌜ Ready p (now products) (now rows) × MatrixOf p (now matrix) × (scale < p .q) × (length (now reception) ≡ (blocks + p .m) * p .n) × Symbols (p .q) (now reception) × Progress p blocks (now reception) 0 (now message) (now left) ⌝ }
+    requires { ⌜ Ready p (now products) (now rows) × (scale < p .q) × (length (now reception) ≡ (blocks + p .m) * p .n) × Symbols (p .q) (now reception) × Progress p blocks (now reception) 0 (now message) (now left) ⌝ }
     ensures { λ r. ⌜ Advanced p blocks (now (reception .entry)) blocks (now (message .exit)) (now (left .exit)) r ⌝ }
 {
     let mut j: usize = 0;
@@ -79,7 +69,6 @@ fn read_windows(
             p,
             products,
             rows,
-            matrix,
             scale,
             blocks,
             reception,
@@ -119,29 +108,18 @@ pub fn read(
     p: Setting,
     products: &Tables,
     rows: &Rows,
-    matrix: &Matrix,
     blocks: usize,
     reception: &[u8],
     message: &mut [u8],
     left: &mut [u8],
 ) -> bool
-    requires { ⌜ Ready p (now products) (now rows) × MatrixOf p (now matrix) × (1 ≤ blocks) × (length (now reception) ≡ (blocks + p .m) * p .n) × Symbols (p .q) (now reception) × (length (now message) ≡ blocks * p .k) × (length (now left) ≡ length (now reception)) ⌝ }
+    requires { ⌜ Ready p (now products) (now rows) × (1 ≤ blocks) × (length (now reception) ≡ (blocks + p .m) * p .n) × Symbols (p .q) (now reception) × (length (now message) ≡ blocks * p .k) × (length (now left) ≡ length (now reception)) ⌝ }
     ensures { λ r. ⌜ FrameRead p blocks (now (reception .entry)) (now (message .exit)) (now (left .exit)) r ⌝ }
 {
     super::area::clear(message);
     bytes::copy(reception, left);
     let scale = field::inverse(p.q, products, rows[0]);
-    if !read_windows(
-        p,
-        products,
-        rows,
-        matrix,
-        scale,
-        blocks,
-        reception,
-        message,
-        left,
-    ) {
+    if !read_windows(p, products, rows, scale, blocks, reception, message, left) {
         return false;
     }
     let m = p.m;

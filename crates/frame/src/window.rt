@@ -8,13 +8,12 @@ ghost use Rattle.code.specs.Transmission.{view};
 ghost use Rattle.code.specs.Settings.{Sound};
 ghost use Rattle.code.specs.Windows.{windowLength};
 ghost use Rattle.code.specs.Reading.{rebuiltDistance};
-ghost use Rattle.tables.specs.Tables.{Ready, Small, MatrixOf};
+ghost use Rattle.tables.specs.Tables.{Ready, Small};
 ghost use Rattle.block.specs.Area.{Area};
 ghost use Rattle.frame.specs.Window.{Tried, Levels};
 use block::Series;
 use code::Setting;
 use field::Tables;
-use tables::Matrix;
 use tables::Rows;
 
 // d_0 + .. + d_l
@@ -72,26 +71,17 @@ fn try_level(
     p: Setting,
     products: &Tables,
     rows: &Rows,
-    matrix: &Matrix,
     window: &[u8],
     l: usize,
     information: &mut Series,
 ) -> bool
-    requires { ⌜ Ready p (now products) (now rows) × MatrixOf p (now matrix) × (length (now window) ≡ windowLength p) × Symbols (p .q) (now window) × (l ≤ p .m) ⌝ }
+    requires { ⌜ Ready p (now products) (now rows) × (length (now window) ≡ windowLength p) × Symbols (p .q) (now window) × (l ≤ p .m) ⌝ }
     ensures { λ r. ⌜ Tried p (now (window .entry)) l (now (information .exit)) r ⌝ }
 {
     let n = p.n;
     let start = l * n;
     let end = start + n;
-    let near = block::repair(
-        p,
-        products,
-        rows,
-        matrix,
-        &window[start..end],
-        l,
-        information,
-    );
+    let near = block::repair(p, products, rows, &window[start..end], l, information);
     if !near {
         return false;
     }
@@ -108,17 +98,16 @@ fn find_level(
     p: Setting,
     products: &Tables,
     rows: &Rows,
-    matrix: &Matrix,
     window: &[u8],
     information: &mut Series,
 ) -> usize
-    requires { ⌜ Ready p (now products) (now rows) × MatrixOf p (now matrix) × (length (now window) ≡ windowLength p) × Symbols (p .q) (now window) ⌝ }
+    requires { ⌜ Ready p (now products) (now rows) × (length (now window) ≡ windowLength p) × Symbols (p .q) (now window) ⌝ }
     ensures { λ r. ⌜ Levels p (now (window .entry)) (now (information .exit)) r ⌝ }
 {
     let mut blocks = p.m + 1;
     while 0 < blocks {
         let l = blocks - 1;
-        if try_level(p, products, rows, matrix, window, l, information) {
+        if try_level(p, products, rows, window, l, information) {
             return blocks;
         }
         blocks = l;
@@ -131,11 +120,10 @@ pub fn read_window(
     p: Setting,
     products: &Tables,
     rows: &Rows,
-    matrix: &Matrix,
     window: &[u8],
     information: &mut Series,
 ) -> usize
-    requires { ⌜ Ready p (now products) (now rows) × MatrixOf p (now matrix) × (length (now window) ≡ windowLength p) × Symbols (p .q) (now window) ⌝ }
+    requires { ⌜ Ready p (now products) (now rows) × (length (now window) ≡ windowLength p) × Symbols (p .q) (now window) ⌝ }
     ensures { λ r. ⌜ Levels p (now (window .entry)) (now (information .exit)) r ⌝ }
 {
     let m = p.m;
@@ -144,5 +132,5 @@ pub fn read_window(
         *information = [0u8; block::CAPACITY];
         return 1;
     }
-    find_level(p, products, rows, matrix, window, information)
+    find_level(p, products, rows, window, information)
 }

@@ -39,12 +39,10 @@ fn decode_frame(
     let q = p.q;
     let products = field::tables(q);
     let rows = tables::rows(setting);
-    let matrix = tables::matrix(setting);
     if !frame::reading::read(
         p,
         &products,
         &rows,
-        &matrix,
         blocks,
         reception,
         message,

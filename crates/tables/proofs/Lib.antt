@@ -1,7 +1,5 @@
 -- What is shown of the tables.
 pub mod Filled
-pub mod Matrices
-pub mod LevelBlocks
 pub mod Places
 pub mod Small
 pub mod Examples

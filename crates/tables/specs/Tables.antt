@@ -1,5 +1,5 @@
--- The tables of a setting: the generator as 01 keeps it, its rows one after the other, and the matrix that gives information back.
--- Holds: `generatorOf`, `RowsOf`, `Small`, `Ready`, `MatrixOf`.
+-- The tables of a setting: the generator as 01 keeps it and its rows one after the other.
+-- Holds: `generatorOf`, `RowsOf`, `Small`, `Ready`.
 use mathlib.Core.Path.{_≡_}
 use mathlib.Core.List.{List}
 use Prim.Native.Nat.{ℕ, _+_, _*_, _≤_, _<_}
@@ -8,7 +8,6 @@ use Rattle.field.specs.Symbols.{Symbols}
 use Rattle.code.specs.declared.Setting.{Setting}
 use Rattle.code.specs.Generator.{rowSymbol}
 use Rattle.code.specs.Transmission.{view, tabulate}
-use Rattle.code.specs.Level.{Inverses}
 use Rattle.field.specs.Tables.{Lent}
 use Rattle.code.specs.Settings.{codeOf, Sound}
 
@@ -34,8 +33,3 @@ pub record Ready (p : Setting) (lent-products : List (List ℕ)) (lent-rows : Li
   pub small : Small p
   pub products : Lent (p .q) lent-products
   pub rows : RowsOf p lent-rows
-
--- The k×k matrix, row by row, that undoes `evaluation`.
-pub record MatrixOf (p : Setting) (matrix : List ℕ) : Type 0 where
-  pub inverses : Inverses (codeOf p) (view (p .k) matrix)
-  pub symbols : Symbols (p .q) matrix

@@ -5,7 +5,7 @@ ghost use lib.Dec.{T};
 ghost use lib.ListN.{length};
 ghost use lib.Seq.{paste};
 ghost use Rattle.code.specs.Settings.{isSetting, settingOf};
-ghost use Rattle.tables.specs.Tables.{generatorOf, RowsOf, MatrixOf};
+ghost use Rattle.tables.specs.Tables.{generatorOf, RowsOf};
 
 pub mod product;
 
@@ -155,26 +155,4 @@ pub fn rows(number: u32) -> Rows
         return rows_2();
     }
     rows_3()
-}
-
-// A setting's k×k matrix, row by row, that gives an information block back from its part of the spectrum, with room for the largest.
-pub type Matrix = [u8; 9];
-
-const MATRIX_1: Matrix = [2, 0, 0, 0, 0, 0, 0, 0, 0];
-
-const MATRIX_2: Matrix = [6, 6, 7, 5, 0, 0, 0, 0, 0];
-
-const MATRIX_3: Matrix = [2, 2, 2, 7, 2, 5, 6, 7, 5];
-
-pub fn matrix(number: u32) -> Matrix
-    requires { ⌜ T (isSetting number) ⌝ }
-    ensures { λ r. ⌜ MatrixOf (settingOf number) r ⌝ }
-{
-    if number == 1 {
-        return MATRIX_1;
-    }
-    if number == 2 {
-        return MATRIX_2;
-    }
-    MATRIX_3
 }

@@ -15,7 +15,7 @@ use code::Setting;
 use field::Tables;
 
 // Symbol i of (the k information symbols at `from`) × G_j.
-fn times_g(
+pub fn times_g(
     p: Setting,
     products: &Tables,
     rows: &Rows,

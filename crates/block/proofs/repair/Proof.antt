@@ -1,13 +1,12 @@
 -- `block::repair` meets its contract: what its parts promise gives the two answers.
 use Prim.Native.Nat.{_+_, _-_, _*_, _≤_}
 use native.Mathlib.Omega.{arith}
-use Rattle.field.proofs.Symbols.{symbol-below}
 use Rattle.code.specs.Transmission.{view}
 use Rattle.code.specs.Level.{combination}
 use Rattle.code.specs.Settings.{codeOf}
 use Rattle.block.specs.Area.{at}
-use Rattle.block.proofs.Accumulated.{zero-below, distance-le}
-use Rattle.block.proofs.Levels.{level-fits, block-short, matrix-small}
+use Rattle.block.proofs.Accumulated.{distance-le}
+use Rattle.block.proofs.Levels.{level-fits, block-short}
 use Rattle.block.proofs.Answers.{Known, Parts, step-long, step-near, step-far}
 use Rattle.block.proofs.Spectra.{point-none, spectrum-none}
 use borrow.Author.Needs.{needs}
@@ -18,10 +17,10 @@ add-blocks : tie.Need-add-blocks
 add-blocks c = search needs
 
 mul-count : tie.Need-mul-count
-mul-count c = let p = c .before .pre in let a = c .before .args in omega (arith, level-fits (a .p) (p .0 .sound) (a .l) (p .4), block-short (a .p) (p .0 .sound) (p .0 .small))
+mul-count c = let p = c .before .pre in let a = c .before .args in omega (arith, level-fits (a .p) (p .0 .sound) (a .l) (p .3), block-short (a .p) (p .0 .sound) (p .0 .small))
 
 sub-zeros : tie.Need-sub-zeros
-sub-zeros c = let p = c .before .before .pre in let a = c .before .before .args in omega (arith, level-fits (a .p) (p .0 .sound) (a .l) (p .4))
+sub-zeros c = let p = c .before .before .pre in let a = c .before .before .args in omega (arith, level-fits (a .p) (p .0 .sound) (a .l) (p .3))
 
 add-known : tie.Need-add-known
 add-known c = search needs
@@ -39,7 +38,7 @@ add-values-requires c κs =
     let short = block-short (a .p) (p .0 .sound) (p .0 .small) in (
       p .0 .sound .good,
       p .0 .products,
-      p .3,
+      p .2,
       omega arith,
       omega (arith, short),
       point-none _ (p .0 .sound .good),
@@ -63,9 +62,9 @@ known c =
     let p = c .before .before .before .before .before .before .before .before .before .pre in
     record {
       sound = p .0 .sound;
-      level = p .4;
-      long = p .2;
-      symbols = p .3;
+      level = p .3;
+      long = p .1;
+      symbols = p .2;
       series = _;
       spectral = c .before .before .before .before .add-values .ensures .1;
       locator = _;
@@ -90,7 +89,7 @@ add-values-requires-2 c κs =
     let a = c .before .before .before .before .before .before .before .before .before .before .before .args in
     let first = c .before .before .before .before .before .before .add-values .ensures in
     let short = block-short (a .p) (p .0 .sound) (p .0 .small) in
-    (p .0 .sound .good, p .0 .products, p .3, omega arith, omega (arith, short), first .0, first .1)
+    (p .0 .sound .good, p .0 .products, p .2, omega arith, omega (arith, short), first .0, first .1)
 
 extend-requires : tie.Need-extend-requires
 extend-requires c κs =
@@ -101,26 +100,22 @@ extend-requires c κs =
       c .before .before .before .before .before .locate .ensures .placed .locator-area,
       c .before .before .add-values2 .ensures .1 .area,
       length-known (c .before .before .before .before .before),
-      omega (arith, level-fits (a .p) (p .0 .sound) (a .l) (p .4), block-short (a .p) (p .0 .sound) (p .0 .small)),
+      omega (arith, level-fits (a .p) (p .0 .sound) (a .l) (p .3), block-short (a .p) (p .0 .sound) (p .0 .small)),
     )
 
 read-requires : tie.Need-read-requires
 read-requires c κs =
     let p = c .before .before .before .before .before .before .before .before .before .before .before .before .before .before .before .before .pre in
     let a = c .before .before .before .before .before .before .before .before .before .before .before .before .before .before .before .before .args in (
-      p .0 .sound .good,
-      p .0 .products,
-      p .0 .sound .information,
-      matrix-small (a .p) (p .0 .small),
-      omega (arith, level-fits (a .p) (p .0 .sound) (a .l) (p .4), block-short (a .p) (p .0 .sound) (p .0 .small)),
-      symbol-below (a .p .q) (a .matrix .now) (p .1 .symbols) (zero-below (a .p .q) (p .0 .sound .good)),
+      p .0,
+      omega (arith, level-fits (a .p) (p .0 .sound) (a .l) (p .3), block-short (a .p) (p .0 .sound) (p .0 .small)),
       c .before .extend .ensures .values-area,
     )
 
 differing-requires : tie.Need-differing-requires
 differing-requires c κs =
     let p = c .before .before .before .before .before .before .before .before .before .before .before .before .before .before .before .before .before .before .pre in
-    (p .0, c .before .read .ensures .area, p .4, p .2)
+    (p .0, c .before .read .ensures .area, p .3, p .1)
 
 mul-if2 : tie.Need-mul-if2
 mul-if2 c =
@@ -135,8 +130,6 @@ parts c =
     record {
       length-found = _;
       begun = known (c .before .before .before .before .before .before .before .before .before .before);
-      matrix = _;
-      inverse = c .before .before .before .before .before .before .before .before .before .before .before .before .before .before .before .before .before .before .before .pre .1;
       series = _;
       spectral = c .before .before .before .before .before .before .before .add-values2 .ensures .1;
       after = _;

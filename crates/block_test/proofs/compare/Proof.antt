@@ -6,16 +6,16 @@ use Rattle.block_test.proofs.compare.Statement.{statement}
 use Rattle.block_test.proofs.compare.Tie as tie
 
 abbrev Inv-loop : tie.InvT-loop
-Inv-loop p products rows matrix l distance count stride end blocks₀ near₀ agree₀ number₀ blocks near agree number = (number ≤ end + stride) × (blocks ≤ number) × (near ≤ blocks) × (agree ≤ blocks)
+Inv-loop p products rows l distance count stride end blocks₀ near₀ agree₀ number₀ blocks near agree number = (number ≤ end + stride) × (blocks ≤ number) × (near ≤ blocks) × (agree ≤ blocks)
 
 abbrev μ-loop : tie.MeasureT-loop
-μ-loop p products rows matrix l distance count stride end blocks₀ near₀ agree₀ number₀ blocks near agree number = end + stride - number
+μ-loop p products rows l distance count stride end blocks₀ near₀ agree₀ number₀ blocks near agree number = end + stride - number
 
 loop-holds : tie.Need-loop-holds Inv-loop μ-loop
 loop-holds c = omega arith
 
 one-requires : tie.Need-one-requires Inv-loop μ-loop
-one-requires c κs = let p = c .before .before .pre in (p .0, p .1, p .2)
+one-requires c κs = let p = c .before .before .pre in (p .0, p .1)
 
 add-near : tie.Need-add-near Inv-loop μ-loop
 add-near c = omega arith

@@ -4,7 +4,6 @@ use Prim.Native.Nat.{_≤_}
 use Rattle.code.specs.declared.Setting.{Setting}
 use Rattle.code.specs.Settings.{Sound}
 use Rattle.code.proofs.Settings.{soundOf}
-use Rattle.tables.specs.Tables.{MatrixOf}
 use Rattle.tables.proofs.Small.{readyOf}
 use borrow.Author.Needs.{needs}
 use Rattle.block_test.proofs.level.Statement.{statement}
@@ -19,9 +18,6 @@ tables-requires c κs = subst Sound (sym (c .setting .ensures)) (soundOf (c .bef
 rows-requires : tie.Need-rows-requires
 rows-requires c κs = search needs
 
-matrix-requires : tie.Need-matrix-requires
-matrix-requires c κs = search needs
-
 print-requires : tie.Need-print-requires
 print-requires c κs = search needs
 
@@ -30,11 +26,10 @@ print-requires-2 c κs = search needs
 
 compare-requires : tie.Need-compare-requires
 compare-requires c κs =
-    let p = c .before .before .before .before .before .before .before .before .before .pre in
-    let e = c .before .before .before .before .before .before .before .before .setting .ensures in (
-      readyOf (c .before .before .before .before .before .before .before .before .before .args .number) _ (p .0) e _ _ (c .before .before .before .before .before .before .before .tables .ensures) (c .before .before .before .before .before .before .rows .ensures),
-      subst (λ (x : Setting). MatrixOf x (c .before .before .before .before .before .matrix .result)) (sym e) (c .before .before .before .before .before .matrix .ensures),
-      subst (λ (x : Setting). c .before .before .before .before .before .before .before .before .before .args .l ≤ x .m) (sym e) (p .1),
+    let p = c .before .before .before .before .before .before .before .pre in
+    let e = c .before .before .before .before .before .before .setting .ensures in (
+      readyOf (c .before .before .before .before .before .before .before .args .number) _ (p .0) e _ _ (c .before .before .before .before .before .tables .ensures) (c .before .before .before .before .rows .ensures),
+      subst (λ (x : Setting). c .before .before .before .before .before .before .before .args .l ≤ x .m) (sym e) (p .1),
       p .2,
       p .3,
       p .4,
@@ -50,7 +45,6 @@ level-spec =
     setting-requires
     tables-requires
     rows-requires
-    matrix-requires
     print-requires
     print-requires-2
     compare-requires

@@ -30,10 +30,9 @@ repair-requires c κs =
     let l = c .before .before .before .before .before .digits .result in
     let a = c .before .before .before .before .before .digits .ensures in (
       p .0,
-      p .1,
       omega (arith, length-take (s .n - 0) l, a .size, block-short s (p .0 .sound) (p .0 .small)),
       symbols-take (s .q) (s .n - 0) l (area-symbols a),
-      p .2,
+      p .1,
     )
 
 returns : tie.Need-returns

@@ -1,58 +1,52 @@
--- `block::information::read` meets its contract. The loop's invariant: the places so far hold their symbols.
-use Prim.Native.Nat.{_≤_, _-_, _*_}
+-- `block::information::read` meets its contract. The loop's invariant is the promise for b blocks.
+use Prim.Native.Nat.{_≤_, _+_, _-_, _*_}
 use mathlib.Core.Path.{_≡_}
-use native.Mathlib.Nat.{mod-lt, mod-le}
+use native.Mathlib.Nat.{mul-le-mul-right}
 use native.Mathlib.Omega.{arith}
-use Rattle.block.proofs.Reading.{ReadTo, read-none, read-more, read-done, block-end}
+use Rattle.block.specs.Information.{Read}
+use Rattle.block.proofs.Reading.{read-none, read-more}
 use Rattle.block.proofs.information.read.Statement.{statement}
 use Rattle.block.proofs.information.read.Tie as tie
 
 abbrev Inv-loop : tie.InvT-loop
-Inv-loop q products k blocks matrix values information₀ count place₀ information place = (place ≤ count) × ReadTo q k place matrix values information
+Inv-loop p products rows blocks values k information₀ b₀ information b = (b ≤ blocks) × Read p b values information
 
 abbrev μ-loop : tie.MeasureT-loop
-μ-loop q products k blocks matrix values information₀ count place₀ information place = count - place
-
-mul-count : tie.Need-mul-count Inv-loop μ-loop
-mul-count c = omega arith
+μ-loop p products rows blocks values k information₀ b₀ information b = blocks - b
 
 loop-holds : tie.Need-loop-holds Inv-loop μ-loop
-loop-holds c = (omega arith, read-none _ _ _ _ (c .pre .0))
+loop-holds c = (omega arith, read-none _ (c .pre .0 .sound) _ (c .pre .2))
 
-rem-a : tie.Need-rem-a Inv-loop μ-loop
-rem-a c = omega arith
-
-sub-times-row : tie.Need-sub-times-row Inv-loop μ-loop
-sub-times-row c = mod-le (c .before .loop .place) (c .before .before .args .k)
-
-times-row-requires : tie.Need-times-row-requires Inv-loop μ-loop
-times-row-requires c κs =
-    let p = c .before .before .pre in
+mul-read-block : tie.Need-mul-read-block Inv-loop μ-loop
+mul-read-block c =
     let a = c .before .before .args in
-    let t = c .before .loop .place in
-    let end = block-end (a .k) (a .blocks) t (p .2) (c .loop-test .taken) in
-    (p .0, p .1, p .3, p .5, mod-lt t (p .2), p .6, omega (arith, end))
+    let next : c .before .loop .b + 1 ≤ a .blocks = omega arith in
+    omega (arith, mul-le-mul-right (a .p .k) next, c .before .before .pre .1)
 
-array-write-information : tie.Need-array-write-information Inv-loop μ-loop
-array-write-information c = omega arith
+read-block-requires : tie.Need-read-block-requires Inv-loop μ-loop
+read-block-requires c κs =
+    let p = c .before .before .before .pre in
+    let a = c .before .before .before .args in
+    let next : c .before .before .loop .b + 1 ≤ a .blocks = omega arith in
+    (p .0, p .2, c .before .before .loop .inv .1 .area, omega (arith, mul-le-mul-right (a .p .k) next, p .1))
 
-add-place : tie.Need-add-place Inv-loop μ-loop
-add-place c = omega arith
+add-b : tie.Need-add-b Inv-loop μ-loop
+add-b c = omega arith
 
 loop-less : tie.Need-loop-less Inv-loop μ-loop
 loop-less c = omega arith
 
 loop-again : tie.Need-loop-again Inv-loop μ-loop
 loop-again c =
-    let l = c .before .before .loop in
-    (omega arith, read-more _ _ _ _ (l .information) (l .place) _ (l .inv .1) (omega arith) (c .times-row .ensures))
+    let p = c .before .before .before .before .pre in
+    let l = c .before .before .before .loop in
+    (omega arith, read-more _ (p .0 .sound) _ (p .2) (l .b) _ _ (l .inv .1) (c .read-block .ensures))
 
 returns : tie.Need-returns Inv-loop μ-loop
 returns c =
     let l = c .before .loop in
-    let a = c .before .before .args in
-    let done : l .place ≡ a .blocks * a .k = omega arith in
-    read-done _ _ _ _ (a .blocks) (l .information) (rw done at (l .inv .1))
+    let done : l .b ≡ c .before .before .args .blocks = omega arith in
+    rw done at (l .inv .1)
 
 pub read-spec : {M : Type 1} → statement M
 read-spec =
@@ -60,13 +54,10 @@ read-spec =
     (tie.spec
     Inv-loop
     μ-loop
-    mul-count
     loop-holds
-    rem-a
-    sub-times-row
-    times-row-requires
-    array-write-information
-    add-place
+    mul-read-block
+    read-block-requires
+    add-b
     loop-less
     loop-again
     returns)

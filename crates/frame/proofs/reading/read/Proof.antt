@@ -18,7 +18,7 @@ clear-requires : tie.Need-clear-requires
 clear-requires c κs = search needs
 
 copy-requires : tie.Need-copy-requires
-copy-requires c κs = omega (arith, c .before .before .before .before .before .before .before .before .pre .6)
+copy-requires c κs = omega (arith, c .before .before .before .before .before .before .before .before .pre .5)
 
 element-copy-out-inverse : tie.Need-element-copy-out-inverse
 element-copy-out-inverse c = search needs
@@ -34,12 +34,11 @@ read-windows-requires c κs =
     let entry = c .before .before .before .before .before .before .before .before .before .before .before .before .before .before .before in
     let a = entry .args in (
       entry .pre .0,
-      entry .pre .1,
       c .before .before .inverse .ensures .below,
+      entry .pre .2,
       entry .pre .3,
-      entry .pre .4,
       begin (a .p) (entry .pre .0 .sound) (a .blocks) (now (a .reception)) (now (a .left)) (c .before .before .before .before .before .before .before .before .before .before .clear .last .0) (now (a .message)) (c .before .before .before .before .before .before .copy .last .1 .0)
-          (entry .pre .4) (entry .pre .3) (entry .pre .5) (c .before .before .before .before .before .before .before .before .before .before .clear .ensures) (entry .pre .6) (c .before .before .before .before .before .before .copy .ensures .1),
+          (entry .pre .3) (entry .pre .2) (entry .pre .4) (c .before .before .before .before .before .before .before .before .before .before .clear .ensures) (entry .pre .5) (c .before .before .before .before .before .before .copy .ensures .1),
     )
 
 same-length : tie.Need-same-length
@@ -51,7 +50,7 @@ same-length-2 c = search needs
 returns : tie.Need-returns
 returns c =
     let a = c .before .before .before .before .before .before .before .before .before .before .before .before .before .before .before .before .before .before .before .before .before .args in
-    none (stopped-none (a .p) (a .blocks) (now (a .reception)) (a .blocks) (c .before .before .before .before .before .read-windows .last .1 .1 .1 .1 .1 .1 .1 .0) (c .before .before .before .before .before .read-windows .last .1 .1 .1 .1 .1 .1 .1 .1 .0) (c .before .before .before .before .before .read-windows .ensures) (c .if1 .taken))
+    none (stopped-none (a .p) (a .blocks) (now (a .reception)) (a .blocks) (c .before .before .before .before .before .read-windows .last .1 .1 .1 .1 .1 .1 .0) (c .before .before .before .before .before .read-windows .last .1 .1 .1 .1 .1 .1 .1 .0) (c .before .before .before .before .before .read-windows .ensures) (c .if1 .taken))
 
 distances-to-requires : tie.Need-distances-to-requires
 distances-to-requires c κs =
@@ -64,10 +63,10 @@ sub-limit c =
     omega (arith, c .distances-to .ensures, distances-positive (a .p .n) (a .p .k) (a .p .m))
 
 -- All windows were read.
-all-read : (c : tie.After-distances-to) → Progress (c .before .before .before .before .before .before .before .before .before .before .before .before .before .before .before .before .before .before .before .before .before .before .args .p) (c .before .before .before .before .before .before .before .before .before .before .before .before .before .before .before .before .before .before .before .before .before .before .args .blocks) (now (c .before .before .before .before .before .before .before .before .before .before .before .before .before .before .before .before .before .before .before .before .before .before .args .reception)) (c .before .before .before .before .before .before .before .before .before .before .before .before .before .before .before .before .before .before .before .before .before .before .args .blocks) (c .before .before .before .before .before .before .read-windows .last .1 .1 .1 .1 .1 .1 .1 .0) (c .before .before .before .before .before .before .read-windows .last .1 .1 .1 .1 .1 .1 .1 .1 .0)
+all-read : (c : tie.After-distances-to) → Progress (c .before .before .before .before .before .before .before .before .before .before .before .before .before .before .before .before .before .before .before .before .before .before .args .p) (c .before .before .before .before .before .before .before .before .before .before .before .before .before .before .before .before .before .before .before .before .before .before .args .blocks) (now (c .before .before .before .before .before .before .before .before .before .before .before .before .before .before .before .before .before .before .before .before .before .before .args .reception)) (c .before .before .before .before .before .before .before .before .before .before .before .before .before .before .before .before .before .before .before .before .before .before .args .blocks) (c .before .before .before .before .before .before .read-windows .last .1 .1 .1 .1 .1 .1 .0) (c .before .before .before .before .before .before .read-windows .last .1 .1 .1 .1 .1 .1 .1 .0)
 all-read c =
     let a = c .before .before .before .before .before .before .before .before .before .before .before .before .before .before .before .before .before .before .before .before .before .before .args in
-    advance-more (a .p) (a .blocks) (now (a .reception)) (a .blocks) (c .before .before .before .before .before .before .read-windows .last .1 .1 .1 .1 .1 .1 .1 .0) (c .before .before .before .before .before .before .read-windows .last .1 .1 .1 .1 .1 .1 .1 .1 .0) (c .before .before .before .before .before .before .read-windows .ensures) (c .before .if1 .left)
+    advance-more (a .p) (a .blocks) (now (a .reception)) (a .blocks) (c .before .before .before .before .before .before .read-windows .last .1 .1 .1 .1 .1 .1 .0) (c .before .before .before .before .before .before .read-windows .last .1 .1 .1 .1 .1 .1 .1 .0) (c .before .before .before .before .before .before .read-windows .ensures) (c .before .if1 .left)
 
 compare-windows-requires : tie.Need-compare-windows-requires
 compare-windows-requires c κs =
@@ -84,8 +83,8 @@ returns-2 : tie.Need-returns-2
 returns-2 c =
     let entry = c .before .before .before .before .before .before .before .before .before .before .before .before .before .before .before .before .before .before .before .before .before .before .before .before in
     let a = entry .args in
-    frame-compared (a .p) (entry .pre .0 .sound) (a .blocks) (now (a .reception)) (c .before .before .before .before .before .before .before .before .read-windows .last .1 .1 .1 .1 .1 .1 .1 .0) (c .before .before .before .before .before .before .before .before .read-windows .last .1 .1 .1 .1 .1 .1 .1 .1 .0)
-    (entry .pre .4) (entry .pre .3) (entry .pre .2) (all-read (c .before .before)) (c .compare-windows .ensures)
+    frame-compared (a .p) (entry .pre .0 .sound) (a .blocks) (now (a .reception)) (c .before .before .before .before .before .before .before .before .read-windows .last .1 .1 .1 .1 .1 .1 .0) (c .before .before .before .before .before .before .before .before .read-windows .last .1 .1 .1 .1 .1 .1 .1 .0)
+    (entry .pre .3) (entry .pre .2) (entry .pre .1) (all-read (c .before .before)) (c .compare-windows .ensures)
 
 pub read-spec : {M : Type 1} → statement M
 read-spec =

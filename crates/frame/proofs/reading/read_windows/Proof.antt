@@ -11,36 +11,36 @@ use Rattle.frame.proofs.reading.read_windows.Statement.{statement}
 use Rattle.frame.proofs.reading.read_windows.Tie as tie
 
 abbrev Inv-loop : tie.InvT-loop
-Inv-loop p products rows matrix scale blocks reception message₀ left₀ j₀ message left j = (j ≤ blocks) × Progress p blocks reception j message left
+Inv-loop p products rows scale blocks reception message₀ left₀ j₀ message left j = (j ≤ blocks) × Progress p blocks reception j message left
 
 abbrev μ-loop : tie.MeasureT-loop
-μ-loop p products rows matrix scale blocks reception message₀ left₀ j₀ message left j = blocks - j
+μ-loop p products rows scale blocks reception message₀ left₀ j₀ message left j = blocks - j
 
 loop-holds : tie.Need-loop-holds Inv-loop μ-loop
-loop-holds c = (omega arith, c .before .before .before .pre .5)
+loop-holds c = (omega arith, c .before .before .before .pre .4)
 
 turn-requires : tie.Need-turn-requires Inv-loop μ-loop
 turn-requires c κs =
     let entry = c .before .before .before .before .before .before .before in
-    (entry .pre .0, entry .pre .1, entry .pre .2, entry .pre .3, entry .pre .4, c .before .before .loop-test .taken, c .before .before .before .loop .inv .1)
+    (entry .pre .0, entry .pre .1, entry .pre .2, entry .pre .3, c .before .before .loop-test .taken, c .before .before .before .loop .inv .1)
 
 -- The areas keep their lengths.
 kept : (c : tie.At-loop Inv-loop μ-loop) → (length (c .loop .message) ≡ length (now (c .before .before .before .before .args .message))) × (length (c .loop .left) ≡ length (now (c .before .before .before .before .args .left)))
 kept c =
     let a = c .before .before .before .before .args in
-    revised-lengths (a .p) (a .blocks) (now (a .message)) (now (a .left)) (c .loop .message) (c .loop .left) (c .before .before .before .before .pre .5 .areas) (c .loop .inv .1 .areas)
+    revised-lengths (a .p) (a .blocks) (now (a .message)) (now (a .left)) (c .loop .message) (c .loop .left) (c .before .before .before .before .pre .4 .areas) (c .loop .inv .1 .areas)
 
 same-length : tie.Need-same-length Inv-loop μ-loop
-same-length c = c .before .before .before .before .before .turn .kept .1 .1 .1 .1 .1 .1 .1 .1 .0 ∙ kept (c .before .before .before .before .before .before .before .before .before) .0
+same-length c = c .before .before .before .before .before .turn .kept .1 .1 .1 .1 .1 .1 .1 .0 ∙ kept (c .before .before .before .before .before .before .before .before .before) .0
 
 same-length-2 : tie.Need-same-length-2 Inv-loop μ-loop
-same-length-2 c = c .before .before .before .before .before .turn .kept .1 .1 .1 .1 .1 .1 .1 .1 .1 .0 ∙ kept (c .before .before .before .before .before .before .before .before .before) .1
+same-length-2 c = c .before .before .before .before .before .turn .kept .1 .1 .1 .1 .1 .1 .1 .1 .0 ∙ kept (c .before .before .before .before .before .before .before .before .before) .1
 
 returns : tie.Need-returns Inv-loop μ-loop
 returns c =
     let a = c .before .before .before .before .before .before .before .before .before .before .before .before .before .args in
-    advance-stopped (a .p) (a .blocks) (now (a .reception)) (c .before .before .before .before .before .before .before .before .before .loop .j + 1) (c .before .before .before .before .before .turn .last .1 .1 .1 .1 .1 .1 .1 .1 .0) (c .before .before .before .before .before .turn .last .1 .1 .1 .1 .1 .1 .1 .1 .1 .0)
-    (a .blocks) (c .before .before .before .before .before .turn .last .1 .1 .1 .1 .1 .1 .1 .1 .0) (c .before .before .before .before .before .turn .last .1 .1 .1 .1 .1 .1 .1 .1 .1 .0) (c .before .before .before .before .before .turn .ensures) (c .if1 .taken)
+    advance-stopped (a .p) (a .blocks) (now (a .reception)) (c .before .before .before .before .before .before .before .before .before .loop .j + 1) (c .before .before .before .before .before .turn .last .1 .1 .1 .1 .1 .1 .1 .0) (c .before .before .before .before .before .turn .last .1 .1 .1 .1 .1 .1 .1 .1 .0)
+    (a .blocks) (c .before .before .before .before .before .turn .last .1 .1 .1 .1 .1 .1 .1 .0) (c .before .before .before .before .before .turn .last .1 .1 .1 .1 .1 .1 .1 .1 .0) (c .before .before .before .before .before .turn .ensures) (c .if1 .taken)
 
 add-j : tie.Need-add-j Inv-loop μ-loop
 add-j c = omega arith
@@ -52,7 +52,7 @@ loop-again : tie.Need-loop-again Inv-loop μ-loop
 loop-again c =
     let a = c .before .before .before .before .before .before .before .before .before .before .before .before .before .args in (
       omega arith,
-      advance-more (a .p) (a .blocks) (now (a .reception)) (c .before .before .before .before .before .before .before .before .before .loop .j + 1) (c .before .before .before .before .before .turn .last .1 .1 .1 .1 .1 .1 .1 .1 .0) (c .before .before .before .before .before .turn .last .1 .1 .1 .1 .1 .1 .1 .1 .1 .0) (c .before .before .before .before .before .turn .ensures) (c .if1 .left),
+      advance-more (a .p) (a .blocks) (now (a .reception)) (c .before .before .before .before .before .before .before .before .before .loop .j + 1) (c .before .before .before .before .before .turn .last .1 .1 .1 .1 .1 .1 .1 .0) (c .before .before .before .before .before .turn .last .1 .1 .1 .1 .1 .1 .1 .1 .0) (c .before .before .before .before .before .turn .ensures) (c .if1 .left),
     )
 
 same-length-3 : tie.Need-same-length-3 Inv-loop μ-loop

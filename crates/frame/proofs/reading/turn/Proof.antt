@@ -20,7 +20,7 @@ use Rattle.frame.proofs.reading.turn.Tie as tie
 room : (c : tie.Start) → c .args .j * c .args .p .n + windowLength (c .args .p) ≤ length (now (c .args .left))
 room c =
     let a = c .args in
-    window-room (a .p) (a .blocks) (a .j) (now (a .message)) (now (a .left)) (c .pre .6 .areas) (c .pre .5)
+    window-room (a .p) (a .blocks) (a .j) (now (a .message)) (now (a .left)) (c .pre .5 .areas) (c .pre .4)
 
 add-size : tie.Need-add-size
 add-size c = search needs
@@ -35,14 +35,14 @@ add-end : tie.Need-add-end
 add-end c = omega (arith, room (c .before .before .before .before .before .before))
 
 guess-window-requires : tie.Need-guess-window-requires
-guess-window-requires c κs = (c .before .before .before .before .before .before .before .before .pre .0, c .before .before .before .before .before .before .before .before .pre .2, c .before .before .before .before .before .before .before .before .pre .5, c .before .before .before .before .before .before .before .before .pre .6 .areas)
+guess-window-requires c κs = (c .before .before .before .before .before .before .before .before .pre .0, c .before .before .before .before .before .before .before .before .pre .1, c .before .before .before .before .before .before .before .before .pre .4, c .before .before .before .before .before .before .before .before .pre .5 .areas)
 
 -- What was known is known of the new guess.
 known : (c : tie.After-guess-window) → Progress (c .before .before .before .before .before .before .before .before .before .args .p) (c .before .before .before .before .before .before .before .before .before .args .blocks) (now (c .before .before .before .before .before .before .before .before .before .args .reception)) (c .before .before .before .before .before .before .before .before .before .args .j) (c .guess-window .last .1 .1 .1 .1 .1 .1 .0) (c .guess-window .last .1 .1 .1 .1 .1 .1 .1 .0)
 known c =
     let entry = c .before .before .before .before .before .before .before .before .before in
     let a = entry .args in
-    progress-revised (a .p) (entry .pre .0 .sound) (a .blocks) (now (a .reception)) (entry .pre .4) (entry .pre .3) (a .j) (now (a .message)) (now (a .left)) (entry .pre .6)
+    progress-revised (a .p) (entry .pre .0 .sound) (a .blocks) (now (a .reception)) (entry .pre .3) (entry .pre .2) (a .j) (now (a .message)) (now (a .left)) (entry .pre .5)
     (a .j) (c .guess-window .last .1 .1 .1 .1 .1 .1 .0) (c .guess-window .last .1 .1 .1 .1 .1 .1 .1 .0) (omega arith) (c .guess-window .ensures)
 
 sub-read-window : tie.Need-sub-read-window
@@ -54,7 +54,7 @@ part-read-window-start c = search needs
 still-room : (c : tie.After-guess-window) → c .before .before .before .before .before .before .before .before .before .args .j * c .before .before .before .before .before .before .before .before .before .args .p .n + windowLength (c .before .before .before .before .before .before .before .before .before .args .p) ≤ length (c .guess-window .last .1 .1 .1 .1 .1 .1 .1 .0)
 still-room c =
     let a = c .before .before .before .before .before .before .before .before .before .args in
-    window-room (a .p) (a .blocks) (a .j) (c .guess-window .last .1 .1 .1 .1 .1 .1 .0) (c .guess-window .last .1 .1 .1 .1 .1 .1 .1 .0) (c .guess-window .ensures .areas) (c .before .before .before .before .before .before .before .before .before .pre .5)
+    window-room (a .p) (a .blocks) (a .j) (c .guess-window .last .1 .1 .1 .1 .1 .1 .0) (c .guess-window .last .1 .1 .1 .1 .1 .1 .1 .0) (c .guess-window .ensures .areas) (c .before .before .before .before .before .before .before .before .before .pre .4)
 
 part-read-window-end : tie.Need-part-read-window-end
 part-read-window-end c = still-room (c .before .before .before .before .before)
@@ -64,7 +64,6 @@ read-window-requires c κs =
     let entry = c .before .before .before .before .before .before .before .before .before .before .before .before .before .before .before .before in
     let a = entry .args in (
       entry .pre .0,
-      entry .pre .1,
       part-length (windowLength (a .p)) (a .j * a .p .n) (c .before .before .before .before .before .before .before .guess-window .last .1 .1 .1 .1 .1 .1 .1 .0) (still-room (c .before .before .before .before .before .before .before)),
       symbols-part (a .p .q) (a .j * a .p .n) (a .j * a .p .n + windowLength (a .p)) (c .before .before .before .before .before .before .before .guess-window .last .1 .1 .1 .1 .1 .1 .1 .0) (c .before .before .before .before .before .before .before .guess-window .ensures .areas .left-symbols),
     )
@@ -79,12 +78,12 @@ returns : tie.Need-returns
 returns c =
     let entry = c .before .before .before .before .before .before .before .before .before .before .before .before .before .before .before .before .before .before in
     let a = entry .args in
-    advance-none (a .p) (entry .pre .0 .sound) (a .blocks) (now (a .reception)) (entry .pre .4) (entry .pre .3) (a .j) (c .before .before .before .before .before .before .before .before .before .guess-window .last .1 .1 .1 .1 .1 .1 .0) (c .before .before .before .before .before .before .before .before .before .guess-window .last .1 .1 .1 .1 .1 .1 .1 .0)
-    (known (c .before .before .before .before .before .before .before .before .before)) (entry .pre .5) (c .before .read-window .last .1 .1 .1 .1 .1 .0) (a .j + 1) (c .before .before .before .before .before .before .before .before .before .guess-window .last .1 .1 .1 .1 .1 .1 .0) (c .before .before .before .before .before .before .before .before .before .guess-window .last .1 .1 .1 .1 .1 .1 .1 .0) (c .before .read-window .ensures) (c .if1 .taken)
+    advance-none (a .p) (entry .pre .0 .sound) (a .blocks) (now (a .reception)) (entry .pre .3) (entry .pre .2) (a .j) (c .before .before .before .before .before .before .before .before .before .guess-window .last .1 .1 .1 .1 .1 .1 .0) (c .before .before .before .before .before .before .before .before .before .guess-window .last .1 .1 .1 .1 .1 .1 .1 .0)
+    (known (c .before .before .before .before .before .before .before .before .before)) (entry .pre .4) (c .before .read-window .last .1 .1 .1 .1 .0) (a .j + 1) (c .before .before .before .before .before .before .before .before .before .guess-window .last .1 .1 .1 .1 .1 .1 .0) (c .before .before .before .before .before .before .before .before .before .guess-window .last .1 .1 .1 .1 .1 .1 .1 .0) (c .before .read-window .ensures) (c .if1 .taken)
 
 -- The information found, an area of symbols.
-found-area : (c : tie.After-information2) → Area (c .before .before .before .before .before .before .before .before .before .before .before .before .before .before .before .before .before .before .before .args .p .q) (c .before .before .read-window .last .1 .1 .1 .1 .1 .0)
-found-area c = levels-area (c .before .before .before .before .before .before .before .before .before .before .before .before .before .before .before .before .before .before .before .args .p) _ (c .before .before .read-window .last .1 .1 .1 .1 .1 .0) (c .before .before .read-window .ensures) (c .before .if1 .left)
+found-area : (c : tie.After-information2) → Area (c .before .before .before .before .before .before .before .before .before .before .before .before .before .before .before .before .before .before .before .args .p .q) (c .before .before .read-window .last .1 .1 .1 .1 .0)
+found-area c = levels-area (c .before .before .before .before .before .before .before .before .before .before .before .before .before .before .before .before .before .before .before .args .p) _ (c .before .before .read-window .last .1 .1 .1 .1 .0) (c .before .before .read-window .ensures) (c .before .if1 .left)
 
 slice-aggregate-add-found : tie.Need-slice-aggregate-add-found
 slice-aggregate-add-found c = sym (found-area c .size)
@@ -95,9 +94,9 @@ add-found-requires c κs =
     let a = entry .args in (
       entry .pre .0,
       record { below = λ i l. found-area (c .before .before) .below i },
-      levels-few (a .p) _ (c .before .before .before .before .read-window .last .1 .1 .1 .1 .1 .0) (c .before .before .before .before .read-window .ensures),
+      levels-few (a .p) _ (c .before .before .before .before .read-window .last .1 .1 .1 .1 .0) (c .before .before .before .before .read-window .ensures),
       omega (arith, entry .pre .0 .sound .room, entry .pre .0 .sound .block, entry .pre .0 .small .elements, found-area (c .before .before) .size),
-      entry .pre .5,
+      entry .pre .4,
       c .before .before .before .before .before .before .before .before .before .before .before .before .guess-window .ensures .areas,
     )
 
@@ -111,8 +110,8 @@ returns-2 : tie.Need-returns-2
 returns-2 c =
     let entry = c .before .before .before .before .before .before .before .before .before .before .before .before .before .before .before .before .before .before .before .before .before .before .before .before .before .before in
     let a = entry .args in
-    advance-found (a .p) (entry .pre .0 .sound) (a .blocks) (now (a .reception)) (entry .pre .4) (entry .pre .3) (a .j) (c .before .before .before .before .before .before .before .before .before .before .before .before .before .before .before .before .before .guess-window .last .1 .1 .1 .1 .1 .1 .0) (c .before .before .before .before .before .before .before .before .before .before .before .before .before .before .before .before .before .guess-window .last .1 .1 .1 .1 .1 .1 .1 .0)
-    (known (c .before .before .before .before .before .before .before .before .before .before .before .before .before .before .before .before .before)) (entry .pre .5) (c .before .before .before .before .before .before .before .before .before .read-window .last .1 .1 .1 .1 .1 .0) (c .before .before .before .before .add-found .last .1 .1 .1 .1 .1 .1 .1 .0) (c .before .before .before .before .add-found .last .1 .1 .1 .1 .1 .1 .1 .1 .0) (c .before .before .before .before .before .before .before .before .before .read-window .ensures) (c .before .before .before .before .before .before .before .before .if1 .left) (c .before .before .before .before .add-found .ensures)
+    advance-found (a .p) (entry .pre .0 .sound) (a .blocks) (now (a .reception)) (entry .pre .3) (entry .pre .2) (a .j) (c .before .before .before .before .before .before .before .before .before .before .before .before .before .before .before .before .before .guess-window .last .1 .1 .1 .1 .1 .1 .0) (c .before .before .before .before .before .before .before .before .before .before .before .before .before .before .before .before .before .guess-window .last .1 .1 .1 .1 .1 .1 .1 .0)
+    (known (c .before .before .before .before .before .before .before .before .before .before .before .before .before .before .before .before .before)) (entry .pre .4) (c .before .before .before .before .before .before .before .before .before .read-window .last .1 .1 .1 .1 .0) (c .before .before .before .before .add-found .last .1 .1 .1 .1 .1 .1 .1 .0) (c .before .before .before .before .add-found .last .1 .1 .1 .1 .1 .1 .1 .1 .0) (c .before .before .before .before .before .before .before .before .before .read-window .ensures) (c .before .before .before .before .before .before .before .before .if1 .left) (c .before .before .before .before .add-found .ensures)
 
 pub turn-spec : {M : Type 1} → statement M
 turn-spec =

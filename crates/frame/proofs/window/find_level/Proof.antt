@@ -9,10 +9,10 @@ use Rattle.frame.proofs.window.find_level.Statement.{statement}
 use Rattle.frame.proofs.window.find_level.Tie as tie
 
 abbrev Inv-loop : tie.InvT-loop
-Inv-loop p products rows matrix window information₀ blocks₀ information blocks = (blocks ≤ p .m + 1) × Reached p window blocks
+Inv-loop p products rows window information₀ blocks₀ information blocks = (blocks ≤ p .m + 1) × Reached p window blocks
 
 abbrev μ-loop : tie.MeasureT-loop
-μ-loop p products rows matrix window information₀ blocks₀ information blocks = blocks
+μ-loop p products rows window information₀ blocks₀ information blocks = blocks
 
 add-blocks : tie.Need-add-blocks Inv-loop μ-loop
 add-blocks c = omega (arith, c .before .before .pre .0 .small .memory)
@@ -26,15 +26,15 @@ sub-l c = omega arith
 try-level-requires : tie.Need-try-level-requires Inv-loop μ-loop
 try-level-requires c κs =
     let entry = c .before .before .before .before .before in
-    (entry .pre .0, entry .pre .1, entry .pre .2, entry .pre .3, omega arith)
+    (entry .pre .0, entry .pre .1, entry .pre .2, omega arith)
 
 returns : tie.Need-returns Inv-loop μ-loop
 returns c =
     let entry = c .before .before .before .before .before .before .before in
     let l = c .before .before .before .before .loop in
     let back : l .blocks ≡ suc (l .blocks - 1) = omega arith in
-    subst (Levels (entry .args .p) (now (entry .args .window)) (c .before .try-level .last .1 .1 .1 .1 .1 .1 .0)) (sym back)
-    (reached-served (entry .args .p) (entry .pre .0 .sound) (now (entry .args .window)) (c .before .try-level .last .1 .1 .1 .1 .1 .1 .0) (entry .pre .3) (l .blocks - 1) (omega arith)
+    subst (Levels (entry .args .p) (now (entry .args .window)) (c .before .try-level .last .1 .1 .1 .1 .1 .0)) (sym back)
+    (reached-served (entry .args .p) (entry .pre .0 .sound) (now (entry .args .window)) (c .before .try-level .last .1 .1 .1 .1 .1 .0) (entry .pre .2) (l .blocks - 1) (omega arith)
     (c .before .try-level .ensures) (c .if1 .taken) (subst (Reached (entry .args .p) (now (entry .args .window))) back (l .inv .1)))
 
 loop-less : tie.Need-loop-less Inv-loop μ-loop
@@ -46,7 +46,7 @@ loop-again c =
     let l = c .before .before .before .before .loop in
     let back : l .blocks ≡ suc (l .blocks - 1) = omega arith in (
       omega arith,
-      reached-next (entry .args .p) (entry .pre .0 .sound) (now (entry .args .window)) (c .before .try-level .last .1 .1 .1 .1 .1 .1 .0) (entry .pre .3) (l .blocks - 1)
+      reached-next (entry .args .p) (entry .pre .0 .sound) (now (entry .args .window)) (c .before .try-level .last .1 .1 .1 .1 .1 .0) (entry .pre .2) (l .blocks - 1)
           (c .before .try-level .ensures) (c .if1 .left) (subst (Reached (entry .args .p) (now (entry .args .window))) back (l .inv .1)),
     )
 

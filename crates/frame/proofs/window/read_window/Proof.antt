@@ -26,13 +26,13 @@ returns : tie.Need-returns
 returns c =
     let entry = c .before .before .before .before .before in
     let a = entry .args in
-    window-clean (a .p) (entry .pre .0 .sound) (now (a .window)) (entry .pre .3) (c .before .before .weight .result) (entry .pre .2) (c .before .before .weight .ensures)
+    window-clean (a .p) (entry .pre .0 .sound) (now (a .window)) (entry .pre .2) (c .before .before .weight .result) (entry .pre .1) (c .before .before .weight .ensures)
     (subst (λ (t : ℕ). 2 * (c .before .before .weight .result) < t) (c .before .before .before .distances-to .ensures) (c .before .if1 .taken))
 
 find-level-requires : tie.Need-find-level-requires
 find-level-requires c κs =
     let entry = c .before .before .before .before .before in
-    (entry .pre .0, entry .pre .1, entry .pre .2, entry .pre .3)
+    (entry .pre .0, entry .pre .1, entry .pre .2)
 
 returns-2 : tie.Need-returns-2
 returns-2 c = c .find-level .ensures

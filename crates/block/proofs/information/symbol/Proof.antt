@@ -1,0 +1,62 @@
+-- `block::information::symbol` meets its contract: what its parts return makes up what is lacking.
+use Prim.Native.Nat.{_+_, _-_}
+use native.Mathlib.Omega.{arith}
+use Rattle.block.proofs.Levels.{information-fits, area-symbols}
+use Rattle.block.proofs.Reading.{is-lacking}
+use borrow.Author.Needs.{needs}
+use Rattle.block.proofs.information.symbol.Statement.{statement}
+use Rattle.block.proofs.information.symbol.Tie as tie
+
+falling-requires : tie.Need-falling-requires
+falling-requires c κs = search needs
+
+negate-requires : tie.Need-negate-requires
+negate-requires c κs = search needs
+
+sub-times-g : tie.Need-sub-times-g
+sub-times-g c = search needs
+
+times-g-requires : tie.Need-times-g-requires
+times-g-requires c κs =
+    let p = c .before .before .before .before .pre in
+    (p .0, area-symbols (p .2), rw (p .2 .size) (p .3), omega arith, omega (arith, information-fits _ (p .0 .sound)))
+
+subtract-requires : tie.Need-subtract-requires
+subtract-requires c κs = search needs
+
+sub-add : tie.Need-sub-add
+sub-add c = search needs
+
+add-add : tie.Need-add-add
+add-add c = search needs
+
+element-copy-out-add : tie.Need-element-copy-out-add
+element-copy-out-add c = search needs
+
+add-requires : tie.Need-add-requires
+add-requires c κs =
+    let p = c .before .before .before .before .before .before .before .pre in
+    let a = c .before .before .before .before .before .before .before .args in
+    (p .0 .sound .good, p .2 .below (a .from + (a .p .k - a .j)), c .before .subtract .ensures .below)
+
+returns : tie.Need-returns
+returns c =
+    let p = c .before .before .before .before .before .before .before .before .pre in
+    let a = c .before .before .before .before .before .before .before .before .args in
+    is-lacking (a .p) (p .0 .sound) (a .values .now) (p .1) (a .from) (a .point) (a .j) _ _ _ _ _ (a .information .now) (c .before .before .before .before .before .before .before .falling .ensures) (c .before .before .before .before .before .before .negate .ensures)
+    (c .before .before .before .times-g .ensures) (c .before .before .subtract .ensures) (c .add .ensures)
+
+pub symbol-spec : {M : Type 1} → statement M
+symbol-spec =
+    tie.close
+    (tie.spec
+    falling-requires
+    negate-requires
+    sub-times-g
+    times-g-requires
+    subtract-requires
+    sub-add
+    add-add
+    element-copy-out-add
+    add-requires
+    returns)
