@@ -1,8 +1,8 @@
 -- The inverse of the spectrum (the inverse discrete Fourier transform): from k values the block of n symbols that has them as the last k values of its
 -- spectrum, and zeros before. α has order n.
 -- Holds: `geometric`; `power-back` (the powers of 1/α); `synthesis`, `synthesis-low`, `synthesis-high`.
-use mathlib.Core.Path.{_≡_, refl, sym, ap, ap₂, _∙_}
-use Prim.Native.Nat.{ℕ, zero, suc, _+_, _-_, _*_, _≤_, _<_}
+use mathlib.Core.Path.{_≡_, sym, ap, ap₂, _∙_}
+use Prim.Native.Nat.{ℕ, zero, suc, _+_, _-_, _≤_, _<_}
 use native.Mathlib.Nat.{mul-comm as nat-mul-comm}
 use native.Mathlib.Omega.{arith}
 use native.Mathlib.Decide.{decLt}

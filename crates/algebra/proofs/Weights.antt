@@ -1,5 +1,5 @@
 -- Totals of numbers, counts of the places at which a test holds, and weights of sequences over a field.
--- Holds: `total-ext`, `total-mono`, `total-add`, `total-scale`, `total-split`, `total-blocks`; `countOf-ext`, `one-le`, `countOf-le`, `countOf-mono`,
+-- Holds: `total-ext`, `total-mono`, `total-most`, `total-add`, `total-scale`, `total-split`, `total-blocks`; `countOf-ext`, `one-le`, `countOf-le`, `countOf-mono`,
 -- `countOf-without`; `zero-test`, `nonzero-test`, `zero-uncounted`, `weight-short`.
 use mathlib.Core.Path.{_≡_, refl, sym, ap, ap₂, subst, _∙_}
 use mathlib.Core.Bool.{Bool, true, false, not, _&&_}
@@ -22,6 +22,12 @@ pub total-mono : (n : ℕ) (f g : ℕ → ℕ) → ((i : ℕ) → i < n → f i 
 unfolding total
 total-mono zero f g h = omega arith
 total-mono (suc n) f g h = omega (arith, total-mono n f g (λ i l. h i (omega arith)), h n (omega arith))
+
+-- Terms that are at most b each.
+pub total-most : (n b : ℕ) (f : ℕ → ℕ) → ((i : ℕ) → i < n → f i ≤ b) → total n f ≤ b * n
+unfolding total
+total-most zero b f h = omega arith
+total-most (suc n) b f h = omega (arith, total-most n b f (λ i l. h i (omega arith)), h n (omega arith))
 
 pub total-add : (n : ℕ) (f g : ℕ → ℕ) → total n (λ i. f i + g i) ≡ total n f + total n g
 unfolding total

@@ -1,33 +1,26 @@
 -- A loop that adds up: what its sum is before the first term, and after one more.
--- Holds: `zero-below`, `alpha-below`, `sum-none`, `sum-more`; `area-zeros`, a cleared area; `below-set` and `area-set`, an area after a store; `distance-none`, `distance-le`, `distance-same`, `distance-more`; `square-place`.
+-- Holds: `zero-below`, `alpha-below`, `sum-none`, `sum-more`; `zeros-below`, a cleared area; `below-set`, an area after a store; `all-symbols`; `total-none`, `total-same`, `total-more`.
 use mathlib.Core.Path.{_≡_, refl, sym, ap, subst, _∙_}
-use mathlib.Core.Bool.{Bool, true, false, not}
 use mathlib.Core.List.{List}
-use Prim.Native.Nat.{ℕ, suc, _+_, _*_, _≤_, _<_}
-use native.Mathlib.Nat.{mul-le-mul-right}
+use Prim.Native.Nat.{ℕ, suc, _+_, _<_}
 use native.Mathlib.Numerals.{add-one}
 use native.Mathlib.Omega.{arith}
 use native.Mathlib.Decide.{ℕ-discrete, decLt}
-use lib.ListN.{length, getD, set, replicate, length-set}
+use lib.ListN.{length, getD, set, replicate}
 use lib.Seq.{getD-set-same, getD-set-other, set-out}
-use lib.Dec.{eqb, lit<}
-use borrow.Author.Tests.{eq-eqb, ne-eqb}
-use Rattle.algebra.specs.Ops.{pick}
 use Rattle.algebra.specs.Sum.{sum}
-use Rattle.algebra.specs.Weight.{total, distance}
-use Rattle.algebra.proofs.Weights.{countOf-le}
-use Rattle.field.specs.Fields.{Good, five-elements, eight-elements, opsOf, alpha}
-use Rattle.field.specs.Symbols.{Is}
+use Rattle.algebra.specs.Weight.{total}
+use Rattle.field.specs.Fields.{Good, opsOf, alpha}
+use Rattle.field.specs.Symbols.{Is, Symbols}
+use Rattle.field.proofs.Laws.{lawsOf, orderOf}
 use Rattle.code.proofs.Lists.{getD-zeros}
-use Rattle.block.specs.Area.{AllBelow, Area, capacity}
+use Rattle.block.specs.Area.{AllBelow}
 
 pub zero-below : (q : ℕ) → Good q → 0 < q
-zero-below q five-elements = lit< tt
-zero-below q eight-elements = lit< tt
+zero-below q good = omega (arith, lawsOf q good .one-below)
 
 pub alpha-below : (q : ℕ) → Good q → alpha < q
-alpha-below q five-elements = lit< tt
-alpha-below q eight-elements = lit< tt
+alpha-below q good = orderOf q good .root-below
 
 module _ (q : ℕ) (f : ℕ → ℕ) where
   pub sum-none : Good q → Is q 0 (sum (opsOf q) 0 f)
@@ -50,32 +43,23 @@ below-set q l i v h b j = at (ℕ-discrete j i) (decLt i (length l))
         subst (λ (t : List ℕ). getD t j 0 < q) (sym (set-out l i v (omega arith))) (h j)
     at (no d) s = subst (λ (t : ℕ). t < q) (sym (getD-set-other l i j v 0 d)) (h j)
 
-pub area-set : (q : ℕ) (l : List ℕ) (i v : ℕ) → Area q l → v < q → Area q (set l i v)
-area-set q l i v h b = record { size = length-set l i v ∙ h .size; below = below-set q l i v (h .below) b }
-
--- A count of differing places: none yet, one more place that agrees, one more that differs.
-module _ (a b : ℕ → ℕ) where
-  pub distance-none : 0 ≡ distance 0 a b
+-- A count of what each place adds: none yet, one more place that adds nothing, one more that adds v.
+module _ (f : ℕ → ℕ) where
+  pub total-none : 0 ≡ total 0 f
   unfolding total
-  distance-none = refl
+  total-none = refl
 
-  pub distance-le : (n : ℕ) → distance n a b ≤ n
-  distance-le n = countOf-le n (λ i. not (eqb (a i) (b i)))
-
-  at-next : (i : ℕ) (t : Bool) → eqb (a i) (b i) ≡ t → distance (i + 1) a b ≡ distance i a b + pick (not t) 1 0
+  pub total-more : (i v : ℕ) → f i ≡ v → total i f + v ≡ total (i + 1) f
   unfolding total
-  at-next i t e = ap (λ (j : ℕ). distance j a b) (add-one i) ∙ ap (λ (s : Bool). distance i a b + pick (not s) 1 0) e
+  total-more i v e = ap (λ (t : ℕ). total i f + t) (sym e) ∙ ap (λ (j : ℕ). total j f) (sym (add-one i))
 
-  pub distance-same : (i : ℕ) → a i ≡ b i → distance i a b ≡ distance (i + 1) a b
-  distance-same i e = omega (arith, at-next i true (eq-eqb (a i) (b i) e))
+  pub total-same : (i : ℕ) → f i ≡ 0 → total i f ≡ total (i + 1) f
+  total-same i e = omega (arith, total-more i 0 e)
 
-  pub distance-more : (i : ℕ) → (a i ≡ b i → ⊥) → distance i a b + 1 ≡ distance (i + 1) a b
-  distance-more i d = omega (arith, at-next i false (ne-eqb (a i) (b i) d))
+-- Symbols, all of them below q.
+pub all-symbols : {q : ℕ} {l : List ℕ} → AllBelow q l → Symbols q l
+all-symbols a = record { below = λ i h. a i }
 
--- Places of a square of k rows.
-pub square-place : (k a e : ℕ) → a < k → e < k → a * k + e < k * k
-square-place k a e h l = let next : a + 1 ≤ k = omega arith in omega (arith, mul-le-mul-right k next)
-
--- A cleared area.
-pub area-zeros : (q : ℕ) → Good q → Area q (replicate capacity 0)
-area-zeros q good = record { size = refl; below = λ i. subst (λ (t : ℕ). t < q) (sym (getD-zeros capacity i)) (zero-below q good) }
+-- Zeros are below q.
+pub zeros-below : (q : ℕ) → Good q → (w : ℕ) → AllBelow q (replicate w 0)
+zeros-below q good w i = subst (λ (t : ℕ). t < q) (sym (getD-zeros w i)) (zero-below q good)

@@ -1,7 +1,7 @@
 -- If a combination is near the received block, the information read off the continued spectrum is its information. Over any field,
 -- α of order n and (l+1)k ≤ n; r = n - (l+1)k is the number of zeros of the level-l code.
 -- Holds: `length-of-near`, `values-of-near`, `information-of-near`.
-use mathlib.Core.Path.{_≡_, refl, sym, ap, ap₂, _∙_}
+use mathlib.Core.Path.{_≡_, sym, ap, ap₂, _∙_}
 use Prim.Native.Nat.{ℕ, zero, suc, _+_, _-_, _*_, _≤_, _<_}
 use native.Mathlib.Nat.{mul-le-mul-right}
 use native.Mathlib.Omega.{arith}

@@ -1,23 +1,19 @@
 -- The same on the numbers below q, as the code has it: if the information x is near, it is the information that was read.
 -- Holds: `combination-same`, `recovered-more`, `length-of-near`, `read-of-near`.
 use mathlib.Core.Path.{_≡_, refl, sym, ap, ap₂, subst, fun-ext, _∙_}
-use mathlib.Core.Bool.{Bool, true, false, not}
 use mathlib.Core.List.{List}
 use Prim.Native.Nat.{ℕ, zero, suc, _+_, _-_, _*_, _≤_, _<_}
 use native.Mathlib.Numerals.{add-one}
 use native.Mathlib.Omega.{arith}
-use lib.Dec.{eqb}
 use lib.ListN.{length, getD}
-use borrow.Author.Tests.{eqb-true}
 use Rattle.algebra.specs.Ops.{Ops, sub}
 use Rattle.algebra.specs.Sum.{sum, power}
 use Rattle.algebra.specs.Polynomial.{value, valueOf}
-use Rattle.algebra.specs.Weight.{weight, distance}
-use Rattle.algebra.proofs.Laws.{add-neg}
+use Rattle.algebra.specs.Weight.{weight}
 use Rattle.algebra.proofs.Order.{Order}
 use Rattle.algebra.proofs.Sums.{sum-ext}
 use Rattle.algebra.proofs.Polynomials.{valueOf-ext, value-is-valueOf}
-use Rattle.algebra.proofs.Weights.{countOf-mono, zero-uncounted}
+use Rattle.algebra.proofs.Weights.{total-ext, total-most}
 use Rattle.algebra.proofs.Naturality.{power-natural, valueOf-natural}
 use Rattle.algebra.proofs.Below.{FieldBelow, Below, number, number-keeps, orderBelow}
 use Rattle.field.specs.Fields.{opsOf, alpha}
@@ -30,11 +26,15 @@ use Rattle.code.specs.Generator.{rowSymbol, timesG}
 use Rattle.code.specs.Transmission.{view}
 use Rattle.code.specs.Level.{combination}
 use Rattle.code.specs.Recovery.{ending, Recovered}
+use Rattle.code.specs.Cost.{symbolCost, blockCost}
 use Rattle.code.specs.Settings.{codeOf, Sound}
-use Rattle.code.specs.Reading.{blockDistance}
+use Rattle.code.specs.Reading.{levelCost}
 use Rattle.code.proofs.Blocks.{codeOver}
+use Rattle.code.proofs.Certainty.{weight-apart}
+use Rattle.code.proofs.Cost.{cost-same, byteCost, bytes-apart}
 use Rattle.code.proofs.Naturality.{mapped, timesG-natural, combination-natural, ending-natural}
 use Rattle.code.proofs.Recovery.{recovered-step}
+use Rattle.code.proofs.Settings.{level-fits, information-fits}
 use Rattle.block.specs.Area.{at}
 use Rattle.block.specs.Locator.{Located, Extended}
 use Rattle.block.specs.Progress.{Found}
@@ -42,7 +42,6 @@ use Rattle.block.specs.Spectrum.{SpectrumOf, Continued}
 use Rattle.block.specs.Information.{Read}
 use Rattle.block.specs.Step.{Information}
 use Rattle.block.proofs.Accumulated.{alpha-below}
-use Rattle.block.proofs.Levels.{level-fits, information-fits}
 use Rattle.block.proofs.LocatorBelow.{K, positive, el, up, down, raise, fall, add-down, neg-down, tail-down, located-up}
 use Rattle.block.proofs.ErrorSpectrum.{spectrum}
 use Rattle.block.proofs.Candidate.{length-of-near as length-of-near-field, information-of-near}
@@ -161,62 +160,61 @@ module _ (p : Setting) (S : Sound p) where
           ∙ ap (λ (c : Code ℕ). combination c l (λ b r. number (lifted b r)) i) mapped-code
           ∙ combination-same (codeOf p) l (λ b r. number (lifted b r)) x i (λ b r h s. down q o B (x b r) (information b r h s))
 
-      -- The error is zero where the received symbol is that of the combination.
-      error-light : weight (K q o B .ops) (p .n) (λ i. sub (K q o B .ops) (received i) (combination over l lifted i))
-          ≤ distance (p .n) (at block) (combination (codeOf p) l x)
+      -- Twice the error's symbols are no more than the cost, since the received block costs nothing against itself.
+      error : ℕ → Below q
+      error i = sub (K q o B .ops) (received i) (combination over l lifted i)
+
+      error-light : 2 * weight (K q o B .ops) (p .n) error ≤ levelCost p (at block) l x
+      unfolding blockCost error
       error-light =
-          countOf-mono (p .n) (λ i. not (K q o B .ops .isZero (sub (K q o B .ops) (received i) (combination over l lifted i))))
-          (λ i. not (eqb (at block i) (combination (codeOf p) l x i)))
-          (λ i h e. by-test i e (eqb (at block i) (combination (codeOf p) l x i)) refl)
-        where
-          by-test : (i : ℕ) → not (K q o B .ops .isZero (sub (K q o B .ops) (received i) (combination over l lifted i))) ≡ true
-              → (t : Bool) → eqb (at block i) (combination (codeOf p) l x i) ≡ t → not t ≡ true
-          by-test i e true s =
-              let same : received i ≡ combination over l lifted i =
-              raise q o B _ _ (received-down i) (combination-down i) (eqb-true (at block i) (combination (codeOf p) l x i) s) in
-              absurd (zero-uncounted (K q o B) (sub (K q o B .ops) (received i) (combination over l lifted i))
-              (ap (λ (t : Below q). sub (K q o B .ops) t (combination over l lifted i)) same ∙ add-neg (K q o B) (combination over l lifted i)) e)
-          by-test i e false s = refl
+          omega (
+            arith,
+            weight-apart (K q o B) (byteCost q) (bytes-apart q) (p .n) (at block) received (combination over l lifted) error (λ i. refl),
+            total-most (p .n) 0 (λ i. byteCost q (at block i) (received i)) (λ i h. omega (arith, cost-same q (at block i) (number (received i)) (sym (received-down i)))),
+            total-ext (p .n) (λ i. byteCost q (at block i) (combination over l lifted i)) (λ i. symbolCost q (at block i) (combination (codeOf p) l x i))
+                (λ i h. ap (symbolCost q (at block i)) (combination-down i)),
+          )
 
       all-known : p .n - (l + 1) * p .k + 1 - 1 ≡ p .n - (l + 1) * p .k
       all-known = omega arith
 
-      module _ (series locator : List ℕ) (L : ℕ) (close : 2 * blockDistance p (at block) l x < levelDistance (p .n) (p .k) l) (located : Found q series (p .n - (l + 1) * p .k + 1) L locator) where
+      module _ (series locator former : List ℕ) (L : ℕ) (close : levelCost p (at block) l x < levelDistance (p .n) (p .k) l) (located : Found q series (p .n - (l + 1) * p .k + 1) L locator former) where
         values-up : (count : ℕ) → SpectrumOf q block count series → (s : ℕ) → s < count → up q o B (at series) (suc s) ≡ spectrum (K q o B) (p .n) root order received s
         values-up count spectral s h =
-            raise q o B _ _ (down q o B (at series (suc s)) (spectral .area .below (suc s))) (spectrum-down s) (ap (at series) (sym (add-one s)) ∙ spectral .values s h)
+            raise q o B _ _ (down q o B (at series (suc s)) (spectral .below (suc s))) (spectrum-down s) (ap (at series) (sym (add-one s)) ∙ spectral .values s h)
 
         locator-up : ((i : ℕ) → at series i < q)
-            → Located (K q o B .ops) (up q o B (at series)) (p .n - (l + 1) * p .k) L (located .place) (el q o B (located .scale)) (up q o B (at locator)) (up q o B (at (located .former)))
+            → Located (K q o B .ops) (up q o B (at series)) (p .n - (l + 1) * p .k) L (located .place) (el q o B (located .scale)) (up q o B (at locator)) (up q o B (at former))
         locator-up below =
-            located-up q o B (at series) (at locator) (at (located .former)) (located .scale)
-            below (located .placed .locator-area .below) (located .placed .former-area .below) (located .placed .scale-below)
-            (subst (λ (t : ℕ). Located o (at series) t L (located .place) (located .scale) (at locator) (at (located .former))) all-known (located .placed .located))
+            located-up q o B (at series) (at locator) (at former) (located .scale)
+            below (located .placed .locator-below) (located .placed .former-below) (located .placed .scale-below)
+            (subst (λ (t : ℕ). Located o (at series) t L (located .place) (located .scale) (at locator) (at former)) all-known (located .placed .located))
 
         pub length-of-near : SpectrumOf q block (p .n - (l + 1) * p .k) series → 2 * L < levelDistance (p .n) (p .k) l
+        unfolding error
         length-of-near spectral =
             let short = length-of-near-field (K q o B) root (p .n) (p .k) (p .m) order l fits received lifted
-            (distance (p .n) (at block) (combination (codeOf p) l x)) error-light (omega arith)
+            (weight (K q o B .ops) (p .n) error) (omega arith) (omega (arith, error-light))
             (up q o B (at series)) (values-up (p .n - (l + 1) * p .k) spectral)
-            L (located .place) (el q o B (located .scale)) (up q o B (at locator)) (up q o B (at (located .former))) (locator-up (spectral .area .below)) in
-            omega (arith, short)
+            L (located .place) (el q o B (located .scale)) (up q o B (at locator)) (up q o B (at former)) (locator-up (spectral .below)) in
+            omega (arith, short, error-light)
 
         pub read-of-near : (after values found : List ℕ)
             → SpectrumOf q block (p .n) series
             → Continued q L (p .n - (l + 1) * p .k) ((l + 1) * p .k) locator series after values
             → Read p (l + 1) values found
             → (b a : ℕ) → b ≤ l → a < p .k → at found (b * p .k + a) ≡ x b a
-        unfolding lifted
+        unfolding lifted error
         read-of-near after values found spectral continued reads b a below inside =
-            fall q o B (down q o B (at found (b * p .k + a)) (reads .area .below (b * p .k + a))) (down q o B (x b a) (information b a below inside))
+            fall q o B (down q o B (at found (b * p .k + a)) (reads .below (b * p .k + a))) (down q o B (x b a) (information b a below inside))
             (information-of-near (K q o B) root (p .n) (p .k) (p .m) order l fits received lifted
-            (distance (p .n) (at block) (combination (codeOf p) l x)) error-light (omega arith)
+            (weight (K q o B .ops) (p .n) error) (omega arith) (omega (arith, error-light))
             (up q o B (at series)) (λ s h. values-up (p .n) spectral s (omega arith))
-            L (located .place) (el q o B (located .scale)) (up q o B (at locator)) (up q o B (at (located .former))) (locator-up (spectral .area .below))
+            L (located .place) (el q o B (located .scale)) (up q o B (at locator)) (up q o B (at former)) (locator-up (spectral .below))
             (values-up (p .n) spectral)
             (up q o B (at after)) (up q o B (at values))
             (extended-up L (p .n - (l + 1) * p .k) ((l + 1) * p .k) (at locator) (at series) (at after) (at values)
-            (located .placed .locator-area .below) (spectral .area .below) (continued .area .below) (continued .values-area .below) (continued .extended))
+            (located .placed .locator-below) (spectral .below) (continued .below) (continued .values-below) (continued .extended))
             b (up q o B (view (p .k) found b)) below
-            (recovered-up (view (p .k) values b) (λ e. continued .values-area .below (b * p .k + e)) (p .k) (view (p .k) found b) (λ r. reads .area .below (b * p .k + r)) (reads .recovered b (omega arith)))
+            (recovered-up (view (p .k) values b) (λ e. continued .values-below (b * p .k + e)) (p .k) (view (p .k) found b) (λ r. reads .below (b * p .k + r)) (reads .recovered b (omega arith)))
             a inside)

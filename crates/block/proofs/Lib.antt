@@ -4,10 +4,10 @@ pub mod ErrorSpectrum
 pub mod Candidate
 pub mod LocatorBelow
 pub mod Accumulated
-pub mod Levels
 pub mod Multiples
 pub mod Placing
 pub mod Spectra
 pub mod CandidateBelow
 pub mod Reading
 pub mod Answers
+pub mod Working

@@ -1,6 +1,6 @@
 -- The loop that subtracts a multiple of one series from another: its promise at count 0, and with one more term.
 -- Holds: `multiple-none`, `multiple-more`.
-use mathlib.Core.Path.{_≡_, refl, sym, ap, subst, _∙_}
+use mathlib.Core.Path.{_≡_, refl, sym, ap, _∙_}
 use mathlib.Core.List.{List}
 use Prim.Native.Nat.{ℕ, _+_, _<_}
 use native.Mathlib.Omega.{arith}
@@ -10,21 +10,21 @@ use lib.Seq.{getD-set-same, getD-set-other}
 use Rattle.algebra.specs.Ops.{sub}
 use Rattle.field.specs.Fields.{opsOf}
 use Rattle.field.specs.Symbols.{Is}
-use Rattle.block.specs.Area.{Area, at, capacity}
+use Rattle.block.specs.Area.{AllBelow, at}
 use Rattle.block.specs.Progress.{Multiple}
-use Rattle.block.proofs.Accumulated.{area-set}
+use Rattle.block.proofs.Accumulated.{below-set}
 
 module _ (q factor shift : ℕ) (source before : List ℕ) where
-  pub multiple-none : Area q before → Multiple q factor shift 0 source before before
+  pub multiple-none : AllBelow q before → Multiple q factor shift 0 source before before
   multiple-none h =
-      record { area = h; subtracted = record { before = λ i l. refl; inside = λ i l. absurd (omega arith); after = λ i l. refl } }
+      record { below = h; subtracted = record { before = λ i l. refl; inside = λ i l. absurd (omega arith); after = λ i l. refl } }
 
-  pub multiple-more : (i : ℕ) (target : List ℕ) (product v : ℕ) → Multiple q factor shift i source before target → shift + i < capacity
+  pub multiple-more : (i : ℕ) (target : List ℕ) (product v : ℕ) → Multiple q factor shift i source before target → shift + i < length target
       → Is q product (opsOf q .mul factor (at source i)) → Is q v (sub (opsOf q) (at target (shift + i)) product)
       → Multiple q factor shift (i + 1) source before (set target (shift + i) v)
   multiple-more i target product v h room times minus =
       record {
-        area = area-set q target (shift + i) v (h .area) (minus .below);
+        below = below-set q target (shift + i) v (h .below) (minus .below);
         subtracted =
             record {
               before = λ j l. other j (omega arith) ∙ h .subtracted .before j l;
@@ -36,13 +36,10 @@ module _ (q factor shift : ℕ) (source before : List ℕ) where
       other : (j : ℕ) → (j ≡ shift + i → ⊥) → getD (set target (shift + i) v) j 0 ≡ getD target j 0
       other j d = getD-set-other target (shift + i) j v 0 d
 
-      inside : shift + i < length target
-      inside = subst (λ (t : ℕ). shift + i < t) (sym (h .area .size)) room
-
       at-term : (j : ℕ) → j < i + 1 → Dec (j ≡ i)
           → getD (set target (shift + i) v) (shift + j) 0 ≡ sub (opsOf q) (getD before (shift + j) 0) (opsOf q .mul factor (getD source j 0))
       at-term j l (yes e) =
-          ap (λ (t : ℕ). getD (set target (shift + i) v) (shift + t) 0) e ∙ getD-set-same target (shift + i) v 0 inside ∙ minus .same
+          ap (λ (t : ℕ). getD (set target (shift + i) v) (shift + t) 0) e ∙ getD-set-same target (shift + i) v 0 room ∙ minus .same
           ∙ ap (λ (t : ℕ). sub (opsOf q) t product) (h .subtracted .after i (omega arith))
           ∙ ap (λ (t : ℕ). sub (opsOf q) (getD before (shift + i) 0) t) (times .same)
           ∙ ap (λ (t : ℕ). sub (opsOf q) (getD before (shift + t) 0) (opsOf q .mul factor (getD source t 0))) (sym e)

@@ -7,7 +7,7 @@ use native.Mathlib.Nat.{mul-le-mul-right}
 use native.Mathlib.Numerals.{add-one}
 use native.Mathlib.Omega.{arith}
 use native.Mathlib.Decide.{ℕ-discrete}
-use lib.ListN.{getD, set, replicate}
+use lib.ListN.{length, set, replicate}
 use lib.Seq.{getD-set-same, getD-set-other}
 use Rattle.algebra.specs.Ops.{sub}
 use Rattle.algebra.specs.Sum.{power}
@@ -22,9 +22,9 @@ use Rattle.code.specs.Generator.{rowSymbol, timesG}
 use Rattle.code.specs.Transmission.{view}
 use Rattle.code.specs.Recovery.{ending, Recovered}
 use Rattle.code.specs.Settings.{codeOf, Sound}
-use Rattle.block.specs.Area.{Area, at, capacity}
+use Rattle.block.specs.Area.{AllBelow, at}
 use Rattle.block.specs.Information.{lacking, BlockRead, Read}
-use Rattle.block.proofs.Accumulated.{zero-below, area-zeros, area-set}
+use Rattle.block.proofs.Accumulated.{zero-below, zeros-below, below-set}
 use Rattle.block.proofs.CandidateBelow.{recovered-more}
 
 module _ (q : ℕ) (good : Good q) where
@@ -60,22 +60,22 @@ recovered-same c v count x y same h =
           (λ r s. ap (λ t. c .ops .mul t (rowSymbol c 0 r (c .n - suc j))) (same r s)) ∙ h .symbol j l;
     }
 
-module _ (p : Setting) (S : Sound p) (values : List ℕ) (values-area : Area (p .q) values) where
-  pub block-none : (from : ℕ) (information : List ℕ) → Area (p .q) information → BlockRead p from 0 values information information
-  block-none from information h = record { area = h; recovered = record { symbol = λ j l. absurd (omega arith) }; kept = λ i l. refl }
+module _ (p : Setting) (S : Sound p) (values : List ℕ) (values-below : AllBelow (p .q) values) where
+  pub block-none : (from : ℕ) (information : List ℕ) → AllBelow (p .q) information → BlockRead p from 0 values information information
+  block-none from information h = record { below = h; recovered = record { symbol = λ j l. absurd (omega arith) }; kept = λ i l. refl }
 
-  pub block-more : (from j point v : ℕ) (before information : List ℕ) → from + p .k ≤ capacity → j < p .k → BlockRead p from j values before information
+  pub block-more : (from j point v : ℕ) (before information : List ℕ) → from + p .k ≤ length information → j < p .k → BlockRead p from j values before information
       → Is (p .q) point (power (opsOf (p .q)) (opsOf (p .q) .inv alpha) (j + 1)) → Is (p .q) v (lacking p values from point information (j + 1))
       → BlockRead p from (j + 1) values before (set information (from + (p .k - (j + 1))) v)
   unfolding ending
   block-more from j point v before information room l h powers is =
       record {
-        area = after-area;
+        below = after-below;
         recovered = subst (λ (t : ℕ). Recovered (codeOf p) (λ e. at values (from + e)) t (λ r. at after (from + r))) (sym (add-one j))
-            (recovered-more p S (λ e. at values (from + e)) (λ e. values-area .below (from + e)) j (λ r. at information (from + r)) (λ r. at after (from + r))
-            (λ r. h .area .below (from + r)) (λ r. after-area .below (from + r)) l (h .recovered)
+            (recovered-more p S (λ e. at values (from + e)) (λ e. values-below (from + e)) j (λ r. at information (from + r)) (λ r. at after (from + r))
+            (λ r. h .below (from + r)) (λ r. after-below (from + r)) l (h .recovered)
             (λ r s d. getD-set-other information place (from + r) v 0 (λ e. d (omega (arith, next))))
-            (ap (λ (t : ℕ). at after (from + (p .k - t))) (sym next) ∙ getD-set-same information place v 0 (omega (arith, h .area .size))
+            (ap (λ (t : ℕ). at after (from + (p .k - t))) (sym next) ∙ getD-set-same information place v 0 (omega arith)
             ∙ is .same ∙ ap (λ (y : ℕ). lacking p values from y information (j + 1)) (powers .same)
             ∙ ap (λ (t : ℕ). lacking p values from (power (opsOf (p .q)) (opsOf (p .q) .inv alpha) t) information t) next));
         kept = λ i s. getD-set-other information place i v 0 (λ e. omega (arith, e, s)) ∙ h .kept i s;
@@ -90,8 +90,8 @@ module _ (p : Setting) (S : Sound p) (values : List ℕ) (values-area : Area (p 
       after : List ℕ
       after = set information place v
 
-      after-area : Area (p .q) after
-      after-area = area-set (p .q) information place v (h .area) (is .below)
+      after-below : AllBelow (p .q) after
+      after-below = below-set (p .q) information place v (h .below) (is .below)
 
   pub is-lacking : (from point j sum end known lack r : ℕ) (information : List ℕ) → Is (p .q) sum (falling (opsOf (p .q)) (p .k) (λ e. at values (from + e)) point)
       → Is (p .q) end (opsOf (p .q) .neg sum) → Is (p .q) known (timesG (codeOf p) (λ a. at information (from + a)) 0 (p .n - j)) → Is (p .q) lack (sub (opsOf (p .q)) end known)
@@ -102,11 +102,11 @@ module _ (p : Setting) (S : Sound p) (values : List ℕ) (values-area : Area (p 
         below = h .below;
       }
 
-  pub read-none : Read p 0 values (replicate capacity 0)
-  read-none = record { area = area-zeros (p .q) (S .good); recovered = λ b l. absurd (omega arith) }
+  pub read-none : (w : ℕ) → Read p 0 values (replicate w 0)
+  read-none w = record { below = zeros-below (p .q) (S .good) w; recovered = λ b l. absurd (omega arith) }
 
   pub read-more : (b : ℕ) (before after : List ℕ) → Read p b values before → BlockRead p (b * p .k) (p .k) values before after → Read p (b + 1) values after
-  read-more b before after h new = record { area = new .area; recovered = λ a l. by-block a l (ℕ-discrete a b) }
+  read-more b before after h new = record { below = new .below; recovered = λ a l. by-block a l (ℕ-discrete a b) }
     where
       by-block : (a : ℕ) → a < b + 1 → Dec (a ≡ b) → Recovered (codeOf p) (view (p .k) values a) (p .k) (view (p .k) after a)
       by-block a l (yes e) = subst (λ (t : ℕ). Recovered (codeOf p) (view (p .k) values t) (p .k) (view (p .k) after t)) (sym e) (new .recovered)

@@ -1,12 +1,12 @@
 -- The loops on spectra: their promises before the first turn, and after one more.
 -- Holds: `point-none`, `point-more`, `spectrum-none`, `spectrum-more`; `found-longer`; `tail-ext`, `continued-none`, `continued-more`.
-use mathlib.Core.Path.{_≡_, refl, sym, ap, subst, _∙_}
+use mathlib.Core.Path.{_≡_, refl, sym, ap, _∙_}
 use mathlib.Core.List.{List}
 use Prim.Native.Nat.{ℕ, zero, suc, _+_, _-_, _≤_, _<_}
 use native.Mathlib.Numerals.{add-one}
 use native.Mathlib.Omega.{arith}
 use native.Mathlib.Decide.{ℕ-discrete}
-use lib.ListN.{getD, set, replicate}
+use lib.ListN.{length, getD, set}
 use lib.Seq.{getD-set-same, getD-set-other}
 use Rattle.algebra.specs.Ops.{Ops}
 use Rattle.algebra.specs.Sum.{power}
@@ -15,13 +15,13 @@ use Rattle.algebra.proofs.Sums.{sum-ext}
 use Rattle.field.specs.Fields.{Good, opsOf, alpha}
 use Rattle.field.specs.Symbols.{Is}
 use Rattle.field.proofs.Laws.{lawsOf}
-use Rattle.block.specs.Area.{Area, at, capacity}
+use Rattle.block.specs.Area.{AllBelow, at}
 use Rattle.block.specs.Locator.{tail}
 use Rattle.block.specs.Progress.{Unit, Found}
 use Rattle.block.specs.Spectrum.{SpectrumOf, Continued}
-use Rattle.block.proofs.Accumulated.{area-set, area-zeros}
+use Rattle.block.proofs.Accumulated.{below-set}
 use Rattle.block.proofs.LocatorStep.{located-ext}
-use Rattle.block.proofs.Placing.{unit-area}
+use Rattle.block.proofs.Placing.{unit-below}
 
 module _ (q : ℕ) where
   pub point-none : Good q → Is q 1 (power (opsOf q) alpha 0)
@@ -34,19 +34,18 @@ module _ (q : ℕ) where
       record { same = e .same ∙ ap (opsOf q .mul 2) (h .same) ∙ ap (power (opsOf q) alpha) (sym (add-one s)); below = e .below }
 
   pub spectrum-none : (block l : List ℕ) → Good q → Unit l → SpectrumOf q block 0 l
-  spectrum-none block l good u = record { area = unit-area q good l u; first = u .first; values = λ s h. absurd (omega arith) }
+  spectrum-none block l good u = record { below = unit-below q good l u; first = u .first; values = λ s h. absurd (omega arith) }
 
   -- A locator for the first values of a block's spectrum, where more of them stand.
-  pub found-longer : (block : List ℕ) (known more : ℕ) (series longer : List ℕ) {L : ℕ} {locator : List ℕ} → known ≤ more
-      → SpectrumOf q block known series → SpectrumOf q block more longer → Found q series (known + 1) L locator → Found q longer (known + 1) L locator
+  pub found-longer : (block : List ℕ) (known more : ℕ) (series longer : List ℕ) {L : ℕ} {locator former : List ℕ} → known ≤ more
+      → SpectrumOf q block known series → SpectrumOf q block more longer → Found q series (known + 1) L locator former → Found q longer (known + 1) L locator former
   found-longer block known more series longer up-to h k f =
       record {
         place = f .place;
         scale = f .scale;
-        former = f .former;
         placed = record {
-          locator-area = f .placed .locator-area;
-          former-area = f .placed .former-area;
+          locator-below = f .placed .locator-below;
+          former-below = f .placed .former-below;
           scale-below = f .placed .scale-below;
           located = located-ext (opsOf q) (at series) (at longer) same (f .placed .located);
         };
@@ -56,11 +55,11 @@ module _ (q : ℕ) where
       same zero l = k .first ∙ sym (h .first)
       same (suc s) l = ap (at longer) (sym (add-one s)) ∙ k .values s (omega arith) ∙ sym (h .values s (omega arith)) ∙ ap (at series) (add-one s)
 
-  pub spectrum-more : (block series : List ℕ) (s point v : ℕ) → SpectrumOf q block s series → s + 1 < capacity → Is q point (power (opsOf q) alpha s)
+  pub spectrum-more : (block series : List ℕ) (s point v : ℕ) → SpectrumOf q block s series → s + 1 < length series → Is q point (power (opsOf q) alpha s)
       → Is q v (value (opsOf q) block point) → SpectrumOf q block (s + 1) (set series (s + 1) v)
   spectrum-more block series s point v h room at-point is-value =
       record {
-        area = area-set q series (s + 1) v (h .area) (is-value .below);
+        below = below-set q series (s + 1) v (h .below) (is-value .below);
         first = getD-set-other series (s + 1) 0 v 0 (omega arith) ∙ h .first;
         values = λ t l. at-value t l (ℕ-discrete t s);
       }
@@ -68,7 +67,7 @@ module _ (q : ℕ) where
       at-value : (t : ℕ) → t < s + 1 → Dec (t ≡ s) → getD (set series (s + 1) v) (t + 1) 0 ≡ value (opsOf q) block (power (opsOf q) alpha t)
       at-value t l (yes e) =
           ap (λ (i : ℕ). getD (set series (s + 1) v) (i + 1) 0) e
-          ∙ getD-set-same series (s + 1) v 0 (subst (λ (i : ℕ). s + 1 < i) (sym (h .area .size)) room)
+          ∙ getD-set-same series (s + 1) v 0 room
           ∙ is-value .same ∙ ap (value (opsOf q) block) (at-point .same) ∙ ap (λ (i : ℕ). value (opsOf q) block (power (opsOf q) alpha i)) (sym e)
       at-value t l (no d) = getD-set-other series (s + 1) (t + 1) v 0 (omega arith) ∙ h .values t (omega arith)
 
@@ -80,22 +79,22 @@ tail-ext o L σ c d j h same =
     (λ a l. ap (o .mul (σ (a + 1))) (same (j - (a + 1)) (omega arith)))
 
 module _ (q L r : ℕ) (locator before : List ℕ) where
-  pub continued-none : Good q → Area q before → Continued q L r 0 locator before before (replicate capacity 0)
-  continued-none good h =
+  pub continued-none : (values : List ℕ) → AllBelow q before → AllBelow q values → Continued q L r 0 locator before before values
+  continued-none values h v =
       record {
-        area = h;
-        values-area = area-zeros q good;
+        below = h;
+        values-below = v;
         extended = record { kept = λ j l. refl; recurs = λ u l. absurd (omega arith); difference = λ u l. absurd (omega arith) };
         beyond = λ j l. refl;
       }
 
-  pub continued-more : (u : ℕ) (after values : List ℕ) (rest v w : ℕ) → Continued q L r u locator before after values → r + 1 + u < capacity
+  pub continued-more : (u : ℕ) (after values : List ℕ) (rest v w : ℕ) → Continued q L r u locator before after values → r + 1 + u < length after → u < length values
       → Is q rest (tail (opsOf q) L (at locator) (at after) (r + 1 + u)) → Is q v (opsOf q .add (at after (r + 1 + u)) rest) → Is q w (opsOf q .neg rest)
       → Continued q L r (u + 1) locator before (set after (r + 1 + u) w) (set values u v)
-  continued-more u after values rest v w h room is-tail is-sum is-negative =
+  continued-more u after values rest v w h room values-room is-tail is-sum is-negative =
       record {
-        area = area-set q after (r + 1 + u) w (h .area) (is-negative .below);
-        values-area = area-set q values u v (h .values-area) (is-sum .below);
+        below = below-set q after (r + 1 + u) w (h .below) (is-negative .below);
+        values-below = below-set q values u v (h .values-below) (is-sum .below);
         extended =
             record {
               kept = λ j l. other j (omega arith) ∙ h .extended .kept j l;
@@ -115,7 +114,7 @@ module _ (q L r : ℕ) (locator before : List ℕ) where
           → getD (set after (r + 1 + u) w) (r + 1 + t) 0 ≡ opsOf q .neg (tail (opsOf q) L (at locator) (at (set after (r + 1 + u) w)) (r + 1 + t))
       at-place t l (yes e) =
           ap (λ (i : ℕ). getD (set after (r + 1 + u) w) (r + 1 + i) 0) e
-          ∙ getD-set-same after (r + 1 + u) w 0 (subst (λ (i : ℕ). r + 1 + u < i) (sym (h .area .size)) room)
+          ∙ getD-set-same after (r + 1 + u) w 0 room
           ∙ is-negative .same ∙ ap (opsOf q .neg) (is-tail .same ∙ ap (λ (i : ℕ). tail (opsOf q) L (at locator) (at after) (r + 1 + i)) (sym e) ∙ tails t l)
       at-place t l (no d) = other (r + 1 + t) (omega arith) ∙ h .extended .recurs t (omega arith) ∙ ap (opsOf q .neg) (tails t l)
 
@@ -123,7 +122,7 @@ module _ (q L r : ℕ) (locator before : List ℕ) where
           → getD (set values u v) t 0 ≡ opsOf q .add (getD before (r + 1 + t) 0) (tail (opsOf q) L (at locator) (at (set after (r + 1 + u) w)) (r + 1 + t))
       at-value t l (yes e) =
           ap (λ (i : ℕ). getD (set values u v) i 0) e
-          ∙ getD-set-same values u v 0 (subst (λ (i : ℕ). u < i) (sym (h .values-area .size)) (omega arith))
+          ∙ getD-set-same values u v 0 values-room
           ∙ is-sum .same
           ∙ ap (λ (i : ℕ). opsOf q .add i rest) (h .beyond (r + 1 + u) (omega arith))
           ∙ ap (opsOf q .add (getD before (r + 1 + u) 0)) (is-tail .same)

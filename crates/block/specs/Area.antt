@@ -1,9 +1,10 @@
--- The arrays of the block step: symbols of the field, in a fixed number of places. A larger setting only raises the number.
--- Holds: `at`, a list as a sequence; `AllBelow`, every symbol below q; `capacity`, `Area`.
+-- The working areas of the block step, which its caller lends.
+-- Holds: `at`, a list as a sequence; `AllBelow`, every symbol below q; `Working`.
 use mathlib.Core.Path.{_≡_}
 use mathlib.Core.List.{List}
-use Prim.Native.Nat.{ℕ, _<_}
+use Prim.Native.Nat.{ℕ, _+_, _<_}
 use lib.ListN.{length, getD}
+use Rattle.code.specs.declared.Setting.{Setting}
 
 -- A list as a sequence, 0 past its end.
 abbrev pub at : List ℕ → ℕ → ℕ
@@ -13,10 +14,9 @@ at l i = getD l i 0
 abbrev pub AllBelow : ℕ → List ℕ → Type 0
 AllBelow q l = (i : ℕ) → getD l i 0 < q
 
--- The places of an area (`CAPACITY`): a block's spectrum and a 1 before it.
-abbrev pub capacity : ℕ
-capacity = 16
-
-pub record Area (q : ℕ) (l : List ℕ) : Type 0 where
-  pub size : length l ≡ capacity
-  pub below : AllBelow q l
+-- Four areas, each with room for a block's spectrum and a 1 before it; what they hold matters nowhere.
+pub record Working (p : Setting) (series locator values information : List ℕ) : Type 0 where
+  pub series-long : length series ≡ p .n + 1
+  pub locator-long : length locator ≡ p .n + 1
+  pub values-long : length values ≡ p .n + 1
+  pub information-long : length information ≡ p .n + 1

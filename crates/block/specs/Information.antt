@@ -11,7 +11,7 @@ use Rattle.code.specs.Generator.{timesG}
 use Rattle.code.specs.Transmission.{view}
 use Rattle.code.specs.Recovery.{Recovered}
 use Rattle.code.specs.Settings.{codeOf}
-use Rattle.block.specs.Area.{Area, at}
+use Rattle.block.specs.Area.{AllBelow, at}
 
 -- Symbol k - j of the information block at `from`, and what x × G_0 lacks j places before its end.
 abbrev pub lacking : Setting → List ℕ → ℕ → ℕ → List ℕ → ℕ → ℕ
@@ -21,11 +21,11 @@ lacking p values from point information j =
 
 -- The last `count` symbols of the information block at `from` were recovered from the values there; what stood before `from` still does.
 pub record BlockRead (p : Setting) (from count : ℕ) (values before after : List ℕ) : Type 0 where
-  pub area : Area (p .q) after
+  pub below : AllBelow (p .q) after
   pub recovered : Recovered (codeOf p) (λ e. at values (from + e)) count (λ r. at after (from + r))
   pub kept : (i : ℕ) → i < from → at after i ≡ at before i
 
 -- So many information blocks were recovered, each from the values of its places.
 pub record Read (p : Setting) (blocks : ℕ) (values information : List ℕ) : Type 0 where
-  pub area : Area (p .q) information
+  pub below : AllBelow (p .q) information
   pub recovered : (b : ℕ) → b < blocks → Recovered (codeOf p) (view (p .k) values b) (p .k) (view (p .k) information b)

@@ -5,3 +5,4 @@ pub mod Locator
 pub mod Progress
 pub mod Spectrum
 pub mod Information
+pub mod Candidate

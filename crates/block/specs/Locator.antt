@@ -1,5 +1,5 @@
 -- Sequences and the recurrence that the locator makes them follow (Berlekamp and Massey's algorithm).
--- A series c with c_0 = 1 holds the known part of a spectrum from c_1 on. The locator σ of length L annihilates it as far as it is known:
+-- A series c with c_0 = 1 holds the known part of a spectrum from c_1 on. The locator σ of degree at most L annihilates it as far as it is known:
 -- coefficient j of the product σ × c is zero for L < j ≤ s. The former locator is the one before the length last changed, at place p.
 -- Holds: `convolution`, `tail`, `Located`, `Subtracted`, `Extended`.
 use mathlib.Core.Path.{_≡_}
@@ -11,11 +11,11 @@ use Rattle.algebra.specs.Sum.{sum}
 unfoldable pub convolution : {F : Type 0} → Ops F → (ℕ → F) → (ℕ → F) → ℕ → F
 convolution o a b j = sum o (suc j) (λ i. o .mul (a i) (b (j - i)))
 
--- The same without the first coefficient of a locator of this length: σ_1 c_(j-1) + .. + σ_L c_(j-L).
+-- The same without the first coefficient of a locator of this degree: σ_1 c_(j-1) + .. + σ_L c_(j-L).
 unfoldable pub tail : {F : Type 0} → Ops F → ℕ → (ℕ → F) → (ℕ → F) → ℕ → F
-tail o length σ c j = sum o length (λ a. o .mul (σ (a + 1)) (c (j - (a + 1))))
+tail o L σ c j = sum o L (λ a. o .mul (σ (a + 1)) (c (j - (a + 1))))
 
--- σ is a locator of length L for c_0 .. c_s, and τ the former one, of length p - L, that fails first at place p; `scale` undoes its failure.
+-- σ is a locator of degree at most L for c_0 .. c_s, and τ the former one, of degree at most p - L, that fails first at place p; `scale` undoes its failure.
 pub record Located {F : Type 0} (o : Ops F) (c : ℕ → F) (s L p : ℕ) (scale : F) (σ τ : ℕ → F) : Type 0 where
   pub grown : L ≤ p
   pub placed : p ≤ s

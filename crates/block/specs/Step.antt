@@ -3,20 +3,19 @@
 -- Holds: `Information`, `Step`.
 use mathlib.Core.Bool.{Bool, true, false}
 use mathlib.Core.List.{List}
-use Prim.Native.Nat.{ℕ, _*_, _≤_, _<_}
+use Prim.Native.Nat.{ℕ, _≤_, _<_}
 use Rattle.code.specs.declared.Setting.{Setting}
 use Rattle.code.specs.Code.{levelDistance}
 use Rattle.code.specs.Transmission.{view}
-use Rattle.code.specs.Reading.{blockDistance}
-use Rattle.block.specs.Area.{at, Area}
+use Rattle.code.specs.Reading.{levelCost}
+use Rattle.block.specs.Area.{at, AllBelow}
 
 -- x_0 .. x_l are information blocks: k symbols below q each.
 abbrev pub Information : Setting → ℕ → (ℕ → ℕ → ℕ) → Type 0
 Information p l x = (b r : ℕ) → b ≤ l → r < p .k → x b r < p .q
 
--- near: the l+1 information blocks that were found, symbols below q in their area, combine to a block that costs less than d_l, a differing symbol
--- costing 2; far: every information costs d_l or more.
+-- near: the l+1 information blocks that were found, symbols below q, combine to a block at a cost of less than d_l; far: every information
+-- costs d_l or more.
 pub data Step (p : Setting) (l : ℕ) (block information : List ℕ) : Bool → Type 0 where
-  near : Area (p .q) information → 2 * blockDistance p (at block) l (view (p .k) information) < levelDistance (p .n) (p .k) l
-      → Step p l block information true
-  far : ((x : ℕ → ℕ → ℕ) → Information p l x → levelDistance (p .n) (p .k) l ≤ 2 * blockDistance p (at block) l x) → Step p l block information false
+  near : AllBelow (p .q) information → levelCost p (at block) l (view (p .k) information) < levelDistance (p .n) (p .k) l → Step p l block information true
+  far : ((x : ℕ → ℕ → ℕ) → Information p l x → levelDistance (p .n) (p .k) l ≤ levelCost p (at block) l x) → Step p l block information false

@@ -1,27 +1,22 @@
-// The information of a code block from its spectrum, and how far the block that it combines to is from the received one.
+// The information of a code block from its spectrum, and what the received block costs against the block that it combines to.
 ghost use mathlib.Core.Path.{_≡_};
 ghost use Prim.Native.Nat.{_+_, _*_, _≤_, _<_};
 ghost use lib.ListN.{length};
 ghost use Rattle.algebra.specs.Polynomial.{falling as fallingOf};
-ghost use Rattle.algebra.specs.Weight.{distance};
 ghost use Rattle.field.specs.Fields.{Good, opsOf};
 ghost use Rattle.field.specs.Symbols.{Is};
 ghost use Rattle.field.specs.Tables.{Lent};
 ghost use Rattle.code.specs.Transmission.{view};
-ghost use Rattle.code.specs.Level.{combination};
-ghost use Rattle.code.specs.Settings.{codeOf};
+ghost use Rattle.code.specs.Reading.{levelCost};
 ghost use Rattle.tables.specs.Tables.{Ready};
-ghost use Rattle.block.specs.Area.{Area, at, capacity};
+ghost use Rattle.block.specs.Area.{AllBelow, at};
 ghost use Rattle.block.specs.Information.{lacking, BlockRead, Read};
-use super::CAPACITY;
-use super::locator::Series;
 use code::Setting;
 use field::Tables;
-use tables::Rows;
 
 // v_0 y^k + .. + v_(k-1) y for the k values v from a place on.
-fn falling(q: usize, products: &Tables, k: usize, values: &Series, from: usize, y: u8) -> u8
-    requires { ⌜ Good q × Lent q (now products) × Area q (now values) × (from + k ≤ capacity) × (y < q) ⌝ }
+fn falling(q: usize, products: &Tables, k: usize, values: &[u8], from: usize, y: u8) -> u8
+    requires { ⌜ Good q × Lent q (now products) × AllBelow q (now values) × (from + k ≤ length (now values)) × (y < q) ⌝ }
     ensures { λ r. ⌜ Is q r (fallingOf (opsOf q) k (λ e. at (now (values .entry)) (from + e)) y) ⌝ }
 {
     let mut sum: u8 = 0;
@@ -38,14 +33,14 @@ fn falling(q: usize, products: &Tables, k: usize, values: &Series, from: usize, 
 fn symbol(
     p: Setting,
     products: &Tables,
-    rows: &Rows,
-    values: &Series,
+    rows: &[u8],
+    values: &[u8],
     from: usize,
     point: u8,
-    information: &Series,
+    information: &[u8],
     j: usize,
 ) -> u8
-    requires { ⌜ Ready p (now products) (now rows) × Area (p .q) (now values) × Area (p .q) (now information) × (from + p .k ≤ capacity) × (point < p .q) × (0 < j) × (j ≤ p .k) ⌝ }
+    requires { ⌜ Ready p (now products) (now rows) × AllBelow (p .q) (now values) × (from + p .k ≤ length (now values)) × AllBelow (p .q) (now information) × (from + p .k ≤ length (now information)) × (point < p .q) × (0 < j) × (j ≤ p .k) ⌝ }
     ensures { λ r. ⌜ Is (p .q) r (lacking p (now (values .entry)) from point (now (information .entry)) j) ⌝ }
 {
     let q = p.q;
@@ -61,12 +56,12 @@ fn symbol(
 fn read_block(
     p: Setting,
     products: &Tables,
-    rows: &Rows,
-    values: &Series,
+    rows: &[u8],
+    values: &[u8],
     from: usize,
-    information: &mut Series,
+    information: &mut [u8],
 )
-    requires { ⌜ Ready p (now products) (now rows) × Area (p .q) (now values) × Area (p .q) (now information) × (from + p .k ≤ capacity) ⌝ }
+    requires { ⌜ Ready p (now products) (now rows) × AllBelow (p .q) (now values) × (from + p .k ≤ length (now values)) × AllBelow (p .q) (now information) × (from + p .k ≤ length (now information)) ⌝ }
     ensures { λ _. ⌜ BlockRead p from (p .k) (now (values .entry)) (now (information .entry)) (now (information .exit)) ⌝ }
 {
     let q = p.q;
@@ -83,34 +78,40 @@ fn read_block(
 }
 
 // The information of so many blocks of k places.
-pub fn read(p: Setting, products: &Tables, rows: &Rows, blocks: usize, values: &Series) -> Series
-    requires { ⌜ Ready p (now products) (now rows) × (blocks * p .k ≤ capacity) × Area (p .q) (now values) ⌝ }
-    ensures { λ r. ⌜ Read p blocks (now (values .entry)) r ⌝ }
-{
-    let k = p.k;
-    let mut information = [0u8; CAPACITY];
-    let mut b: usize = 0;
-    while b < blocks {
-        read_block(p, products, rows, values, b * k, &mut information);
-        b += 1;
-    }
-    information
-}
-
-// In how many symbols the level-l combination of the information differs from the received block.
-pub fn differing(
+pub fn read(
     p: Setting,
     products: &Tables,
-    rows: &Rows,
-    information: &Series,
+    rows: &[u8],
+    blocks: usize,
+    values: &[u8],
+    information: &mut [u8],
+)
+    requires { ⌜ Ready p (now products) (now rows) × AllBelow (p .q) (now values) × (blocks * p .k ≤ length (now values)) × (blocks * p .k ≤ length (now information)) ⌝ }
+    ensures { λ _. ⌜ Read p blocks (now (values .entry)) (now (information .exit)) ⌝ }
+{
+    let k = p.k;
+    field::clear(information);
+    let mut b: usize = 0;
+    while b < blocks {
+        read_block(p, products, rows, values, b * k, information);
+        b += 1;
+    }
+}
+
+// What the received block costs against the level-l combination of the information.
+pub fn cost(
+    p: Setting,
+    products: &Tables,
+    rows: &[u8],
+    information: &[u8],
     l: usize,
     block: &[u8],
 ) -> usize
-    requires { ⌜ Ready p (now products) (now rows) × Area (p .q) (now information) × (l ≤ p .m) × (length (now block) ≡ p .n) ⌝ }
-    ensures { λ r. ⌜ r ≡ distance (p .n) (at (now (block .entry))) (combination (codeOf p) l (view (p .k) (now (information .entry)))) ⌝ }
+    requires { ⌜ Ready p (now products) (now rows) × AllBelow (p .q) (now information) × ((l + 1) * p .k ≤ length (now information)) × (l ≤ p .m) × (length (now block) ≡ p .n) ⌝ }
+    ensures { λ r. ⌜ r ≡ levelCost p (at (now (block .entry))) l (view (p .k) (now (information .entry))) ⌝ }
 {
     let n = p.n;
-    let mut count: usize = 0;
+    let mut cost: usize = 0;
     let mut i: usize = 0;
     while i < n {
         let symbol = tables::product::combination(p, products, rows, information, l, i);
@@ -119,7 +120,7 @@ pub fn differing(
         if received == symbol {
             continue;
         }
-        count += 1;
+        cost += 2;
     }
-    count
+    cost
 }

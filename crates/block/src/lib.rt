@@ -11,50 +11,116 @@ ghost use mathlib.Core.Path.{_≡_};
 ghost use Prim.Native.Nat.{_≤_};
 ghost use lib.ListN.{length};
 ghost use Rattle.field.specs.Symbols.{Symbols};
+ghost use Rattle.field.specs.Tables.{Lent};
+ghost use Rattle.code.specs.Settings.{Sound};
 ghost use Rattle.tables.specs.Tables.{Ready};
+ghost use Rattle.block.specs.Area.{Working};
+ghost use Rattle.block.specs.Candidate.{Begun, Candidate};
 ghost use Rattle.block.specs.Step.{Step};
 use code::Setting;
 use field::Tables;
-use tables::Rows;
 
-// Room for a block's spectrum and a 1 before it. A larger setting raises it, here and in specs/Area.antt.
-pub const CAPACITY: usize = 16;
+// The locator's degree at most, and the point of the next value of the spectrum.
+struct Start {
+    degree: usize,
+    point: u8,
+}
 
-// Symbols in so many places.
-pub type Series = locator::Series;
+// The locator of the first values of the block's spectrum, those that level l's code blocks have zero.
+fn begin(
+    p: Setting,
+    products: &Tables,
+    block: &[u8],
+    l: usize,
+    series: &mut [u8],
+    locator: &mut [u8],
+    former: &mut [u8],
+    spare: &mut [u8],
+) -> Start
+    requires { ⌜ Sound p × Lent (p .q) (now products) × Symbols (p .q) (now block) × (l ≤ p .m) × Working p (now series) (now locator) (now former) (now spare) ⌝ }
+    ensures { λ r. ⌜ Begun p l (now (block .entry)) (now (series .exit)) (now (locator .exit)) (now (former .exit)) (r .degree) (r .point) ⌝ }
+{
+    let q = p.q;
+    let zeros = p.n - (l + 1) * p.k;
+    locator::unit(series);
+    let point = spectrum::add_values(q, products, block, 0, zeros, 1, series);
+    let degree = locator::locate(q, products, series, zeros + 1, locator, former, spare);
+    Start {
+        degree: degree,
+        point: point,
+    }
+}
 
-// The level-l combination within half of d_l - 1 symbols of the received block: true, and its l + 1 information blocks; or false, if there is none.
+// The information that the locator leads to: the rest of the block's spectrum, what it has besides the error's, and the information read off that.
+fn read_candidate(
+    p: Setting,
+    products: &Tables,
+    rows: &[u8],
+    block: &[u8],
+    l: usize,
+    start: Start,
+    series: &mut [u8],
+    locator: &[u8],
+    values: &mut [u8],
+    information: &mut [u8],
+)
+    requires { ⌜ Ready p (now products) (now rows) × Symbols (p .q) (now block) × (l ≤ p .m) × Working p (now series) (now locator) (now values) (now information) × Begun p l (now block) (now series) (now locator) (now values) (start .degree) (start .point) ⌝ }
+    ensures { λ _. ⌜ Candidate p l (now (block .entry)) (now (locator .entry)) (start .degree) (now (information .exit)) ⌝ }
+{
+    let q = p.q;
+    let n = p.n;
+    let blocks = l + 1;
+    let count = blocks * p.k;
+    let zeros = n - count;
+    spectrum::add_values(q, products, block, zeros, n, start.point, series);
+    spectrum::extend(
+        q,
+        products,
+        start.degree,
+        locator,
+        zeros,
+        count,
+        series,
+        values,
+    );
+    information::read(p, products, rows, blocks, values, information);
+}
+
+// The level-l combination that costs the received block less than d_l: true, and its l + 1 information blocks; or false, if there is none. The other areas
+// are worked in.
 pub fn repair(
     p: Setting,
     products: &Tables,
-    rows: &Rows,
+    rows: &[u8],
     block: &[u8],
     l: usize,
-    information: &mut Series,
+    series: &mut [u8],
+    locator: &mut [u8],
+    values: &mut [u8],
+    information: &mut [u8],
 ) -> bool
-    requires { ⌜ Ready p (now products) (now rows) × (length (now block) ≡ p .n) × Symbols (p .q) (now block) × (l ≤ p .m) ⌝ }
+    requires { ⌜ Ready p (now products) (now rows) × (length (now block) ≡ p .n) × Symbols (p .q) (now block) × (l ≤ p .m) × Working p (now series) (now locator) (now values) (now information) ⌝ }
     ensures { λ r. ⌜ Step p l (now (block .entry)) (now (information .exit)) r ⌝ }
 {
-    let q = p.q;
-    let k = p.k;
-    let blocks = l + 1;
-    let count = blocks * k;
-    let zeros = p.n - count;
-    let known = zeros + 1;
-    let distance = zeros + 1;
-    let mut series = locator::unit();
-    let point = spectrum::add_values(q, products, block, 0, zeros, 1, &mut series);
-    let mut locator = locator::unit();
-    let length = locator::locate(q, products, &series, known, &mut locator);
-    if distance <= 2 * length {
+    let distance = p.n - (l + 1) * p.k + 1;
+    let start = begin(p, products, block, l, series, locator, values, information);
+    if distance <= 2 * start.degree {
         return false;
     }
-    spectrum::add_values(q, products, block, zeros, p.n, point, &mut series);
-    let values = spectrum::extend(q, products, length, &locator, zeros, count, &mut series);
-    let found = information::read(p, products, rows, blocks, &values);
-    *information = found;
-    let differing = information::differing(p, products, rows, &found, l, block);
-    if 2 * differing < distance {
+    read_candidate(
+        p,
+        products,
+        rows,
+        block,
+        l,
+        start,
+        series,
+        locator,
+        values,
+        information,
+    );
+    let cost = information::cost(p, products, rows, information, l, block);
+    if cost < distance {
         return true;
     }
     false

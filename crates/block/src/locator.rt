@@ -1,40 +1,37 @@
-// The locator of a series by Berlekamp and Massey's algorithm.
+// The locator of a series by Berlekamp and Massey's algorithm. Areas are lent by the caller, all of the series' length.
 ghost use mathlib.Core.Path.{_≡_};
 ghost use Prim.Native.Nat.{_+_, _-_, _≤_, _<_};
+ghost use lib.ListN.{length};
 ghost use Rattle.field.specs.Fields.{Good, opsOf};
 ghost use Rattle.field.specs.Symbols.{Is};
 ghost use Rattle.field.specs.Tables.{Lent};
-ghost use Rattle.block.specs.Area.{Area, at, capacity};
+ghost use Rattle.block.specs.Area.{AllBelow, at};
 ghost use Rattle.block.specs.Locator.{tail as tailOf};
 ghost use Rattle.block.specs.Progress.{Unit, Multiple, Placed, Found};
-use super::CAPACITY;
 use field::Tables;
 
-// A series of symbols, or a polynomial, lowest power first.
-pub type Series = [u8; CAPACITY];
-
-// How far the search for the locator has come: its length, the place where the length last changed, and what undoes the former locator's failure there.
+// How far the search for the locator has come: its degree at most, the place where that last changed, and what undoes the former locator's failure there.
 pub struct Progress {
-    pub length: usize,
+    pub degree: usize,
     pub place: usize,
     pub scale: u8,
 }
 
-// σ_1 c_(j-1) + .. + σ_L c_(j-L) for the locator σ of length L and the series c.
+// σ_1 c_(j-1) + .. + σ_L c_(j-L) for the locator σ of degree at most L and the series c.
 pub fn tail(
     q: usize,
     products: &Tables,
-    length: usize,
-    locator: &Series,
-    series: &Series,
+    degree: usize,
+    locator: &[u8],
+    series: &[u8],
     j: usize,
 ) -> u8
-    requires { ⌜ Good q × Lent q (now products) × Area q (now locator) × Area q (now series) × (length ≤ j) × (j < capacity) ⌝ }
-    ensures { λ r. ⌜ Is q r (tailOf (opsOf q) length (at (now (locator .entry))) (at (now (series .entry))) j) ⌝ }
+    requires { ⌜ Good q × Lent q (now products) × AllBelow q (now locator) × (degree < length (now locator)) × AllBelow q (now series) × (degree ≤ j) × (j < length (now series)) ⌝ }
+    ensures { λ r. ⌜ Is q r (tailOf (opsOf q) degree (at (now (locator .entry))) (at (now (series .entry))) j) ⌝ }
 {
     let mut sum: u8 = 0;
     let mut a: usize = 0;
-    while a < length {
+    while a < degree {
         let next = a + 1;
         sum = field::add_product(q, products, sum, locator[next], series[j - next]);
         a = next;
@@ -49,10 +46,10 @@ fn subtract_multiple(
     factor: u8,
     shift: usize,
     count: usize,
-    source: &Series,
-    target: &mut Series,
+    source: &[u8],
+    target: &mut [u8],
 )
-    requires { ⌜ Good q × Lent q (now products) × (factor < q) × Area q (now source) × Area q (now target) × (shift + count ≤ capacity) ⌝ }
+    requires { ⌜ Good q × Lent q (now products) × (factor < q) × AllBelow q (now source) × (count ≤ length (now source)) × AllBelow q (now target) × (shift + count ≤ length (now target)) ⌝ }
     ensures { λ r. ⌜ Multiple q factor shift count (now (source .entry)) (now (target .entry)) (now (target .exit)) ⌝ }
 {
     let mut i: usize = 0;
@@ -64,74 +61,94 @@ fn subtract_multiple(
     }
 }
 
+// The same, and the former locator becomes what the locator was.
+fn exchange(
+    q: usize,
+    products: &Tables,
+    factor: u8,
+    shift: usize,
+    count: usize,
+    locator: &mut [u8],
+    former: &mut [u8],
+    spare: &mut [u8],
+)
+    requires { ⌜ Good q × Lent q (now products) × (factor < q) × AllBelow q (now locator) × AllBelow q (now former) × (shift + count ≤ length (now locator)) × (length (now former) ≡ length (now locator)) × (length (now spare) ≡ length (now locator)) ⌝ }
+    ensures { λ _. ⌜ Multiple q factor shift count (now (former .entry)) (now (locator .entry)) (now (locator .exit)) × (now (former .exit) ≡ now (locator .entry)) ⌝ }
+{
+    bytes::copy(locator, spare);
+    subtract_multiple(q, products, factor, shift, count, former, locator);
+    bytes::copy(spare, former);
+}
+
 // One place more: the locator of the series before place `next` becomes that up to it.
 fn advance(
     q: usize,
     products: &Tables,
-    series: &Series,
+    series: &[u8],
     next: usize,
     progress: Progress,
-    locator: &mut Series,
-    former: &mut Series,
+    locator: &mut [u8],
+    former: &mut [u8],
+    spare: &mut [u8],
 ) -> Progress
-    requires { ⌜ Good q × Lent q (now products) × Area q (now series) × (0 < next) × (next < capacity) × Placed q (now series) (next - 1) (progress .length) (progress .place) (progress .scale) (now locator) (now former) ⌝ }
-    ensures { λ r. ⌜ Placed q (now (series .entry)) next (r .length) (r .place) (r .scale) (now (locator .exit)) (now (former .exit)) ⌝ }
+    requires { ⌜ Good q × Lent q (now products) × AllBelow q (now series) × (0 < next) × (next < length (now series)) × (length (now locator) ≡ length (now series)) × (length (now former) ≡ length (now series)) × (length (now spare) ≡ length (now series)) × Placed q (now series) (next - 1) (progress .degree) (progress .place) (progress .scale) (now locator) (now former) ⌝ }
+    ensures { λ r. ⌜ Placed q (now (series .entry)) next (r .degree) (r .place) (r .scale) (now (locator .exit)) (now (former .exit)) ⌝ }
 {
-    let length = progress.length;
+    let degree = progress.degree;
     let place = progress.place;
-    let rest = tail(q, products, length, locator, series, next);
+    let rest = tail(q, products, degree, locator, series, next);
     let failure = field::add(q, series[next], rest);
     if failure == 0 {
         return progress;
     }
     let factor = field::multiply(q, products, failure, progress.scale);
     let shift = next - place;
-    let count = place - length + 1;
-    if next <= length + length {
+    let count = place - degree + 1;
+    if next <= degree + degree {
         subtract_multiple(q, products, factor, shift, count, former, locator);
         return progress;
     }
-    let kept = *locator;
-    subtract_multiple(q, products, factor, shift, count, former, locator);
-    *former = kept;
+    exchange(q, products, factor, shift, count, locator, former, spare);
     Progress {
-        length: next - length,
+        degree: next - degree,
         place: next,
         scale: field::inverse(q, products, failure),
     }
 }
 
 // 1, 0, 0, ..
-pub fn unit() -> Series
-    ensures { λ r. ⌜ Unit r ⌝ }
+pub fn unit(series: &mut [u8])
+    requires { ⌜ 0 < length (now series) ⌝ }
+    ensures { λ _. ⌜ Unit (now (series .exit)) ⌝ }
 {
-    let mut series = [0u8; CAPACITY];
+    field::clear(series);
     series[0] = 1;
-    series
 }
 
-// The locator of the first `known` terms of the series; answers with its length.
+// The locator of the first `known` terms of the series, and the former one; answers with its degree at most.
 pub fn locate(
     q: usize,
     products: &Tables,
-    series: &Series,
+    series: &[u8],
     known: usize,
-    locator: &mut Series,
+    locator: &mut [u8],
+    former: &mut [u8],
+    spare: &mut [u8],
 ) -> usize
-    requires { ⌜ Good q × Lent q (now products) × Area q (now series) × (at (now series) 0 ≡ 1) × (0 < known) × (known ≤ capacity) ⌝ }
-    ensures { λ length. ⌜ Found q (now (series .entry)) known length (now (locator .exit)) ⌝ }
+    requires { ⌜ Good q × Lent q (now products) × AllBelow q (now series) × (at (now series) 0 ≡ 1) × (0 < known) × (known ≤ length (now series)) × (length (now locator) ≡ length (now series)) × (length (now former) ≡ length (now series)) × (length (now spare) ≡ length (now series)) ⌝ }
+    ensures { λ degree. ⌜ Found q (now (series .entry)) known degree (now (locator .exit)) (now (former .exit)) ⌝ }
 {
-    let mut former = unit();
-    *locator = former;
+    unit(locator);
+    unit(former);
     let mut progress = Progress {
-        length: 0,
+        degree: 0,
         place: 0,
         scale: 1,
     };
     let mut next: usize = 1;
     while next < known {
-        progress = advance(q, products, series, next, progress, locator, &mut former);
+        progress = advance(q, products, series, next, progress, locator, former, spare);
         next += 1;
     }
-    progress.length
+    progress.degree
 }

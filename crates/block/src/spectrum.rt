@@ -1,13 +1,12 @@
 // The spectrum of a received block, and how the locator continues that of its error.
 ghost use Prim.Native.Nat.{_+_, _≤_, _<_};
+ghost use lib.ListN.{length};
 ghost use Rattle.algebra.specs.Sum.{power};
 ghost use Rattle.field.specs.Fields.{Good, opsOf, alpha};
 ghost use Rattle.field.specs.Symbols.{Is, Symbols};
 ghost use Rattle.field.specs.Tables.{Lent};
-ghost use Rattle.block.specs.Area.{Area, capacity};
+ghost use Rattle.block.specs.Area.{AllBelow};
 ghost use Rattle.block.specs.Spectrum.{SpectrumOf, Continued};
-use super::CAPACITY;
-use super::locator::Series;
 use field::Tables;
 
 // Writes values `from` .. `to - 1` of the block's spectrum, its values at powers of α, after those before; answers with the point of the next one.
@@ -18,9 +17,9 @@ pub fn add_values(
     from: usize,
     to: usize,
     start: u8,
-    series: &mut Series,
+    series: &mut [u8],
 ) -> u8
-    requires { ⌜ Good q × Lent q (now products) × Symbols q (now block) × (from ≤ to) × (to < capacity) × Is q start (power (opsOf q) alpha from) × SpectrumOf q (now block) from (now series) ⌝ }
+    requires { ⌜ Good q × Lent q (now products) × Symbols q (now block) × (from ≤ to) × (to < length (now series)) × Is q start (power (opsOf q) alpha from) × SpectrumOf q (now block) from (now series) ⌝ }
     ensures { λ r. ⌜ Is q r (power (opsOf q) alpha to) × SpectrumOf q (now (block .entry)) to (now (series .exit)) ⌝ }
 {
     let mut point = start;
@@ -34,28 +33,27 @@ pub fn add_values(
     point
 }
 
-// Continues the series from place r + 1 on by the recurrence of the locator, for `count` places; answers with what the series had besides.
+// Continues the series from place r + 1 on by the recurrence of the locator, for `count` places; `values` gets what the series had besides.
 pub fn extend(
     q: usize,
     products: &Tables,
-    length: usize,
-    locator: &Series,
+    degree: usize,
+    locator: &[u8],
     r: usize,
     count: usize,
-    series: &mut Series,
-) -> Series
-    requires { ⌜ Good q × Lent q (now products) × Area q (now locator) × Area q (now series) × (length ≤ r) × (r + count < capacity) ⌝ }
-    ensures { λ values. ⌜ Continued q length r count (now (locator .entry)) (now (series .entry)) (now (series .exit)) values ⌝ }
+    series: &mut [u8],
+    values: &mut [u8],
+)
+    requires { ⌜ Good q × Lent q (now products) × AllBelow q (now locator) × (degree < length (now locator)) × AllBelow q (now series) × (degree ≤ r) × (r + count < length (now series)) × AllBelow q (now values) × (count ≤ length (now values)) ⌝ }
+    ensures { λ _. ⌜ Continued q degree r count (now (locator .entry)) (now (series .entry)) (now (series .exit)) (now (values .exit)) ⌝ }
 {
-    let mut values = [0u8; CAPACITY];
     let mut u: usize = 0;
     while u < count {
         let place = r + 1 + u;
-        let rest = super::locator::tail(q, products, length, locator, series, place);
+        let rest = super::locator::tail(q, products, degree, locator, series, place);
         let continued = field::negate(q, rest);
         values[u] = field::add(q, series[place], rest);
         series[place] = continued;
         u += 1;
     }
-    values
 }

@@ -1,46 +1,46 @@
 // The block step against plain enumeration: for received blocks of every setting and level, whether it answers just where some information costs
 // less than d_l. Every block of setting 1; of settings 2 and 3 every block whose number is a multiple of a stride.
 // Writes for each setting and level: how many blocks, how many of them near, in how many the two agree.
+ghost use mathlib.Core.Path.{_≡_};
 ghost use Prim.Native.Nat.{_≤_, _<_};
 ghost use lib.Dec.{T};
+ghost use lib.ListN.{length};
 ghost use Rattle.field.specs.Fields.{Good};
+ghost use Rattle.field.specs.Symbols.{Symbols};
 ghost use Rattle.code.specs.Settings.{isSetting, settingOf};
-ghost use Rattle.tables.specs.Tables.{Ready};
-ghost use Rattle.block.specs.Area.{Area};
-use block::CAPACITY;
-use block::Series;
+ghost use Rattle.tables.specs.Tables.{Ready, mostBlock};
 use code::Setting;
 use field::Tables;
 use libc::STDOUT_FILENO;
-use tables::Rows;
+use tables::MOST_BLOCK;
 
 // A number's digits to the base q: its i-th block, or its i-th information.
-fn digits(q: usize, number: usize) -> Series
+fn digits(q: usize, number: usize) -> [u8; MOST_BLOCK]
     requires { ⌜ Good q ⌝ }
-    ensures { λ r. ⌜ Area q r ⌝ }
+    ensures { λ r. ⌜ (length r ≡ mostBlock) × Symbols q r ⌝ }
 {
-    let mut series = [0u8; CAPACITY];
+    let mut symbols = [0u8; MOST_BLOCK];
     let mut rest = number;
     let mut i: usize = 0;
-    while i < CAPACITY {
-        series[i] = (rest % q) as u8;
+    while i < MOST_BLOCK {
+        symbols[i] = (rest % q) as u8;
         rest = rest / q;
         i += 1;
     }
-    series
+    symbols
 }
 
 // Whether the information costs less than d_l.
 fn near(
     p: Setting,
     products: &Tables,
-    rows: &Rows,
-    information: &Series,
+    rows: &[u8],
+    information: &[u8],
     l: usize,
-    received: &Series,
+    received: &[u8],
     distance: usize,
 ) -> bool
-    requires { ⌜ Ready p (now products) (now rows) × Area (p .q) (now information) × (l ≤ p .m) ⌝ }
+    requires { ⌜ Ready p (now products) (now rows) × Symbols (p .q) (now information) × (p .n ≤ length (now information)) × (l ≤ p .m) × (length (now received) ≡ p .n) ⌝ }
 {
     let n = p.n;
     let mut cost: usize = 0;
@@ -64,13 +64,13 @@ fn near(
 fn some_near(
     p: Setting,
     products: &Tables,
-    rows: &Rows,
+    rows: &[u8],
     l: usize,
-    received: &Series,
+    received: &[u8],
     distance: usize,
     count: usize,
 ) -> bool
-    requires { ⌜ Ready p (now products) (now rows) × (l ≤ p .m) ⌝ }
+    requires { ⌜ Ready p (now products) (now rows) × (p .n ≤ mostBlock) × (l ≤ p .m) × (length (now received) ≡ p .n) ⌝ }
 {
     let mut x: usize = 0;
     while x < count {
@@ -83,6 +83,28 @@ fn some_near(
     false
 }
 
+// Whether the block step answers with information.
+fn repaired(p: Setting, products: &Tables, rows: &[u8], l: usize, received: &[u8]) -> bool
+    requires { ⌜ Ready p (now products) (now rows) × (p .n ≤ mostBlock) × (l ≤ p .m) × (length (now received) ≡ p .n) × Symbols (p .q) (now received) ⌝ }
+{
+    let mut series = [0u8; MOST_BLOCK + 1];
+    let mut locator = [0u8; MOST_BLOCK + 1];
+    let mut values = [0u8; MOST_BLOCK + 1];
+    let mut information = [0u8; MOST_BLOCK + 1];
+    let room = p.n + 1;
+    block::repair(
+        p,
+        products,
+        rows,
+        received,
+        l,
+        &mut series[..room],
+        &mut locator[..room],
+        &mut values[..room],
+        &mut information[..room],
+    )
+}
+
 // One block: whether the block step answers with information, and whether enumeration says the same; 1 for yes.
 struct Tally {
     near: usize,
@@ -92,20 +114,19 @@ struct Tally {
 fn one(
     p: Setting,
     products: &Tables,
-    rows: &Rows,
+    rows: &[u8],
     l: usize,
     distance: usize,
     count: usize,
     number: usize,
 ) -> Tally
-    requires { ⌜ Ready p (now products) (now rows) × (l ≤ p .m) ⌝ }
+    requires { ⌜ Ready p (now products) (now rows) × (p .n ≤ mostBlock) × (l ≤ p .m) ⌝ }
     ensures { λ r. ⌜ (r .near ≤ 1) × (r .agree ≤ 1) ⌝ }
 {
-    let n = p.n;
-    let received = digits(p.q, number);
-    let expected = some_near(p, products, rows, l, &received, distance, count);
-    let mut information = [0u8; CAPACITY];
-    let found = block::repair(p, products, rows, &received[0..n], l, &mut information);
+    let symbols = digits(p.q, number);
+    let received = &symbols[..p.n];
+    let expected = some_near(p, products, rows, l, received, distance, count);
+    let found = repaired(p, products, rows, l, received);
     if found {
         if expected {
             return Tally { near: 1, agree: 1 };
@@ -129,14 +150,14 @@ fn print(number: usize, after: u8) {
 fn compare(
     p: Setting,
     products: &Tables,
-    rows: &Rows,
+    rows: &[u8],
     l: usize,
     distance: usize,
     count: usize,
     stride: usize,
     end: usize,
 )
-    requires { ⌜ Ready p (now products) (now rows) × (l ≤ p .m) × (0 < stride) × (stride ≤ 4194304) × (end ≤ 4194304) ⌝ }
+    requires { ⌜ Ready p (now products) (now rows) × (p .n ≤ mostBlock) × (l ≤ p .m) × (0 < stride) × (stride ≤ 4194304) × (end ≤ 4194304) ⌝ }
 {
     let mut blocks: usize = 0;
     let mut near: usize = 0;
@@ -160,7 +181,8 @@ fn level(number: u32, l: usize, distance: usize, count: usize, stride: usize, en
 {
     let p = tables::setting(number);
     let products = field::tables(p.q);
-    let rows = tables::rows(number);
+    let mut rows = [0u8; tables::MOST_ROWS];
+    tables::rows(number, &mut rows);
     print(number as usize, b' ');
     print(l, b' ');
     compare(p, &products, &rows, l, distance, count, stride, end);

@@ -4,7 +4,7 @@
 use mathlib.Core.Path.{_≡_, sym, ap, subst, _∙_}
 use mathlib.Core.Bool.{not}
 use mathlib.Core.List.{List}
-use Prim.Native.Nat.{ℕ, zero, suc, _+_, _-_, _*_, _/_, _%_, _≤_, _<_}
+use Prim.Native.Nat.{ℕ, _+_, _-_, _*_, _/_, _%_, _≤_, _<_}
 use native.Mathlib.Nat.{mul-le-mul-left, mul-le-mul-right, le-div-iff-mul-le, div-add-mod', mod-lt}
 use native.Mathlib.Omega.{arith}
 use native.Mathlib.Decide.{ℕ-discrete}
@@ -12,16 +12,10 @@ use lib.Dec.{eqb}
 use lib.ListN.{getD}
 use Rattle.algebra.specs.Ops.{pick}
 use Rattle.algebra.specs.Weight.{total}
-use Rattle.algebra.proofs.Weights.{total-ext, total-split, total-blocks}
+use Rattle.algebra.proofs.Weights.{total-ext, total-most, total-split, total-blocks}
 use Rattle.code.specs.declared.Setting.{Setting}
 use Rattle.code.specs.Code.{limit}
 use Rattle.code.specs.Windows.{transmission, altered, Fits}
-
--- Terms that are at most b each.
-total-most : (n b : ℕ) (f : ℕ → ℕ) → ((i : ℕ) → i < n → f i ≤ b) → total n f ≤ b * n
-unfolding total
-total-most zero b f h = omega arith
-total-most (suc n) b f h = omega (arith, total-most n b f (λ i l. h i (omega arith)), h n (omega arith))
 
 -- The end of a stretch is part of it.
 total-end : (a b : ℕ) (f : ℕ → ℕ) → total b (λ i. f (a + i)) ≤ total (a + b) f

@@ -1,8 +1,8 @@
 -- The certainty of the first differing block, over any field and any n, k, m with (m+1)k ≤ n (demand 3; 000, Theorem 3.4).
 -- Received symbols are of any type R; `cost v a` is what receiving v costs where a was sent, and the only law used is that two different
 -- symbols cost at least 2 together. So a later meaning of cost changes no proof here.
--- Holds: `costTo`; `sent-difference` (transmissions that agree so far differ by combinations); `costs-apart`; `block-certain` (two near messages have the same block);
--- `agree-through` (near windows 0 .. j determine blocks 0 .. j).
+-- Holds: `weight-apart` (what two sequences cost together is at least twice the weight of their difference); `sent-difference` (transmissions that agree so far
+-- differ by combinations); `costs-apart`; `block-certain` (two near messages have the same block); `agree-through` (near windows 0 .. j determine blocks 0 .. j).
 use mathlib.Core.Path.{_≡_, sym, ap, ap₂, subst, _∙_}
 use mathlib.Core.Logic.{_⊎_, inl, inr}
 use mathlib.Core.Bool.{Bool, not}
@@ -22,12 +22,28 @@ use Rattle.code.specs.Code.{Code, levelDistance, distancesTo}
 use Rattle.code.specs.Generator.{rowSymbol, timesG}
 use Rattle.code.specs.Transmission.{earlier, sentSymbol}
 use Rattle.code.specs.Level.{combination}
+use Rattle.code.specs.Cost.{costTo}
 use Rattle.code.proofs.Blocks.{codeOver}
 use Rattle.code.proofs.LevelCode.{combination-weight}
 
--- What blocks b .. b+l of a frame, of n symbols each, cost for what was received.
-unfoldable pub costTo : {R F : Type 0} → ℕ → (R → F → ℕ) → (ℕ → ℕ → R) → (ℕ → ℕ → F) → ℕ → ℕ → ℕ
-costTo n cost w a b l = total (suc l) (λ s. total n (λ i. cost (w (b + s) i) (a (b + s) i)))
+module _ {F R : Type 0} (K : Field F) (cost : R → F → ℕ) (apart : (v : R) (a b : F) → (a ≡ b → ⊥) → 2 ≤ cost v a + cost v b) where
+  -- A symbol that differs costs 2 together.
+  symbol-apart : (v : R) (a b : F) → 2 * pick (not (K .ops .isZero (sub (K .ops) a b))) 1 0 ≤ cost v a + cost v b
+  symbol-apart v a b = at (K .tested (sub (K .ops) a b))
+    where
+      at : {t : Bool} → Tested (K .ops .zero) (sub (K .ops) a b) t → 2 * pick (not t) 1 0 ≤ cost v a + cost v b
+      at (is-zero z) = omega arith
+      at (non-zero h) = omega (arith, apart v a b (λ e. h (ap (λ (t : F). sub (K .ops) t b) e ∙ sub-self K b)))
+
+  -- What two sequences cost together is at least twice the weight of their difference.
+  pub weight-apart : (n : ℕ) (v : ℕ → R) (a b d : ℕ → F) → ((i : ℕ) → sub (K .ops) (a i) (b i) ≡ d i)
+      → 2 * weight (K .ops) n d ≤ total n (λ i. cost (v i) (a i)) + total n (λ i. cost (v i) (b i))
+  weight-apart n v a b d same =
+      let differ : ℕ → ℕ = λ i. pick (not (K .ops .isZero (d i))) 1 0 in
+      let symbols : total n (λ i. 2 * differ i) ≤ total n (λ i. cost (v i) (a i) + cost (v i) (b i)) =
+      total-mono n (λ i. 2 * differ i) (λ i. cost (v i) (a i) + cost (v i) (b i))
+      (λ i h. subst (λ (t : F). 2 * pick (not (K .ops .isZero t)) 1 0 ≤ cost (v i) (a i) + cost (v i) (b i)) (same i) (symbol-apart (v i) (a i) (b i))) in
+      omega (arith, total-scale n 2 differ, total-add n (λ i. cost (v i) (a i)) (λ i. cost (v i) (b i)))
 
 module _ {F : Type 0} (K : Field F) (α : F) (n k m : ℕ) where
   infixl 60 _⊕_
@@ -115,14 +131,6 @@ module _ {F : Type 0} (K : Field F) (α : F) (n k m : ℕ) where
 
   module _ (order : Order (K .ops) n α) (fits : (m + 1) * k ≤ n) {R : Type 0} (cost : R → F → ℕ)
       (apart : (v : R) (a b : F) → (a ≡ b → ⊥) → 2 ≤ cost v a + cost v b) where
-    -- A symbol that differs costs 2 together.
-    symbol-apart : (v : R) (a b : F) → 2 * pick (not (K .ops .isZero (sub (K .ops) a b))) 1 0 ≤ cost v a + cost v b
-    symbol-apart v a b = at (K .tested (sub (K .ops) a b))
-      where
-        at : {t : Bool} → Tested 𝟘 (sub (K .ops) a b) t → 2 * pick (not t) 1 0 ≤ cost v a + cost v b
-        at (is-zero z) = omega arith
-        at (non-zero h) = omega (arith, apart v a b (λ e. h (ap (λ (t : F). sub (K .ops) t b) e ∙ sub-self K b)))
-
     -- Two messages that agree before block b and differ in it: blocks b .. b+l of the two transmissions together cost at least 2 (d_0 + .. + d_l).
     pub costs-apart : (u v : ℕ → ℕ → F) (w : ℕ → ℕ → R) (b l : ℕ) → l ≤ m → ((s r : ℕ) → s < b → r < k → u s r ≡ v s r)
         → (r : ℕ) → r < k → (u b r ≡ v b r → ⊥)
@@ -152,22 +160,10 @@ module _ {F : Type 0} (K : Field F) (α : F) (n k m : ℕ) where
             let zero-le : 0 ≤ s = omega arith in
             omega (arith, combination-weight K α n k m order s difference (omega arith) 0 r zero-le inside nonzero)
 
-        symbols : (s : ℕ) → s ≤ m → 2 * weight (K .ops) n (combination c s difference)
-            ≤ total n (λ i. cost (w (b + s) i) (sentSymbol c u (b + s) i)) + total n (λ i. cost (w (b + s) i) (sentSymbol c v (b + s) i))
-        symbols s h =
-            subst (λ (t : ℕ). t ≤ total n (λ i. cost (w (b + s) i) (sentSymbol c u (b + s) i)) + total n (λ i. cost (w (b + s) i) (sentSymbol c v (b + s) i)))
-            (total-scale n 2 (λ i. pick (not (K .ops .isZero (combination c s difference i))) 1 0))
-            (subst (λ (t : ℕ). total n (λ i. 2 * pick (not (K .ops .isZero (combination c s difference i))) 1 0) ≤ t)
-            (total-add n (λ i. cost (w (b + s) i) (sentSymbol c u (b + s) i)) (λ i. cost (w (b + s) i) (sentSymbol c v (b + s) i)))
-            (total-mono n (λ i. 2 * pick (not (K .ops .isZero (combination c s difference i))) 1 0)
-            (λ i. cost (w (b + s) i) (sentSymbol c u (b + s) i) + cost (w (b + s) i) (sentSymbol c v (b + s) i))
-            (λ i q. subst (λ (t : F). 2 * pick (not (K .ops .isZero t)) 1 0 ≤ cost (w (b + s) i) (sentSymbol c u (b + s) i) + cost (w (b + s) i) (sentSymbol c v (b + s) i))
-            (sent-difference u v b s i h agree)
-            (symbol-apart (w (b + s) i) (sentSymbol c u (b + s) i) (sentSymbol c v (b + s) i)))))
-
         block : (s : ℕ) → s ≤ m → 2 * levelDistance n k s
             ≤ total n (λ i. cost (w (b + s) i) (sentSymbol c u (b + s) i)) + total n (λ i. cost (w (b + s) i) (sentSymbol c v (b + s) i))
-        block s h = omega (arith, heavy s h, symbols s h)
+        block s h =
+            omega (arith, heavy s h, weight-apart K cost apart n (w (b + s)) (sentSymbol c u (b + s)) (sentSymbol c v (b + s)) (combination c s difference) (λ i. sent-difference u v b s i h agree))
 
     -- Some symbol of two blocks differs, or none does.
     compare : (x y : ℕ → F) (p : ℕ) → ((r : ℕ) → r < p → x r ≡ y r) ⊎ ((r : ℕ) × (r < p) × (x r ≡ y r → ⊥))

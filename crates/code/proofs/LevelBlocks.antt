@@ -29,8 +29,7 @@ use Rattle.code.proofs.Blocks.{combination-vanishes}
 use Rattle.code.proofs.LevelCode.{informationOf, level-code}
 use Rattle.code.proofs.Naturality.{combination-natural}
 use Rattle.code.proofs.Settings.{soundOf}
-use Rattle.code.proofs.Numbers.{laws, positive, fieldOf, rootOf, orderAt, overField, keeps, root-number, mapped-code, lifted, combination-number}
-use Rattle.code.proofs.Reading.{number-zero}
+use Rattle.code.proofs.Numbers.{laws, positive, fieldOf, rootOf, orderAt, overField, keeps, number-zero, root-number, mapped-code, lifted, combination-number}
 
 -- The block's polynomial vanishes at α^0 .. α^(n-(l+1)k-1).
 abbrev pub Vanishes : Setting → ℕ → List ℕ → Type 0

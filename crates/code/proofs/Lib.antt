@@ -9,6 +9,7 @@ pub mod Naturality
 pub mod Lists
 pub mod Settings
 pub mod Numbers
+pub mod Cost
 pub mod Reading
 pub mod LevelBlocks
 pub mod Residuals

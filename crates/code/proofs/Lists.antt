@@ -1,13 +1,13 @@
 -- Lists as blocks: tabulated lists, symbols of a list, equal parts.
--- Holds: `length-tabulate`, `getD-tabulate`, `tabulate-ext`, `view-tabulate`, `getD-zeros`, `part-below`, `equal-part`, `part-equal`.
-use mathlib.Core.Path.{_≡_, refl, sym, ap, subst, _∙_}
-use mathlib.Core.List.{List, _∷_}
-use Prim.Native.Nat.{ℕ, zero, suc, _+_, _-_, _*_, _/_, _%_, _≤_, _<_}
+-- Holds: `length-tabulate`, `getD-tabulate`, `tabulate-ext`, `view-tabulate`, `getD-zeros`, `equal-part`, `part-equal`, `copied-whole`.
+use mathlib.Core.Path.{_≡_, refl, sym, ap, ap₂, _∙_}
+use mathlib.Core.List.{List, _∷_, _++_, append-nil}
+use Prim.Native.Nat.{ℕ, zero, suc, _+_, _*_, _/_, _%_, _≤_, _<_}
 use native.Mathlib.Omega.{arith}
 use native.Mathlib.Decide.{decLt}
 use lib.Arith.{digits-div, digits-mod, digits-lt}
-use lib.ListN.{length, getD, take, drop, replicate, length-take, length-replicate, getD-replicate, List·getD-eq-default}
-use lib.Seq.{ext-getD, getD-take, getD-drop}
+use lib.ListN.{length, getD, take, drop, replicate, drop-of-length-le, length-take, length-replicate, getD-replicate, List·getD-eq-default}
+use lib.Seq.{ext-getD, getD-take, take-length}
 use Rattle.code.specs.Transmission.{view, tabulate}
 
 pub length-tabulate : {A : Type 0} (n : ℕ) (f : ℕ → A) → length (tabulate n f) ≡ n
@@ -43,14 +43,6 @@ getD-zeros n i = at (decLt i n)
     at (yes l) = getD-replicate n i 0 0 l
     at (no d) = List·getD-eq-default (replicate n 0) 0 (omega (arith, length-replicate {A = ℕ} n 0))
 
--- Where all that stands in a list is below q, so is what stands in a part of it.
-pub part-below : (q : ℕ) (l : List ℕ) → ((i : ℕ) → getD l i 0 < q) → 0 < q → (a b i : ℕ) → getD (take a (drop b l)) i 0 < q
-part-below q l S h a b i = at (decLt i a)
-  where
-    at : Dec (i < a) → getD (take a (drop b l)) i 0 < q
-    at (yes s) = subst (λ (t : ℕ). t < q) (sym (getD-take a (drop b l) i 0 s ∙ getD-drop b l i 0)) (S (b + i))
-    at (no d) = subst (λ (t : ℕ). t < q) (sym (List·getD-eq-default (take a (drop b l)) 0 (omega (arith, length-take a (drop b l))))) h
-
 -- Lists with equal beginnings have equal symbols there..
 pub equal-part : (a b : List ℕ) (n : ℕ) → take n a ≡ take n b → (i : ℕ) → i < n → getD a i 0 ≡ getD b i 0
 equal-part a b n e i l = sym (getD-take n a i 0 l) ∙ (ap (λ (t : List ℕ). getD t i 0) e ∙ getD-take n b i 0 l)
@@ -62,3 +54,9 @@ part-equal a b n la lb h =
     let long-b : length (take n b) ≡ n = omega (arith, length-take n b) in
     ext-getD 0 (take n a) (take n b) (long-a ∙ sym long-b)
     (λ i l. let below : i < n = omega arith in getD-take n a i 0 below ∙ (h i below ∙ sym (getD-take n b i 0 below)))
+
+-- A copy into an area of the same length is the whole source.
+pub copied-whole : (source area after : List ℕ) → length area ≡ length source → after ≡ take (length source) source ++ drop (length source) area → after ≡ source
+copied-whole source area after same e =
+    let short : length area ≤ length source = omega arith in
+    e ∙ (ap₂ _++_ (take-length source) (drop-of-length-le area short) ∙ append-nil source)

@@ -1,9 +1,9 @@
 -- Two messages of one setting and length against what was received, on lists of bytes.
 -- Holds: `messages-agree` (near windows determine blocks), `block-determined` (one near window determines its first block), `alike-window`.
-use mathlib.Core.Path.{_≡_, sym, ap, ap₂, subst, _∙_}
+use mathlib.Core.Path.{_≡_, sym, ap, subst, _∙_}
 use mathlib.Core.Bool.{not}
 use mathlib.Core.List.{List}
-use Prim.Native.Nat.{ℕ, zero, suc, _+_, _-_, _*_, _/_, _%_, _≤_, _<_}
+use Prim.Native.Nat.{ℕ, _+_, _*_, _/_, _%_, _≤_, _<_}
 use native.Mathlib.Nat.{mul-le-mul-right, div-add-mod', mod-lt, div-lt-iff-lt-mul}
 use native.Mathlib.Omega.{arith}
 use lib.Arith.{digits-lt}
@@ -14,21 +14,13 @@ use Rattle.algebra.proofs.Weights.{countOf-ext}
 use Rattle.code.specs.declared.Setting.{Setting}
 use Rattle.code.specs.Code.{distancesTo, limit}
 use Rattle.code.specs.Transmission.{view, sentSymbol}
+use Rattle.code.specs.Cost.{costTo}
 use Rattle.code.specs.Windows.{transmission, windowLength, windowDistance, Message}
-use Rattle.code.proofs.Certainty.{costTo, block-certain, agree-through}
+use Rattle.code.proofs.Certainty.{block-certain, agree-through}
 use Rattle.code.proofs.Lists.{equal-part}
 use Rattle.code.specs.Settings.{Sound}
-use Rattle.code.proofs.Numbers.{fieldOf, rootOf, orderAt, overField, lifted, lifted-same, number-lifted, message-below, byteCost, bytes-apart, window-cost}
-
--- A sum of distances is not zero.
-pub distances-positive : (n k l : ℕ) → 1 ≤ distancesTo n k l
-unfolding distancesTo
-distances-positive n k zero = omega arith
-distances-positive n k (suc l) = omega arith
-
--- Twice two numbers at most (d - 1)/2, rounded down, are together less than 2d.
-within-limit : (a b d : ℕ) → 1 ≤ d → a ≤ (d - 1) / 2 → b ≤ (d - 1) / 2 → 2 * a + 2 * b < 2 * d
-within-limit a b d h la lb = omega arith
+use Rattle.code.proofs.Numbers.{fieldOf, rootOf, orderAt, overField, lifted, lifted-same, number-lifted, message-below}
+use Rattle.code.proofs.Cost.{byteCost, bytes-apart, message-cost, fits-cost}
 
 -- A place of a list of blocks of w symbols is a block and a symbol of it.
 pub place-in-blocks : (j i w : ℕ) → 1 ≤ w → i < j * w → (i / w < j) × (i % w < w) × (i / w * w + i % w ≡ i)
@@ -42,14 +34,17 @@ module _ (p : Setting) (S : Sound p) (T : ℕ) (x y : List ℕ) (X : Message p T
 
   both-near : (w : List ℕ) (j : ℕ) → j < T
       → windowDistance p w (transmission p x) j ≤ limit (p .n) (p .k) (p .m) → windowDistance p w (transmission p y) j ≤ limit (p .n) (p .k) (p .m)
-      → costTo (p .n) (byteCost p S) (view (p .n) w) (sentSymbol (overField p S) (lifted p S (view (p .k) x))) j (p .m)
-      + costTo (p .n) (byteCost p S) (view (p .n) w) (sentSymbol (overField p S) (lifted p S (view (p .k) y))) j (p .m)
+      → costTo (p .n) (byteCost (p .q)) (view (p .n) w) (sentSymbol (overField p S) (lifted p S (view (p .k) x))) j (p .m)
+      + costTo (p .n) (byteCost (p .q)) (view (p .n) w) (sentSymbol (overField p S) (lifted p S (view (p .k) y))) j (p .m)
       < 2 * distancesTo (p .n) (p .k) (p .m)
   both-near w j l near-x near-y =
-      subst (λ (t : ℕ). t < 2 * distancesTo (p .n) (p .k) (p .m))
-      (ap₂ _+_ (window-cost p S T w x X j l) (window-cost p S T w y Y j l))
-      (within-limit (windowDistance p w (transmission p x) j) (windowDistance p w (transmission p y) j) (distancesTo (p .n) (p .k) (p .m))
-      (distances-positive (p .n) (p .k) (p .m)) near-x near-y)
+      omega (
+        arith,
+        message-cost p S T w x X j,
+        message-cost p S T w y Y j,
+        fits-cost p S T w x X j l .0 near-x,
+        fits-cost p S T w y Y j l .0 near-y,
+      )
 
   -- Window j near both, and blocks before j equal: block j is equal.
   pub block-determined : (w : List ℕ) (j : ℕ) → j < T → ((i : ℕ) → i < j * p .k → getD x i 0 ≡ getD y i 0)
@@ -58,7 +53,7 @@ module _ (p : Setting) (S : Sound p) (T : ℕ) (x y : List ℕ) (X : Message p T
   block-determined w j l agree near-x near-y r h =
       let m-le : p .m ≤ p .m = omega arith in
       same-number j r
-      (block-certain (fieldOf p S) (rootOf p S) (p .n) (p .k) (p .m) (orderAt p S) (S .room) (byteCost p S) (bytes-apart p S)
+      (block-certain (fieldOf p S) (rootOf p S) (p .n) (p .k) (p .m) (orderAt p S) (S .room) (byteCost (p .q)) (bytes-apart (p .q))
       (lifted p S (view (p .k) x)) (lifted p S (view (p .k) y)) (view (p .n) w) j (p .m) m-le
       (λ s t u v. lifted-same p S (view (p .k) x) (view (p .k) y) s t (agree (s * p .k + t) (digits-lt u v)))
       (both-near w j l near-x near-y) r h)
@@ -72,7 +67,7 @@ module _ (p : Setting) (S : Sound p) (T : ℕ) (x y : List ℕ) (X : Message p T
       let at = place-in-blocks j i (p .k) (S .information) h in
       subst (λ (t : ℕ). getD x t 0 ≡ getD y t 0) (at .2)
       (same-number (i / p .k) (i % p .k)
-      (agree-through (fieldOf p S) (rootOf p S) (p .n) (p .k) (p .m) (orderAt p S) (S .room) (byteCost p S) (bytes-apart p S)
+      (agree-through (fieldOf p S) (rootOf p S) (p .n) (p .k) (p .m) (orderAt p S) (S .room) (byteCost (p .q)) (bytes-apart (p .q))
       (lifted p S (view (p .k) x)) (lifted p S (view (p .k) y)) (view (p .n) w) j
       (λ b u. both-near w b (omega arith) (near-x b u) (near-y b u)) (i / p .k) (i % p .k) (at .0) (at .1)))
 

@@ -1,22 +1,16 @@
 -- The bridge for the code: what a setting's definitions give on numbers below q is what the abstract code gives on elements.
--- Holds: `transmission-long`; `fieldOf`, `rootOf`, `orderAt`, `overField`, `root-number`, `mapped-code`, `lifted`; `sent-number`, `timesG-number`, `combination-number`, `rowSymbol-number`, `rowSymbol-below`; `transmission-view`, `transmission-length`, `sent-below`, `transmission-symbols`; `byteCost` and its law; `window-cost`.
-use mathlib.Core.Path.{_≡_, refl, sym, ap, ap₂, subst, fun-ext, _∙_}
-use mathlib.Core.Bool.{Bool, true, false, not}
+-- Holds: `transmission-long`; `fieldOf`, `rootOf`, `orderAt`, `overField`, `number-zero`, `number-sub`, `root-number`, `mapped-code`, `lifted`; `sent-number`, `timesG-number`, `combination-number`, `rowSymbol-number`, `rowSymbol-below`; `transmission-view`, `transmission-length`, `sent-below`, `transmission-symbols`.
+use mathlib.Core.Path.{_≡_, sym, ap, ap₂, subst, fun-ext, _∙_}
 use mathlib.Core.List.{List}
-use Prim.Native.Nat.{ℕ, suc, _+_, _-_, _*_, _/_, _%_, _≤_, _<_}
-use native.Mathlib.Numerals.{add-one}
+use Prim.Native.Nat.{ℕ, _+_, _-_, _*_, _/_, _%_, _<_}
 use native.Mathlib.Omega.{arith}
 use lib.Arith.{digits-div}
-use lib.Dec.{eqb}
-use lib.ListN.{length, getD}
-use borrow.Author.Tests.{eqb-true}
-use Rattle.algebra.specs.Ops.{pick}
-use Rattle.algebra.specs.Weight.{total}
+use lib.ListN.{length}
+use Rattle.algebra.specs.Ops.{sub}
 use Rattle.algebra.proofs.Laws.{Field}
 use Rattle.algebra.proofs.Order.{Order}
-use Rattle.algebra.proofs.Weights.{total-ext, total-scale, total-blocks}
 use Rattle.algebra.proofs.Naturality.{Homomorphism}
-use Rattle.algebra.proofs.Below.{Below, number, element, number-element, number-injective, fieldBelow, number-keeps, orderBelow, FieldBelow}
+use Rattle.algebra.proofs.Below.{Below, number, element, number-element, fieldBelow, number-keeps, orderBelow, FieldBelow}
 use Rattle.field.specs.Fields.{opsOf, alpha}
 use Rattle.field.specs.Symbols.{Symbols}
 use Rattle.field.proofs.Laws.{lawsOf, orderOf}
@@ -27,9 +21,8 @@ use Rattle.code.specs.Generator.{rowSymbol, timesG}
 use Rattle.code.specs.Transmission.{view, sentSymbol}
 use Rattle.code.specs.Level.{combination}
 use Rattle.code.specs.Settings.{codeOf}
-use Rattle.code.specs.Windows.{transmission, windowLength, windowDistance, Message}
+use Rattle.code.specs.Windows.{transmission, Message}
 use Rattle.code.proofs.Blocks.{codeOver}
-use Rattle.code.proofs.Certainty.{costTo}
 use Rattle.code.proofs.Naturality.{mapped, rowSymbol-natural, timesG-natural, sentSymbol-natural, combination-natural}
 use Rattle.code.proofs.Lists.{length-tabulate, getD-tabulate, view-tabulate}
 use Rattle.code.specs.Settings.{Sound}
@@ -64,6 +57,12 @@ module _ (p : Setting) (S : Sound p) where
   pub keeps : Homomorphism (fieldOf .ops) (opsOf (p .q)) number
   unfolding fieldOf
   keeps = number-keeps (p .q) (opsOf (p .q)) laws
+
+  pub number-zero : number (fieldOf .ops .zero) ≡ 0
+  number-zero = keeps .on-zero ∙ laws .zero-is
+
+  pub number-sub : (a b : Below (p .q)) → number (sub (fieldOf .ops) a b) ≡ sub (opsOf (p .q)) (number a) (number b)
+  number-sub a b = keeps .on-add a (fieldOf .ops .neg b) ∙ ap (opsOf (p .q) .add (number a)) (keeps .on-neg b)
 
   pub root-number : number rootOf ≡ alpha
   unfolding rootOf
@@ -108,19 +107,6 @@ module _ (p : Setting) (S : Sound p) where
   pub rowSymbol-below : (j r i : ℕ) → rowSymbol (codeOf p) j r i < p .q
   rowSymbol-below j r i = subst (λ (t : ℕ). t < p .q) (rowSymbol-number j r i) (rowSymbol overField j r i .1)
 
-  -- What a received byte costs where an element was sent: 2 if they differ.
-  unfoldable pub byteCost : ℕ → Below (p .q) → ℕ
-  byteCost v a = 2 * pick (not (eqb v (number a))) 1 0
-
-  pub bytes-apart : (v : ℕ) (a b : Below (p .q)) → (a ≡ b → ⊥) → 2 ≤ byteCost v a + byteCost v b
-  unfolding byteCost
-  bytes-apart v a b differ = at (eqb v (number a)) (eqb v (number b)) refl refl
-    where
-      at : (s t : Bool) → eqb v (number a) ≡ s → eqb v (number b) ≡ t → 2 ≤ 2 * pick (not s) 1 0 + 2 * pick (not t) 1 0
-      at true true e f = absurd (differ (number-injective a b (sym (eqb-true v (number a) e) ∙ eqb-true v (number b) f)))
-      at true false e f = omega arith
-      at false t e f = omega arith
-
   -- Every symbol of a message, and past its end, is below q.
   pub message-below : (T : ℕ) (x : List ℕ) → Message p T x → (s r : ℕ) → view (p .k) x s r < p .q
   message-below T x M s r = symbol-below (p .q) x (M .symbols) positive (s * p .k + r)
@@ -153,28 +139,3 @@ module _ (p : Setting) (S : Sound p) where
             (sym (getD-tabulate ((length x / p .k + p .m) * p .n) _ i 0 (omega (arith, transmission-long p x))))
             (sent-below (view (p .k) x) (message-below T x M) (i / p .n) (i % p .n));
       }
-
-  -- Twice the differences in a window are its cost.
-  pub window-cost : (T : ℕ) (w x : List ℕ) → Message p T x → (j : ℕ) → j < T
-      → 2 * windowDistance p w (transmission p x) j ≡ costTo (p .n) byteCost (view (p .n) w) (sentSymbol overField (lifted (view (p .k) x))) j (p .m)
-  unfolding costTo byteCost
-  window-cost T w x M j l =
-      sym (total-scale (windowLength p) 2 differ)
-      ∙ total-blocks (p .m + 1) (p .n) (λ i. 2 * differ i)
-      ∙ ap (λ (t : ℕ). total t (λ s. total (p .n) (λ i. 2 * differ (s * p .n + i)))) (add-one (p .m))
-      ∙ total-ext (suc (p .m)) (λ s. total (p .n) (λ i. 2 * differ (s * p .n + i))) (λ s. total (p .n) (λ i. byteCost (view (p .n) w (j + s) i) (sent (j + s) i)))
-      (λ s h. total-ext (p .n) (λ i. 2 * differ (s * p .n + i)) (λ i. byteCost (view (p .n) w (j + s) i) (sent (j + s) i))
-      (λ i u. symbol s i (omega arith) u))
-    where
-      differ : ℕ → ℕ
-      differ i = pick (not (eqb (getD w (j * p .n + i) 0) (getD (transmission p x) (j * p .n + i) 0))) 1 0
-
-      sent : ℕ → ℕ → Below (p .q)
-      sent = sentSymbol overField (lifted (view (p .k) x))
-
-      symbol : (s i : ℕ) → j + s < T + p .m → i < p .n → 2 * differ (s * p .n + i) ≡ byteCost (view (p .n) w (j + s) i) (sent (j + s) i)
-      symbol s i h u =
-          let place : j * p .n + (s * p .n + i) ≡ (j + s) * p .n + i = omega arith in
-          ap (λ (t : ℕ). 2 * pick (not (eqb (getD w t 0) (getD (transmission p x) t 0))) 1 0) place
-          ∙ ap (λ (t : ℕ). 2 * pick (not (eqb (view (p .n) w (j + s) i) t)) 1 0)
-          (transmission-view T x M (j + s) i h u ∙ sym (sent-number (view (p .k) x) (message-below T x M) (j + s) i))

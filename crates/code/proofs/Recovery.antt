@@ -5,17 +5,16 @@ use mathlib.Core.Path.{_≡_, refl, sym, ap, ap₂, subst, _∙_}
 use mathlib.Core.Bool.{Bool}
 use mathlib.Core.List.{List, _++_}
 use Prim.Native.Nat.{ℕ, zero, suc, _+_, _-_, _*_, _≤_, _<_}
-use native.Mathlib.Nat.{zero-mul as nat-zero-mul}
 use native.Mathlib.Omega.{arith}
-use native.Mathlib.Decide.{decLt, ℕ-discrete}
+use native.Mathlib.Decide.{ℕ-discrete}
 use lib.Dec.{eqb}
-use lib.ListN.{length, getD, replicate, length-replicate, List·getD-eq-default}
+use lib.ListN.{getD, replicate, length-replicate, List·getD-eq-default}
 use lib.Seq.{getD-append-add}
 use borrow.Author.Tests.{eq-eqb, ne-eqb}
 use Rattle.algebra.specs.Ops.{Ops, sub, pick}
 use Rattle.algebra.specs.Sum.{sum, power}
 use Rattle.algebra.specs.Polynomial.{value, valueOf, falling}
-use Rattle.algebra.proofs.Laws.{Field, mul-zero, mul-one, mul-comm, mul-eq-zero, add-assoc, add-left-comm, add-neg, add-zero, eq-of-sub, sub-self, ring}
+use Rattle.algebra.proofs.Laws.{Field, mul-one, mul-eq-zero, add-assoc, add-left-comm, add-neg, add-zero, eq-of-sub, sub-self, ring}
 use Rattle.algebra.proofs.Order.{Order}
 use Rattle.algebra.proofs.Sums.{sum-ext, sum-add, sum-single}
 use Rattle.algebra.proofs.Polynomials.{valueOf-ext, valueOf-sub, monic-fromRoots}
@@ -25,7 +24,7 @@ use Rattle.algebra.proofs.Synthesis.{power-back, synthesis, synthesis-low, synt
 use Rattle.code.specs.Code.{Code}
 use Rattle.code.specs.Generator.{points, base, rowSymbol, timesG}
 use Rattle.code.specs.Recovery.{ending, Recovered}
-use Rattle.code.proofs.Blocks.{codeOver, length-points, length-base, base-nonzero, base-zero, part, part-low, valueOf-timesG}
+use Rattle.code.proofs.Blocks.{codeOver, length-points, length-base, base-nonzero, part, part-low, valueOf-timesG}
 
 module _ {F : Type 0} (K : Field F) (α : F) (n k m : ℕ) where
   infixl 60 _⊕_
@@ -184,7 +183,3 @@ module _ {F : Type 0} (K : Field F) (α : F) (n k m : ℕ) where
     pub recover-part : (v : ℕ → F) → k ≤ n → (e : ℕ) → e < k → part K α n k m (recover v) (n - k + e) ≡ v e
     unfolding recover
     recover-part v fits = recovered-part v (recover v) fits (recoveredTo v k (omega arith) fits)
-
-    -- What is recovered from the part of a block's spectrum is the block.
-    pub recovered-block : (v x y : ℕ → F) → k ≤ n → Recovered c v k x → ((e : ℕ) → e < k → part K α n k m y (n - k + e) ≡ v e) → (r : ℕ) → r < k → x r ≡ y r
-    recovered-block v x y fits h same = part-injective x y fits (λ e l. recovered-part v x fits h e l ∙ sym (same e l))

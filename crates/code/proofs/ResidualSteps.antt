@@ -22,9 +22,7 @@ use Rattle.code.specs.Reading.{only, Residual}
 use Rattle.code.proofs.Certainty.{timesG-ext}
 use Rattle.code.proofs.Windows.{sent-sub, sent-zeros}
 use Rattle.code.proofs.Turns.{contribution, single, sent-single}
-use Rattle.code.proofs.Numbers.{laws, positive, fieldOf, rootOf, overField, keeps, lifted, number-lifted, sent-number, timesG-number, rowSymbol-number}
-use Rattle.code.proofs.Reading.{number-zero}
-use Rattle.code.proofs.Residuals.{number-sub}
+use Rattle.code.proofs.Numbers.{laws, positive, fieldOf, rootOf, overField, keeps, number-zero, number-sub, lifted, number-lifted, sent-number, timesG-number, rowSymbol-number}
 
 module _ (p : Setting) (S : Sound p) where
   -- The same information blocks send the same symbols, over any field: only symbols below k count.

@@ -1,12 +1,13 @@
 -- The residual of a message g in a reception, on bytes: what one window of it says of a message that fits.
--- Holds: `window-view`, `ahead`, `sub-below`, `add-back`, `add-opposite`, `ahead-below`, `number-sub`, `residual-window`.
-use mathlib.Core.Path.{_≡_, refl, sym, ap, ap₂, _∙_}
+-- Holds: `window-view`, `ahead`, `sub-below`, `add-back`, `add-opposite`, `ahead-below`; `residual-window`, `residual-zero`.
+use mathlib.Core.Path.{_≡_, refl, sym, ap, ap₂, fun-ext, _∙_}
 use mathlib.Core.List.{List}
-use Prim.Native.Nat.{ℕ, zero, suc, _+_, _-_, _*_, _≤_, _<_}
+use Prim.Native.Nat.{ℕ, zero, suc, _+_, _*_, _≤_, _<_}
+use native.Mathlib.Nat.{mul-le-mul-right}
 use native.Mathlib.Omega.{arith}
 use lib.Arith.{digits-lt}
-use lib.ListN.{getD, take, drop}
-use lib.Seq.{getD-take, getD-drop}
+use lib.ListN.{length, getD, take, drop, length-drop}
+use lib.Seq.{length-take-le, getD-take, getD-drop}
 use Rattle.algebra.specs.Ops.{sub}
 use Rattle.algebra.proofs.Laws.{sub-self, add-of-sub, neg-unique, neg-mul}
 use Rattle.algebra.proofs.Weights.{total-ext}
@@ -16,14 +17,14 @@ use Rattle.field.proofs.Symbols.{symbol-below}
 use Rattle.code.specs.declared.Setting.{Setting}
 use Rattle.code.specs.Transmission.{view, sentSymbol}
 use Rattle.code.specs.Level.{combination}
-use Rattle.code.specs.Settings.{Sound}
-use Rattle.code.specs.Windows.{transmission, windowLength, windowDistance, Message}
-use Rattle.code.specs.Reading.{Below, rebuiltDistance, Residual}
-use Rattle.code.proofs.Certainty.{costTo}
-use Rattle.code.proofs.Windows.{blockCost, rebuiltCost, sent-sub, sent-ahead, combination-ext}
-use Rattle.code.proofs.Lists.{part-below}
-use Rattle.code.proofs.Numbers.{laws, positive, fieldOf, rootOf, overField, keeps, lifted, number-lifted, sent-number, message-below, byteCost, window-cost}
-use Rattle.code.proofs.Reading.{number-zero, elementCost, element-shift, rebuilt-cost}
+use Rattle.code.specs.Cost.{symbolCost, costTo, blockCost, rebuiltCost}
+use Rattle.code.specs.Settings.{codeOf, Sound}
+use Rattle.code.specs.Windows.{windowLength, Message}
+use Rattle.code.specs.Reading.{Below, windowCost, zeroCost, messageCost, Residual}
+use Rattle.code.proofs.Windows.{sent-sub, sent-ahead, combination-ext}
+use Rattle.code.proofs.Numbers.{laws, positive, fieldOf, rootOf, overField, keeps, number-zero, number-sub, lifted, number-lifted, sent-number, combination-number, message-below, sent-below}
+use Rattle.code.proofs.Cost.{cost-shift}
+use Rattle.code.proofs.Reading.{zero-cost}
 
 -- Symbol i of block s of window j of a list of blocks.
 pub window-view : (n m : ℕ) (left : List ℕ) (j s i : ℕ) → s ≤ m → i < n
@@ -39,10 +40,6 @@ abbrev pub ahead : Setting → List ℕ → List ℕ → ℕ → ℕ → ℕ →
 ahead p x g j s r = sub (opsOf (p .q)) (view (p .k) x (j + s) r) (view (p .k) g (j + s) r)
 
 module _ (p : Setting) (S : Sound p) where
-  pub number-sub : (a b : Element (p .q)) → number (sub (fieldOf p S .ops) a b) ≡ sub (opsOf (p .q)) (number a) (number b)
-  number-sub a b =
-      keeps p S .on-add a (fieldOf p S .ops .neg b) ∙ ap (opsOf (p .q) .add (number a)) (keeps p S .on-neg b)
-
   pub sub-below : (a b : ℕ) → a < p .q → b < p .q → sub (opsOf (p .q)) a b < p .q
   sub-below a b la lb = laws p S .add-below a (opsOf (p .q) .neg b) la (laws p S .neg-below b lb)
 
@@ -58,7 +55,7 @@ module _ (p : Setting) (S : Sound p) where
   -- b + (a - b) = a
   pub add-back : (a b : ℕ) → a < p .q → b < p .q → opsOf (p .q) .add b (sub (opsOf (p .q)) a b) ≡ a
   add-back a b la lb =
-      sym (ap₂ (opsOf (p .q) .add) same-b (number-sub a' b' ∙ ap₂ (sub (opsOf (p .q))) same-a same-b))
+      sym (ap₂ (opsOf (p .q) .add) same-b (number-sub p S a' b' ∙ ap₂ (sub (opsOf (p .q))) same-a same-b))
       ∙ sym (keeps p S .on-add b' (sub (fieldOf p S .ops) a' b'))
       ∙ ap number (sym (add-of-sub (fieldOf p S) a' b' (sub (fieldOf p S .ops) a' b') refl))
       ∙ same-a
@@ -79,37 +76,25 @@ module _ (p : Setting) (S : Sound p) where
   ahead-below x g j X G s r = sub-below _ _ (X ((j + s) * p .k + r)) (G ((j + s) * p .k + r))
 
   module _ (T : ℕ) (reception g left : List ℕ) (R : (i : ℕ) → getD reception i 0 < p .q) (G : (i : ℕ) → getD g i 0 < p .q)
-      (W : (i : ℕ) → getD left i 0 < p .q) (residual : Residual p T reception g left) where
-    w' : ℕ → ℕ → Element (p .q)
-    w' = lifted p S (view (p .n) reception)
-
-    g' : ℕ → ℕ → Element (p .q)
-    g' = lifted p S (view (p .k) g)
-
-    left-element : (s i : ℕ) → s < T + p .m → i < p .n
-        → lifted p S (view (p .n) left) s i ≡ sub (fieldOf p S .ops) (w' s i) (sentSymbol (overField p S) g' s i)
-    unfolding w' g'
-    left-element s i l h =
-        number-injective _ _
-        (number-lifted p S (view (p .n) left) s i (W (s * p .n + i)) ∙ residual .symbol s i l h
-        ∙ sym (number-sub (w' s i) (sentSymbol (overField p S) g' s i)
-        ∙ ap₂ (sub (opsOf (p .q))) (number-lifted p S (view (p .n) reception) s i (R (s * p .n + i))) (sent-number p S (view (p .k) g) (λ b r. G (b * p .k + r)) s i)))
-
+      (residual : Residual p T reception g left) where
     module _ (x : List ℕ) (X : Message p T x) (j : ℕ) (l : j < T) (agree : (i : ℕ) → i < j * p .k → getD x i 0 ≡ getD g i 0) where
       x' : ℕ → ℕ → Element (p .q)
       x' = lifted p S (view (p .k) x)
+
+      g' : ℕ → ℕ → Element (p .q)
+      g' = lifted p S (view (p .k) g)
+
+      ahead-small : Below (p .q) (ahead p x g j)
+      ahead-small = ahead-below x g j (symbol-below (p .q) x (X .symbols) (positive p S)) G
 
       ahead-element : (s r : ℕ) → lifted p S (ahead p x g j) s r ≡ sub (fieldOf p S .ops) (x' (j + s) r) (g' (j + s) r)
       unfolding x' g'
       ahead-element s r =
           number-injective _ _
-          (number-lifted p S (ahead p x g j) s r (ahead-below x g j (λ i. message-place i) G s r)
-          ∙ sym (number-sub (x' (j + s) r) (g' (j + s) r)
+          (number-lifted p S (ahead p x g j) s r (ahead-small s r)
+          ∙ sym (number-sub p S (x' (j + s) r) (g' (j + s) r)
           ∙ ap₂ (sub (opsOf (p .q))) (number-lifted p S (view (p .k) x) (j + s) r (message-below p S T x X (j + s) r))
           (number-lifted p S (view (p .k) g) (j + s) r (G ((j + s) * p .k + r)))))
-        where
-          message-place : (i : ℕ) → getD x i 0 < p .q
-          message-place i = symbol-below (p .q) x (X .symbols) (positive p S) i
 
       before : (s r : ℕ) → s < j → r < p .k → sub (fieldOf p S .ops) (x' s r) (g' s r) ≡ fieldOf p S .ops .zero
       unfolding x' g' lifted
@@ -117,37 +102,37 @@ module _ (p : Setting) (S : Sound p) where
           ap (λ (t : ℕ). sub (fieldOf p S .ops) (element (p .q) (positive p S) t) (g' s r)) (agree (s * p .k + r) (digits-lt u v))
           ∙ sub-self (fieldOf p S) (g' s r)
 
-      symbol-cost : (s i : ℕ) → s ≤ p .m → i < p .n
-          → elementCost p S (lifted p S (view (p .n) (take (windowLength p) (drop (j * p .n) left))) s i) (combination (overField p S) s (lifted p S (ahead p x g j)) i)
-          ≡ elementCost p S (w' (j + s) i) (sentSymbol (overField p S) x' (j + s) i)
-      unfolding lifted
-      symbol-cost s i low h =
-          ap₂ (elementCost p S)
-          (ap (element (p .q) (positive p S)) (window-view (p .n) (p .m) left j s i low h) ∙ left-element (j + s) i (omega arith) h)
-          (combination-ext (fieldOf p S) (rootOf p S) (p .n) (p .k) (p .m) s (lifted p S (ahead p x g j)) (λ t r. sub (fieldOf p S .ops) (x' (j + t) r) (g' (j + t) r)) i
+      -- What x has beyond g combines to what x sends less what g sends.
+      ahead-sent : (s i : ℕ) → s ≤ p .m
+          → combination (codeOf p) s (ahead p x g j) i ≡ sub (opsOf (p .q)) (sentSymbol (codeOf p) (view (p .k) x) (j + s) i) (sentSymbol (codeOf p) (view (p .k) g) (j + s) i)
+      unfolding x' g'
+      ahead-sent s i low =
+          sym (combination-number p S (ahead p x g j) ahead-small s i)
+          ∙ ap number (combination-ext (fieldOf p S) (rootOf p S) (p .n) (p .k) (p .m) s (lifted p S (ahead p x g j)) (λ t r. sub (fieldOf p S .ops) (x' (j + t) r) (g' (j + t) r)) i
           (λ t r u v. ahead-element t r)
           ∙ sym (sent-ahead (fieldOf p S) (rootOf p S) (p .n) (p .k) (p .m) (λ t r. sub (fieldOf p S .ops) (x' t r) (g' t r)) j s i low before)
           ∙ sym (sent-sub (fieldOf p S) (rootOf p S) (p .n) (p .k) (p .m) x' g' (j + s) i))
-          ∙ element-shift p S (w' (j + s) i) (sentSymbol (overField p S) x' (j + s) i) (sentSymbol (overField p S) g' (j + s) i)
+          ∙ number-sub p S (sentSymbol (overField p S) x' (j + s) i) (sentSymbol (overField p S) g' (j + s) i)
+          ∙ ap₂ (sub (opsOf (p .q))) (sent-number p S (view (p .k) x) (message-below p S T x X) (j + s) i) (sent-number p S (view (p .k) g) (λ b r. G (b * p .k + r)) (j + s) i)
 
-      -- Window j of the residual is as far from what x has beyond g as the reception is from the transmission of x in window j.
-      pub residual-window : rebuiltDistance p (take (windowLength p) (drop (j * p .n) left)) (p .m) (ahead p x g j) ≡ windowDistance p reception (transmission p x) j
-      unfolding rebuiltCost blockCost costTo elementCost w' x'
-      residual-window = omega (arith, twice)
-        where
-          window : List ℕ
-          window = take (windowLength p) (drop (j * p .n) left)
+      -- Window j of the residual costs against what x has beyond g what window j of the reception costs where x was sent.
+      pub residual-window : windowCost p (take (windowLength p) (drop (j * p .n) left)) (p .m) (ahead p x g j) ≡ messageCost p reception x j
+      unfolding rebuiltCost blockCost costTo
+      residual-window =
+          total-ext (suc (p .m)) _ _ (λ s h. total-ext (p .n) _ _ (λ i u.
+          ap₂ (symbolCost (p .q)) (window-view (p .n) (p .m) left j s i (omega arith) u ∙ residual .symbol (j + s) i (omega arith) u) (ahead-sent s i (omega arith))
+          ∙ cost-shift p S (view (p .n) reception (j + s) i) (sentSymbol (codeOf p) (view (p .k) x) (j + s) i) (sentSymbol (codeOf p) (view (p .k) g) (j + s) i)
+          (R ((j + s) * p .n + i)) (sent-below p S (view (p .k) x) (message-below p S T x X) (j + s) i) (sent-below p S (view (p .k) g) (λ b r. G (b * p .k + r)) (j + s) i)))
 
-          window-below : (i : ℕ) → getD window i 0 < p .q
-          window-below i = part-below (p .q) left W (positive p S) (windowLength p) (j * p .n) i
-
-          twice : 2 * rebuiltDistance p window (p .m) (ahead p x g j) ≡ 2 * windowDistance p reception (transmission p x) j
-          twice =
-              rebuilt-cost p S window window-below (ahead p x g j) (ahead-below x g j (λ i. symbol-below (p .q) x (X .symbols) (positive p S) i) G) (p .m)
-              ∙ total-ext (suc (p .m)) _ _ (λ s h. total-ext (p .n) _ _ (λ i u.
-              let same : 0 + s ≡ s = omega arith in
-              ap (λ (a : ℕ). elementCost p S (lifted p S (view (p .n) window) a i) (combination (overField p S) s (lifted p S (ahead p x g j)) i)) same
-              ∙ symbol-cost s i (omega arith) u
-              ∙ ap (λ (v : ℕ). byteCost p S v (sentSymbol (overField p S) x' (j + s) i))
-              (number-lifted p S (view (p .n) reception) (j + s) i (R ((j + s) * p .n + i)))))
-              ∙ sym (window-cost p S T reception x X j l)
+    -- Its cost against zeros is the cost where g itself was sent.
+    pub residual-zero : Message p T g → length left ≡ (T + p .m) * p .n → (j : ℕ) → j < T
+        → zeroCost (p .q) (take (windowLength p) (drop (j * p .n) left)) ≡ messageCost p reception g j
+    residual-zero M long j l =
+        let top : j + (p .m + 1) ≤ T + p .m = omega arith in
+        zero-cost p S (take (windowLength p) (drop (j * p .n) left))
+        (length-take-le (windowLength p) (drop (j * p .n) left) (omega (arith, length-drop (j * p .n) left, mul-le-mul-right (p .n) top)))
+        ∙ ap (windowCost p (take (windowLength p) (drop (j * p .n) left)) (p .m)) (sym (fun-ext (λ s. fun-ext (λ r. nothing ((j + s) * p .k + r)))))
+        ∙ residual-window g M j l (λ i u. refl)
+      where
+        nothing : (i : ℕ) → sub (opsOf (p .q)) (getD g i 0) (getD g i 0) ≡ 0
+        nothing i = sym (number-sub p S (getD g i 0, G i) (getD g i 0, G i)) ∙ ap number (sub-self (fieldOf p S) (getD g i 0, G i)) ∙ number-zero p S

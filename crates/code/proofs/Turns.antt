@@ -1,9 +1,11 @@
 -- One turn of reading, at a window by itself, over any field and any n, k, m with (m+1)k ≤ n (01, "Reading a reception"; 000, Theorem 3.4).
--- The window's blocks are w 0 .. w m; a message block sequence y contributes the combinations of y_0 .. y_l to block l (`rebuiltCost`).
--- Holds: `turn-zero`, `turn-certain`, `turn-refused`; `sent-single` (what one information block contributes to a frame).
-use mathlib.Core.Path.{_≡_, refl, sym, ap, ap₂, subst, _∙_}
+-- The window's blocks are w 0 .. w m, of received symbols of any type R; a message block sequence y contributes the combinations of y_0 .. y_l to
+-- block l (`rebuiltCost`).
+-- Holds: `sent-single` (what one information block contributes to a frame); `turn-certain` (two near sequences begin alike), `turn-refused`.
+use mathlib.Core.Path.{_≡_, refl, sym, ap, ap₂, _∙_}
 use mathlib.Core.Bool.{Bool}
 use Prim.Native.Nat.{ℕ, zero, suc, _+_, _-_, _*_, _≤_, _<_}
+use native.Mathlib.Nat.{zero-add}
 use native.Mathlib.Omega.{arith}
 use native.Mathlib.Decide.{decLe}
 use lib.Dec.{leb, eqb}
@@ -17,9 +19,10 @@ use Rattle.algebra.proofs.Weights.{total-ext}
 use Rattle.code.specs.Code.{Code, levelDistance, distancesTo}
 use Rattle.code.specs.Generator.{timesG}
 use Rattle.code.specs.Transmission.{earlier, sentSymbol}
+use Rattle.code.specs.Cost.{costTo, blockCost, rebuiltCost}
 use Rattle.code.proofs.Blocks.{codeOver}
-use Rattle.code.proofs.Certainty.{timesG-zeros, timesG-ext, costTo}
-use Rattle.code.proofs.Windows.{blockCost, rebuiltCost, sent-ahead, combination-ext, zero-window, candidate-right, refused-costs}
+use Rattle.code.proofs.Certainty.{timesG-zeros, timesG-ext, block-certain}
+use Rattle.code.proofs.Windows.{sent-ahead, combination-ext, combination-certain}
 
 module _ {F : Type 0} (K : Field F) (α : F) (n k m : ℕ) where
   open Ops (K .ops) using (zero as 𝟘)
@@ -82,40 +85,33 @@ module _ {F : Type 0} (K : Field F) (α : F) (n k m : ℕ) where
           let past : s < b = omega arith in
           zeros (λ j u v e. omega arith) ∙ sym (ap (λ (t : Bool). pick t (pick (leb (s - b) m) (timesG c x (s - b) i) 𝟘) 𝟘) (lt-leb b s past))
 
-  -- A message's blocks from the first on cost what its combinations cost.
-  sent-cost : (cost : F → F → ℕ) (w y : ℕ → ℕ → F) (l : ℕ) → l ≤ m → costTo n cost w (sentSymbol c y) 0 l ≡ rebuiltCost c cost w 0 y l
-  unfolding costTo rebuiltCost blockCost
-  sent-cost cost w y l low =
-      total-ext (suc l) _ _ (λ s h. total-ext n _ _ (λ i q. ap (cost (w (0 + s) i))
-      (sent-ahead K α n k m y 0 s i (omega arith) (λ t r u v. absurd (omega arith))
-      ∙ combination-ext K α n k m s (λ t r. y (0 + t) r) y i (λ t r u v. let same : 0 + t ≡ t = omega arith in ap (λ (a : ℕ). y a r) same))))
-
-  module _ (cost : F → F → ℕ) (order : Order (K .ops) n α) (fits : (m + 1) * k ≤ n) (apart : (v a b : F) → (a ≡ b → ⊥) → 2 ≤ cost v a + cost v b) (w : ℕ → ℕ → F) where
-    -- A window near zero: every near y has a zero first block.
-    pub turn-zero : (y : ℕ → ℕ → F) → rebuiltCost c cost w 0 y m < distancesTo n k m → costTo n cost w (λ s i. 𝟘) 0 m < distancesTo n k m
-        → (r : ℕ) → r < k → y 0 r ≡ 𝟘
-    turn-zero y near clean =
-        let m-le : m ≤ m = omega arith in
-        zero-window K α n k m cost order fits apart w y 0 (λ s r u v. absurd (omega arith))
-        (subst (λ (t : ℕ). t < distancesTo n k m) (sym (sent-cost cost w y m m-le)) near) clean
+  module _ (order : Order (K .ops) n α) (fits : (m + 1) * k ≤ n) {R : Type 0} (cost : R → F → ℕ)
+      (apart : (v : R) (a b : F) → (a ≡ b → ⊥) → 2 ≤ cost v a + cost v b) (w : ℕ → ℕ → R) where
+    -- A message's blocks from the first on cost what its combinations cost.
+    sent-cost : (y : ℕ → ℕ → F) (l : ℕ) → l ≤ m → costTo n cost w (sentSymbol c y) 0 l ≡ rebuiltCost c cost w l y
+    unfolding costTo rebuiltCost blockCost
+    sent-cost y l low =
+        total-ext (suc l) _ _ (λ s h. total-ext n _ _ (λ i q. ap₂ cost (ap (λ (b : ℕ). w b i) (zero-add s))
+        (sent-ahead K α n k m y 0 s i (omega arith) (λ t r u v. absurd (omega arith))
+        ∙ combination-ext K α n k m s (λ t r. y (0 + t) r) y i (λ t r u v. ap (λ (b : ℕ). y b r) (zero-add t)))))
 
     -- Two near sequences have the same first block.
-    pub turn-certain : (y z : ℕ → ℕ → F) (l : ℕ) → l ≤ m → rebuiltCost c cost w 0 y l < distancesTo n k l → rebuiltCost c cost w 0 z l < distancesTo n k l
+    pub turn-certain : (y z : ℕ → ℕ → F) (l : ℕ) → l ≤ m → rebuiltCost c cost w l y < distancesTo n k l → rebuiltCost c cost w l z < distancesTo n k l
         → (r : ℕ) → r < k → y 0 r ≡ z 0 r
     turn-certain y z l low near good =
-        candidate-right K α n k m cost order fits apart w y z 0 l low (λ s r u v. absurd (omega arith))
-        (subst (λ (t : ℕ). t < distancesTo n k l) (sym (sent-cost cost w y l low)) near) good
+        block-certain K α n k m order fits cost apart y z w 0 l low (λ s r u v. absurd (omega arith)) (omega (arith, sent-cost y l low, sent-cost z l low))
 
-    -- A candidate of level l that is refused: block l of every near sequence costs at least d_l.
-    pub turn-refused : (y z : ℕ → ℕ → F) (l : ℕ) → l ≤ m → rebuiltCost c cost w 0 y l < distancesTo n k l → blockCost c cost (w l) l z < levelDistance n k l
-        → distancesTo n k l ≤ rebuiltCost c cost w 0 z l → levelDistance n k l ≤ blockCost c cost (w l) l y
-    unfolding blockCost
-    turn-refused y z l low near close bad =
-        let same : 0 + l ≡ l = omega arith in
-        subst (λ (t : ℕ). levelDistance n k l ≤ t)
-        (total-ext n _ _ (λ i q. ap₂ cost (ap (λ (a : ℕ). w a i) same)
-        (sent-ahead K α n k m y 0 l i low (λ t r u v. absurd (omega arith))
-        ∙ combination-ext K α n k m l (λ t r. y (0 + t) r) y i (λ t r u v. let place : 0 + t ≡ t = omega arith in ap (λ (a : ℕ). y a r) place))))
-        (refused-costs K α n k m cost order fits apart w y z 0 l low (λ s r u v. absurd (omega arith))
-        (subst (λ (t : ℕ). t < distancesTo n k l) (sym (sent-cost cost w y l low)) near)
-        (subst (λ (a : ℕ). blockCost c cost (w a) l z < levelDistance n k l) (sym same) close) bad)
+    -- A candidate z of level l that is refused: block l of every near sequence costs at least d_l.
+    pub turn-refused : (y z : ℕ → ℕ → F) (l : ℕ) → l ≤ m → rebuiltCost c cost w l y < distancesTo n k l → blockCost c cost (w l) l z < levelDistance n k l
+        → distancesTo n k l ≤ rebuiltCost c cost w l z → levelDistance n k l ≤ blockCost c cost (w l) l y
+    unfolding rebuiltCost blockCost
+    turn-refused y z l low near close bad = at (decLe (levelDistance n k l) (blockCost c cost (w l) l y))
+      where
+        same : blockCost c cost (w l) l y < levelDistance n k l → rebuiltCost c cost w l y ≡ rebuiltCost c cost w l z
+        same small =
+            total-ext (suc l) _ _ (λ s h. total-ext n _ _ (λ i q. ap (cost (w s i)) (combination-ext K α n k m s y z i
+            (λ t r u v. combination-certain K α n k m order fits cost apart (w l) l y z low small close t r (omega arith) v))))
+
+        at : Dec (levelDistance n k l ≤ blockCost c cost (w l) l y) → levelDistance n k l ≤ blockCost c cost (w l) l y
+        at (yes h) = h
+        at (no d) = absurd (omega (arith, same (omega arith)))

@@ -1,35 +1,37 @@
 -- Reading a window and a reception on lists of bytes (01, "Reading a reception").
--- Holds: `Below`, `blockDistance`, `rebuiltDistance`, `windowWeight`, `only`, `Residual`.
+-- Holds: `Below`; the costs `levelCost`, `windowCost`, `zeroCost`, `messageCost`; `only`, `Residual`.
 use mathlib.Core.Path.{_≡_}
-use mathlib.Core.Bool.{not}
 use mathlib.Core.List.{List}
-use Prim.Native.Nat.{ℕ, suc, _+_, _<_}
+use Prim.Native.Nat.{ℕ, _+_, _<_}
 use lib.Dec.{eqb}
-use lib.ListN.{getD}
+use lib.ListN.{length, getD}
 use Rattle.algebra.specs.Ops.{sub, pick}
-use Rattle.algebra.specs.Weight.{total, countOf, distance}
+use Rattle.algebra.specs.Weight.{total}
 use Rattle.field.specs.Fields.{opsOf}
 use Rattle.code.specs.declared.Setting.{Setting}
 use Rattle.code.specs.Transmission.{view, sentSymbol}
-use Rattle.code.specs.Level.{combination}
 use Rattle.code.specs.Settings.{codeOf}
-use Rattle.code.specs.Windows.{windowLength}
+use Rattle.code.specs.Cost.{symbolCost, costTo, blockCost, rebuiltCost}
 
 -- A sequence of information blocks has symbols below q.
 abbrev pub Below : ℕ → (ℕ → ℕ → ℕ) → Type 0
 Below q y = (s r : ℕ) → y s r < q
 
--- In how many symbols a block differs from the level-l combination of y.
-abbrev pub blockDistance : Setting → (ℕ → ℕ) → ℕ → (ℕ → ℕ → ℕ) → ℕ
-blockDistance p block l y = distance (p .n) block (combination (codeOf p) l y)
+-- What a block costs against the level-l combination of y.
+abbrev pub levelCost : Setting → (ℕ → ℕ) → ℕ → (ℕ → ℕ → ℕ) → ℕ
+levelCost p block l y = blockCost (codeOf p) (symbolCost (p .q)) block l y
 
--- In how many symbols blocks 0 .. l of a window differ from the blocks rebuilt from y.
-unfoldable pub rebuiltDistance : Setting → List ℕ → ℕ → (ℕ → ℕ → ℕ) → ℕ
-rebuiltDistance p window l y = total (suc l) (λ s. blockDistance p (view (p .n) window s) s y)
+-- What blocks 0 .. l of a window cost against the blocks rebuilt from y.
+abbrev pub windowCost : Setting → List ℕ → ℕ → (ℕ → ℕ → ℕ) → ℕ
+windowCost p window l y = rebuiltCost (codeOf p) (symbolCost (p .q)) (view (p .n) window) l y
 
--- How many symbols of a window are not zero.
-abbrev pub windowWeight : Setting → List ℕ → ℕ
-windowWeight p window = countOf (windowLength p) (λ i. not (eqb (getD window i 0) 0))
+-- What symbols cost against zeros, in the field with q elements.
+abbrev pub zeroCost : ℕ → List ℕ → ℕ
+zeroCost q symbols = total (length symbols) (λ i. symbolCost q (getD symbols i 0) 0)
+
+-- What window j of a reception costs where a message was sent.
+abbrev pub messageCost : Setting → List ℕ → List ℕ → ℕ → ℕ
+messageCost p reception message j = costTo (p .n) (symbolCost (p .q)) (view (p .n) reception) (sentSymbol (codeOf p) (view (p .k) message)) j (p .m)
 
 -- The information block with the one symbol v, at place r.
 abbrev pub only : ℕ → ℕ → ℕ → ℕ

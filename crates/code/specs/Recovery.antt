@@ -3,7 +3,6 @@
 -- Holds: `ending`, `Recovered`.
 use mathlib.Core.Path.{_≡_}
 use Prim.Native.Nat.{ℕ, suc, _-_, _<_}
-use Rattle.algebra.specs.Ops.{Ops}
 use Rattle.algebra.specs.Sum.{power}
 use Rattle.algebra.specs.Polynomial.{falling}
 use Rattle.code.specs.Code.{Code}

@@ -1,9 +1,9 @@
 -- The three settings (01, "Two fields and three settings"), chosen by number, and the code of each.
--- Holds: `settings`, `isSetting`, `settingOf`, `codeOf`, `Sound`; 01's table of distances, computed.
+-- Holds: `settings`, `isSetting`, `settingOf`, `codeOf`, `Sound`, `largest`; 01's table of distances, computed.
 use mathlib.Core.Path.{_≡_, refl}
 use mathlib.Core.Bool.{Bool, _&&_}
 use mathlib.Core.List.{List, [], _∷_, _++_, map}
-use Prim.Native.Nat.{ℕ, _+_, _-_, _*_, _≤_}
+use Prim.Native.Nat.{ℕ, _+_, _-_, _*_, _≤_, max}
 use lib.Dec.{leb}
 use lib.ListN.{length, getD}
 use Rattle.field.specs.Fields.{Good, opsOf, alpha}
@@ -38,6 +38,11 @@ pub record Sound (p : Setting) : Type 0 where
   pub block : p .n ≡ p .q - 1
   pub information : 1 ≤ p .k
   pub room : (p .m + 1) * p .k ≤ p .n
+
+-- The largest of a figure of the settings: what has room for that has room for each.
+abbrev pub largest : (Setting → ℕ) → List Setting → ℕ
+largest figure [] = 0
+largest figure (p ∷ rest) = max (figure p) (largest figure rest)
 
 -- d_0, .., d_m, d and t.
 abbrev pub distancesOf : Setting → List ℕ

@@ -17,7 +17,7 @@ use borrow.Rule.Slice.PartMut.{putMid}
 use Rattle.bytes.specs.Bytes.{indexAfter, indexOf, slice}
 use Rattle.algebra.specs.Ops.{pick}
 use Rattle.line.specs.Questions.{mostCharacters}
-use Rattle.line.specs.Answering.{Answers, Answered}
+use Rattle.line.specs.Answering.{mostAnswer, Answers, AnswerShown}
 use Rattle.line.proofs.Frames.{answers-most, answers-kept}
 use Rattle.desk.specs.Texts.{newline, linesOf, restOf, lastOf, allLines, Output, none, next}
 use Rattle.desk.specs.Reading.{answerRoom, Holds, Behind, Reached}
@@ -129,7 +129,7 @@ held-copied begun part area copied source over held k r from-part is same r-is r
     ∙ (copied-front held k area source over (H .within) ∙ ap (λ (l : List ℕ). take held area ++ l) from-part))
 
 -- An answer and its newline behind the output that waits, as the line's answer and a store leave it.
-pub put-behind : (line before over shown : List ℕ) (filled k r : ℕ) → filled + answerRoom ≤ length before → length over ≡ length before - filled → Answered line over r shown
+pub put-behind : (line before over shown : List ℕ) (filled k r : ℕ) → filled + answerRoom ≤ length before → length over ≡ length before - filled → AnswerShown line over r shown
     → filled + r < length (putMid filled k before shown) → Behind line before filled (set (putMid filled k before shown) (filled + r) newline) (filled + r + 1)
 put-behind line before over shown filled k r room fits A inside =
     record {
@@ -148,7 +148,7 @@ put-behind line before over shown filled k r room fits A inside =
     front : List ℕ
     front = take filled before ++ A .text
 
-    most : length (A .text) ≤ 1546
+    most : length (A .text) ≤ mostAnswer
     most = answers-most line (A .text) (A .answers)
 
     has-room : leb (length (A .text)) (length over) ≡ true

@@ -1,16 +1,16 @@
 -- What the desk's functions promise one another. Holds: `answerRoom`, `Within`, `Room`; `Holds`, `Behind`, `Reached`; `Stepped`, `LinesRead`.
 use mathlib.Core.Path.{_≡_}
 use mathlib.Core.List.{List, [], _∷_, _++_}
-use Prim.Native.Nat.{ℕ, _≤_, _<_}
+use Prim.Native.Nat.{ℕ, _+_, _≤_, _<_}
 use lib.ListN.{length, take}
 use Rattle.line.specs.Questions.{mostCharacters}
-use Rattle.line.specs.Answering.{Answers}
+use Rattle.line.specs.Answering.{mostAnswer, Answers, Working, RoomForAll}
 use Rattle.desk.specs.declared.lines.Progress.{Progress}
 use Rattle.desk.specs.Texts.{newline, linesOf, restOf, Output}
 
--- The longest answer, 10 + 512 × 3 characters, with its newline.
+-- The longest answer, with its newline.
 abbrev pub answerRoom : ℕ
-answerRoom = 1547
+answerRoom = mostAnswer + 1
 
 -- The place, the characters kept and the output that waits are within areas of these lengths.
 pub record Within (buffer line output : ℕ) (p : Progress) : Type 0 where
@@ -18,9 +18,10 @@ pub record Within (buffer line output : ℕ) (p : Progress) : Type 0 where
   pub characters : p .held ≤ line
   pub waiting : p .filled ≤ output
 
--- A line one character too long has room, and so has an answer.
-pub record Room (line output : List ℕ) : Type 0 where
+-- A line one character too long has room, and so have the frame of every line and an answer.
+pub record Room (line : List ℕ) (w : Working) (output : List ℕ) : Type 0 where
   pub characters : mostCharacters < length line
+  pub frame : RoomForAll w
   pub answer : answerRoom ≤ length output
 
 -- The area keeps the first characters of the line that is begun: all, or as many as it has room for.

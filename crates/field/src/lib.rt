@@ -1,6 +1,8 @@
 // The fields of 01 with q elements, q chosen at run time: five or eight. A symbol is a `u8` below q.
 // Products are read from the field's table, which the outermost call makes once and lends down.
+ghost use mathlib.Core.Path.{_≡_};
 ghost use Prim.Native.Nat.{_<_};
+ghost use lib.ListN.{length, replicate};
 ghost use Rattle.algebra.specs.Ops.{sub};
 ghost use Rattle.algebra.specs.Polynomial as polynomial;
 ghost use Rattle.field.specs.Fields.{Good, opsOf};
@@ -122,4 +124,15 @@ pub fn value(q: usize, tables: &Tables, c: &[u8], x: u8) -> u8
     let first = c[0];
     let rest = value(q, tables, &c[1..], x);
     add_product(q, tables, first, x, rest)
+}
+
+// Zeros in every place.
+pub fn clear(area: &mut [u8])
+    ensures { λ _. ⌜ now (area .exit) ≡ replicate (length (now (area .entry))) 0 ⌝ }
+{
+    let mut i: usize = 0;
+    while i < area.len() {
+        area[i] = 0;
+        i += 1;
+    }
 }

@@ -1,5 +1,5 @@
 -- One turn at the frame: from what window j says to the progress of the frame.
--- Holds: `advance-none`, `advance-found`; `advance-more`, `advance-stopped`, `stopped-none`.
+-- Holds: `advance-none`, `advance-clean`, `advance-found`; `advance-more`, `advance-stopped`, `stopped-none`.
 use mathlib.Core.Path.{_≡_, refl, sym, ap, subst}
 use mathlib.Core.Bool.{Bool, true, false, not}
 use mathlib.Core.List.{List}
@@ -9,11 +9,14 @@ use lib.ListN.{length, getD, take, drop}
 use Rattle.algebra.proofs.Tests.{false-not-true}
 use Rattle.field.specs.Symbols.{Symbols}
 use Rattle.code.specs.declared.Setting.{Setting}
+use Rattle.code.specs.Code.{distancesTo}
 use Rattle.code.specs.Settings.{Sound}
 use Rattle.code.specs.Windows.{windowLength}
+use Rattle.code.specs.Reading.{zeroCost}
 use Rattle.frame.specs.Window.{Near, Levels, served, none-serves}
 use Rattle.frame.specs.Frame.{Progress, Added, NoneFits, Advanced, advanced, stopped}
-use Rattle.frame.proofs.Guesses.{windowAt}
+use Rattle.frame.proofs.Guesses.{windowAt, added-zero}
+use Rattle.frame.proofs.Turn.{window-clean}
 use Rattle.frame.proofs.Progress.{progress-found, progress-none}
 
 module _ (p : Setting) (S : Sound p) (T : ℕ) (reception : List ℕ) (R : Symbols (p .q) reception) (long : length reception ≡ (T + p .m) * p .n)
@@ -31,6 +34,14 @@ module _ (p : Setting) (S : Sound p) (T : ℕ) (reception : List ℕ) (R : Symbo
   advance-none i message' left' (served found some few area first) e = absurd (omega arith)
   advance-none i message' left' (none-serves far) e =
       stopped (progress-none p S T reception R long j message left P l (λ y Y near. far y Y (subst (λ (w : List ℕ). Near p w (p .m) y) (sym same-window) near)))
+
+  -- Little is left of the window: the guess of its first block is right.
+  pub advance-clean : length window ≡ windowLength p → (cost : ℕ) → cost ≡ zeroCost (p .q) window → cost < distancesTo (p .n) (p .k) (p .m)
+      → Advanced p T reception (j + 1) message left true
+  advance-clean long-window cost counted few =
+      advanced (progress-found p S T reception R long j message left P (λ r. 0) message left l
+      (λ y Y near r u. window-clean p S window long-window (omega arith) y Y (subst (λ (w : List ℕ). Near p w (p .m) y) (sym same-window) near) r u)
+      (added-zero p T j (λ r. 0) message left S (P .areas) (λ r. refl)))
 
   -- What was found went into the message.
   pub advance-found : {found : ℕ} (message' left' : List ℕ) → Levels p window information found → (found ≡ 0 → ⊥)

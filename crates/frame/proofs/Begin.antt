@@ -1,22 +1,15 @@
 -- How reading a frame begins: an empty message, and the reception itself as what is left.
--- Holds: `copied-whole`, `begin`.
-use mathlib.Core.Path.{_≡_, sym, ap, ap₂, subst, _∙_}
-use mathlib.Core.List.{List, _++_, append-nil}
-use Prim.Native.Nat.{ℕ, _+_, _*_, _≤_}
-use native.Mathlib.Omega.{arith}
-use lib.ListN.{length, take, drop, replicate, drop-of-length-le}
-use lib.Seq.{take-length}
+-- Holds: `begin`.
+use mathlib.Core.Path.{_≡_, sym, ap, subst, _∙_}
+use mathlib.Core.List.{List, _++_}
+use Prim.Native.Nat.{ℕ, _+_, _*_}
+use lib.ListN.{length, take, drop, replicate}
 use Rattle.field.specs.Symbols.{Symbols}
 use Rattle.code.specs.declared.Setting.{Setting}
 use Rattle.code.specs.Settings.{Sound}
+use Rattle.code.proofs.Lists.{copied-whole}
 use Rattle.frame.specs.Frame.{Progress}
 use Rattle.frame.proofs.Progress.{progress-start}
-
--- A copy into an area of the same length is the whole source.
-pub copied-whole : (source area after : List ℕ) → length area ≡ length source → after ≡ take (length source) source ++ drop (length source) area → after ≡ source
-copied-whole source area after same e =
-    let short : length area ≤ length source = omega arith in
-    e ∙ (ap₂ _++_ (take-length source) (drop-of-length-le area short) ∙ append-nil source)
 
 pub begin : (p : Setting) → Sound p → (T : ℕ) (reception area cleared message after : List ℕ) → Symbols (p .q) reception → length reception ≡ (T + p .m) * p .n
     → length message ≡ T * p .k → cleared ≡ replicate (length message) 0 → length area ≡ length reception

@@ -1,14 +1,13 @@
 -- What is left once all windows were read: the last comparison decides, and gives the transmission and the altered count.
--- Holds: `left-test`, `left-window`, `left-altered`, `left-back`, `frame-fits`, `frame-none`.
+-- Holds: `left-test`, `left-back`, `left-altered`; `frame-fits`, `frame-none`, `frame-compared`.
 use mathlib.Core.Path.{_≡_, sym, ap, subst, _∙_}
 use mathlib.Core.Bool.{Bool, true, not}
 use mathlib.Core.List.{List}
-use Prim.Native.Nat.{ℕ, _+_, _-_, _*_, _/_, _%_, _≤_, _<_}
-use native.Mathlib.Nat.{mul-le-mul-right}
+use Prim.Native.Nat.{ℕ, _+_, _*_, _/_, _%_, _≤_, _<_}
 use native.Mathlib.Omega.{arith}
 use lib.Dec.{eqb}
 use lib.ListN.{length, getD, take, drop}
-use lib.Seq.{ext-getD, getD-take, getD-drop}
+use lib.Seq.{ext-getD}
 use Rattle.algebra.specs.Ops.{sub}
 use Rattle.algebra.specs.Weight.{countOf}
 use Rattle.algebra.proofs.Weights.{countOf-ext}
@@ -16,14 +15,16 @@ use Rattle.field.specs.Fields.{opsOf}
 use Rattle.field.specs.Symbols.{Symbols}
 use Rattle.field.proofs.Symbols.{symbol-below}
 use Rattle.code.specs.declared.Setting.{Setting}
-use Rattle.code.specs.Code.{limit}
+use Rattle.code.specs.Code.{distancesTo}
 use Rattle.code.specs.Transmission.{view}
 use Rattle.code.specs.Settings.{Sound}
-use Rattle.code.specs.Windows.{transmission, windowLength, windowDistance, altered, Message}
-use Rattle.code.specs.Reading.{windowWeight, Residual}
+use Rattle.code.specs.Windows.{transmission, windowLength, altered, Message}
+use Rattle.code.specs.Reading.{zeroCost, messageCost, Residual}
 use Rattle.code.proofs.Messages.{place-in-blocks}
 use Rattle.code.proofs.Settings.{block-positive}
 use Rattle.code.proofs.Numbers.{positive, transmission-view}
+use Rattle.code.proofs.Cost.{fits-cost}
+use Rattle.code.proofs.Residuals.{residual-zero}
 use Rattle.code.proofs.ResidualSteps.{residual-back, residual-test}
 use Rattle.frame.specs.Frame.{Progress, NoneFits, FrameRead, fits, none, Compared, all-near, one-far}
 
@@ -51,19 +52,7 @@ module _ (p : Setting) (S : Sound p) (T : ℕ) (reception message left : List �
       (residual-back p S T reception message left received found residual (a / p .n) (a % p .n) (at .0) (at .1)
       ∙ sym (transmission-view p S T message M (a / p .n) (a % p .n) (at .0) (at .1)))
 
-  -- A window's nonzero symbols are its differences.
-  pub left-window : (j : ℕ) → j < T → windowDistance p reception (transmission p message) j ≡ windowWeight p (take (windowLength p) (drop (j * p .n) left))
-  left-window j l =
-      countOf-ext (windowLength p) _ _ (λ i h. ap not
-      (left-test (j * p .n + i) (inside i h)
-      ∙ sym (ap (λ (t : ℕ). eqb t 0) (getD-take (windowLength p) (drop (j * p .n) left) i 0 h ∙ getD-drop (j * p .n) left i 0))))
-    where
-      inside : (i : ℕ) → i < windowLength p → j * p .n + i < (T + p .m) * p .n
-      inside i h =
-          let top : j + (p .m + 1) ≤ T + p .m = omega arith in
-          omega (arith, mul-le-mul-right (p .n) top)
-
-  -- All of them together are the altered symbols.
+  -- Its nonzero symbols are the altered ones.
   pub left-altered : altered p T reception (transmission p message) ≡ countOf ((T + p .m) * p .n) (λ i. not (eqb (getD left i 0) 0))
   left-altered = countOf-ext ((T + p .m) * p .n) _ _ (λ i h. ap not (left-test i h))
 
@@ -72,25 +61,27 @@ module _ (p : Setting) (S : Sound p) (T : ℕ) (reception message left : List �
   whole : Message p T message
   whole = record { blocks = blocks; long = P .areas .message-long; symbols = P .areas .message-symbols }
 
+  -- What a window of what is left costs against zeros is what the window costs where this message was sent.
+  left-window : (j : ℕ) → j < T → zeroCost (p .q) (take (windowLength p) (drop (j * p .n) left)) ≡ messageCost p reception message j
+  left-window =
+      residual-zero p S T reception message left (symbol-below (p .q) reception R (positive p S))
+      (symbol-below (p .q) message (P .areas .message-symbols) (positive p S)) (P .residual) whole (P .areas .left-long)
+
   -- Near in every window: the message fits.
-  pub frame-fits : ((j : ℕ) → j < T → windowWeight p (take (windowLength p) (drop (j * p .n) left)) ≤ limit (p .n) (p .k) (p .m)) → FrameRead p T reception message left true
+  pub frame-fits : ((j : ℕ) → j < T → zeroCost (p .q) (take (windowLength p) (drop (j * p .n) left)) < distancesTo (p .n) (p .k) (p .m)) → FrameRead p T reception message left true
   frame-fits near =
       fits
-      (record {
-        message-of = whole;
-        long = long;
-        near = λ j l. subst (λ (t : ℕ). t ≤ limit (p .n) (p .k) (p .m)) (sym (left-window p S T reception message left R whole (P .residual) j l)) (near j l);
-      })
+      (record { message-of = whole; long = long; near = λ j l. fits-cost p S T reception message whole j l .1 (rw (left-window j l) at (near j l)) })
       (P .areas .left-symbols) (P .areas .left-long ∙ sym long) (P .residual)
 
   -- Far in one window: no message fits, since it could only be this one.
-  pub frame-none : (j : ℕ) → j < T → limit (p .n) (p .k) (p .m) < windowWeight p (take (windowLength p) (drop (j * p .n) left)) → NoneFits p T reception
+  pub frame-none : (j : ℕ) → j < T → distancesTo (p .n) (p .k) (p .m) ≤ zeroCost (p .q) (take (windowLength p) (drop (j * p .n) left)) → NoneFits p T reception
   frame-none j l far x F =
       let same : x ≡ message =
       ext-getD 0 x message (F .message-of .long ∙ sym (P .areas .message-long)) (λ i u. P .begins x F i (omega (arith, F .message-of .long))) in
-      let near : windowDistance p reception (transmission p message) j ≤ limit (p .n) (p .k) (p .m) =
-      subst (λ (t : List ℕ). windowDistance p reception (transmission p t) j ≤ limit (p .n) (p .k) (p .m)) same (F .near j l) in
-      omega (arith, left-window p S T reception message left R whole (P .residual) j l)
+      let near : messageCost p reception message j < distancesTo (p .n) (p .k) (p .m) =
+      subst (λ (t : List ℕ). messageCost p reception t j < distancesTo (p .n) (p .k) (p .m)) same (fits-cost p S T reception x (F .message-of) j l .0 (F .near j l)) in
+      omega (arith, left-window j l)
 
   -- The last comparison decides.
   pub frame-compared : {r : Bool} → Compared p T left r → FrameRead p T reception message left r

@@ -1,5 +1,5 @@
 -- Changes of the guessed message, and what is left after them.
--- Holds: `windowAt`, `window-room`, `symbol-room`, `information-short`, `block-room`, `blocks-few`; `revised-lengths`, `revised-none`, `revised-then`; `adjusted`; `Adding` (the first r symbols of a block were added) and its steps; `added-past`, `added-then`.
+-- Holds: `windowAt`, `window-room`, `symbol-room`, `information-short`, `block-room`, `blocks-few`; `revised-lengths`, `revised-none`, `revised-then`; `adjusted`; `Adding` (the first r symbols of a block were added) and its steps; `added-past`, `added-zero`, `added-then`.
 use mathlib.Core.Path.{_≡_, refl, sym, ap, ap₂, subst, _∙_}
 use mathlib.Core.Bool.{Bool, true, false}
 use mathlib.Core.List.{List}
@@ -256,6 +256,15 @@ module _ (p : Setting) (T j : ℕ) (x : ℕ → ℕ) (message left : List ℕ) w
   -- There is no block j.
   pub added-past : Areas p T message left → T ≤ j → Added p T j x message left message left
   added-past A past = record { revised = revised-none p T j message left A; symbol = λ a l u. absurd (omega arith) }
+
+  -- A zero block changes nothing.
+  pub added-zero : Sound p → Areas p T message left → ((r : ℕ) → x r ≡ 0) → Added p T j x message left message left
+  added-zero S A zeros =
+      record {
+        revised = revised-none p T j message left A;
+        symbol = λ r l u. sym (ap (opsOf (p .q) .add (getD message (j * p .k + r) 0)) (zeros r)
+            ∙ laws p S .plus-zero (getD message (j * p .k + r) 0) (symbol-below (p .q) message (A .message-symbols) (positive p S) (j * p .k + r)));
+      }
 
   -- Later changes leave block j as it is.
   pub added-then : (i : ℕ) (message' left' message'' left'' : List ℕ) → j + 1 ≤ i

@@ -2,7 +2,7 @@
 -- Holds: `progress-start`, `near-of-fits`, `progress-none`, `progress-revised`, `progress-found`.
 use mathlib.Core.Path.{_≡_, sym, ap, subst, _∙_}
 use mathlib.Core.List.{List}
-use Prim.Native.Nat.{ℕ, _+_, _-_, _*_, _/_, _≤_, _<_}
+use Prim.Native.Nat.{ℕ, _+_, _-_, _*_, _≤_, _<_}
 use native.Mathlib.Nat.{mul-le-mul-right}
 use native.Mathlib.Omega.{arith}
 use native.Mathlib.Decide.{decLt}
@@ -12,13 +12,12 @@ use Rattle.field.specs.Fields.{opsOf}
 use Rattle.field.specs.Symbols.{Symbols}
 use Rattle.field.proofs.Symbols.{symbol-below, symbols-zeros}
 use Rattle.code.specs.declared.Setting.{Setting}
-use Rattle.code.specs.Code.{distancesTo}
 use Rattle.code.specs.Settings.{Sound}
-use Rattle.code.specs.Windows.{transmission, windowDistance, Fits}
+use Rattle.code.specs.Windows.{Fits}
 use Rattle.code.specs.Reading.{Below}
 use Rattle.code.proofs.Lists.{getD-zeros}
 use Rattle.code.proofs.Numbers.{positive}
-use Rattle.code.proofs.Messages.{distances-positive}
+use Rattle.code.proofs.Cost.{fits-cost}
 use Rattle.code.proofs.Residuals.{ahead, ahead-below, add-back, residual-window}
 use Rattle.code.proofs.ResidualSteps.{residual-start}
 use Rattle.frame.specs.Window.{Near}
@@ -49,18 +48,11 @@ module _ (p : Setting) (S : Sound p) (T : ℕ) (reception : List ℕ) (R : Symbo
     found-below : (i : ℕ) → getD message i 0 < p .q
     found-below = symbol-below (p .q) message (P .areas .message-symbols) (positive p S)
 
-    left-below : (i : ℕ) → getD left i 0 < p .q
-    left-below = symbol-below (p .q) left (P .areas .left-symbols) (positive p S)
-
     -- What a message that fits has beyond the blocks found is near window j of what is left.
     pub near-of-fits : j < T → (x : List ℕ) → Fits p T reception x → Near p (windowAt p left j) (p .m) (ahead p x message j)
     near-of-fits l x F =
-        subst (λ (t : ℕ). 2 * t < distancesTo (p .n) (p .k) (p .m))
-        (sym (residual-window p S T reception message left received found-below left-below (P .residual) x (F .message-of) j l (P .begins x F)))
-        (within (windowDistance p reception (transmission p x) j) (distancesTo (p .n) (p .k) (p .m)) (distances-positive (p .n) (p .k) (p .m)) (F .near j l))
-      where
-        within : (a d : ℕ) → 1 ≤ d → a ≤ (d - 1) / 2 → 2 * a < d
-        within a d h u = omega arith
+        rw (residual-window p S T reception message left received found-below (P .residual) x (F .message-of) j l (P .begins x F))
+        (fits-cost p S T reception x (F .message-of) j l .0 (F .near j l))
 
     pub fits-below : (x : List ℕ) → Fits p T reception x → Below (p .q) (ahead p x message j)
     fits-below x F = ahead-below p S x message j (symbol-below (p .q) x (F .message-of .symbols) (positive p S)) found-below

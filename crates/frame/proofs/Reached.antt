@@ -3,18 +3,15 @@
 use mathlib.Core.Path.{_≡_, sym, ap, subst, _∙_}
 use mathlib.Core.Bool.{Bool, true, false}
 use mathlib.Core.List.{List}
-use Prim.Native.Nat.{ℕ, zero, suc, _+_, _-_, _*_, _≤_}
+use Prim.Native.Nat.{ℕ, zero, suc, _+_, _*_, _≤_}
 use native.Mathlib.Numerals.{add-one}
 use native.Mathlib.Omega.{arith}
 use lib.ListN.{getD}
 use Rattle.algebra.proofs.Tests.{false-not-true}
-use Rattle.field.specs.Symbols.{Symbols}
-use Rattle.field.proofs.Symbols.{symbol-below}
 use Rattle.code.specs.declared.Setting.{Setting}
 use Rattle.code.specs.Transmission.{view}
 use Rattle.code.specs.Settings.{Sound}
 use Rattle.code.specs.Reading.{Below}
-use Rattle.code.proofs.Numbers.{positive}
 use Rattle.code.proofs.Reading.{first-certain, level-drops, level-ends}
 use Rattle.frame.specs.Window.{Near, Tried, serves, fails, Levels, served, none-serves}
 
@@ -30,18 +27,18 @@ pub reached-start : (p : Setting) (window : List ℕ) → Reached p window (p .m
 unfolding Reached reach
 reached-start p window = subst (Reached p window) (sym (add-one (p .m))) (λ y Y near. near)
 
-module _ (p : Setting) (S : Sound p) (window information : List ℕ) (symbols : Symbols (p .q) window) where
+module _ (p : Setting) (S : Sound p) (window information : List ℕ) where
   pub reached-next : (l : ℕ) {r : Bool} → Tried p window l information r → r ≡ false → Reached p window (suc l) → Reached p window l
   unfolding Reached reach
-  reached-next l (serves area good) e reached = absurd (false-not-true (sym e))
+  reached-next l (serves below good) e reached = absurd (false-not-true (sym e))
   reached-next zero (fails heavy) e reached = λ y Y near. level-ends p S window y (reached y Y near) (heavy y Y (reached y Y near))
   reached-next (suc l) (fails heavy) e reached = λ y Y near. level-drops p S window y l (reached y Y near) (heavy y Y (reached y Y near))
 
   pub reached-served : (l : ℕ) {r : Bool} → l ≤ p .m → Tried p window l information r → r ≡ true → Reached p window (suc l) → Levels p window information (suc l)
   unfolding Reached reach
-  reached-served l low (serves area good) e reached =
-      served (suc l) (omega arith) (omega arith) area (λ y Y near r h.
-      first-certain p S window (symbol-below (p .q) window symbols (positive p S)) y (view (p .k) information) Y (λ s t. area .below (s * p .k + t)) l low
+  reached-served l low (serves below good) e reached =
+      served (suc l) (omega arith) (omega arith) below (λ y Y near r h.
+      first-certain p S window y (view (p .k) information) Y (λ s t. below (s * p .k + t)) l low
       (reached y Y near) good r h
       ∙ (let place : 0 * p .k + r ≡ r = omega arith in ap (λ (t : ℕ). getD information t 0) place))
   reached-served l low (fails heavy) e reached = absurd (false-not-true e)

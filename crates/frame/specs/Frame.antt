@@ -8,9 +8,9 @@ use lib.ListN.{length, getD, take, drop, set}
 use Rattle.field.specs.Fields.{opsOf}
 use Rattle.field.specs.Symbols.{Symbols}
 use Rattle.code.specs.declared.Setting.{Setting}
-use Rattle.code.specs.Code.{limit}
+use Rattle.code.specs.Code.{distancesTo}
 use Rattle.code.specs.Windows.{windowLength, Fits}
-use Rattle.code.specs.Reading.{windowWeight, Residual}
+use Rattle.code.specs.Reading.{zeroCost, Residual}
 
 -- The areas of a frame: a guessed message of T blocks, and what is left of a reception for it.
 pub record Areas (p : Setting) (T : ℕ) (message left : List ℕ) : Type 0 where
@@ -56,7 +56,7 @@ pub data FrameRead (p : Setting) (T : ℕ) (reception message left : List ℕ) :
       → FrameRead p T reception message left true
   none : NoneFits p T reception → FrameRead p T reception message left false
 
--- The last comparison: every window of what is left has at most t nonzero symbols, or one has more.
+-- The last comparison: every window of what is left costs at most d against zeros, that is less than d_0 + .. + d_m; or one costs more.
 pub data Compared (p : Setting) (T : ℕ) (left : List ℕ) : Bool → Type 0 where
-  all-near : ((j : ℕ) → j < T → windowWeight p (take (windowLength p) (drop (j * p .n) left)) ≤ limit (p .n) (p .k) (p .m)) → Compared p T left true
-  one-far : (j : ℕ) → j < T → limit (p .n) (p .k) (p .m) < windowWeight p (take (windowLength p) (drop (j * p .n) left)) → Compared p T left false
+  all-near : ((j : ℕ) → j < T → zeroCost (p .q) (take (windowLength p) (drop (j * p .n) left)) < distancesTo (p .n) (p .k) (p .m)) → Compared p T left true
+  one-far : (j : ℕ) → j < T → distancesTo (p .n) (p .k) (p .m) ≤ zeroCost (p .q) (take (windowLength p) (drop (j * p .n) left)) → Compared p T left false

@@ -1,9 +1,11 @@
-// Areas of symbols: how many are not zero, and zeros.
+// Areas of symbols: how many are not zero, and what they cost against zeros.
 ghost use mathlib.Core.Path.{_≡_};
 ghost use mathlib.Core.Bool.{not};
+ghost use Prim.Native.Nat.{ℕ};
 ghost use lib.Dec.{eqb};
-ghost use lib.ListN.{length, getD, replicate};
+ghost use lib.ListN.{length, getD};
 ghost use Rattle.algebra.specs.Weight.{countOf};
+ghost use Rattle.code.specs.Reading.{zeroCost};
 
 // How many symbols are not zero.
 pub fn weight(symbols: &[u8]) -> usize
@@ -22,13 +24,9 @@ pub fn weight(symbols: &[u8]) -> usize
     count
 }
 
-// Zeros in every place.
-pub fn clear(area: &mut [u8])
-    ensures { λ r. ⌜ now (area .exit) ≡ replicate (length (now (area .entry))) 0 ⌝ }
+// What the symbols cost against zeros, whatever the field.
+pub fn cost(symbols: &[u8]) -> usize
+    ensures { λ r. ⌜ ((q : ℕ) → r ≡ zeroCost q (now (symbols .entry))) ⌝ }
 {
-    let mut i: usize = 0;
-    while i < area.len() {
-        area[i] = 0;
-        i += 1;
-    }
+    2 * weight(symbols)
 }

@@ -3,17 +3,16 @@ ghost use Prim.Native.Nat.{_+_, _*_, _≤_, _<_};
 ghost use lib.ListN.{length, getD};
 ghost use Rattle.field.specs.Symbols.{Symbols};
 ghost use Rattle.code.specs.Settings.{Sound};
-ghost use Rattle.tables.specs.Tables.{Ready, Small};
+ghost use Rattle.tables.specs.Tables.{Ready};
 ghost use Rattle.frame.specs.Frame.{Areas, Revised, Adjusted, Added};
 use code::Setting;
 use field::Tables;
-use tables::Rows;
 
 // Adds v to symbol r of block i of the message.
 fn adjust(
     p: Setting,
     products: &Tables,
-    rows: &Rows,
+    rows: &[u8],
     blocks: usize,
     i: usize,
     r: usize,
@@ -39,7 +38,7 @@ fn adjust(
 fn add_block(
     p: Setting,
     products: &Tables,
-    rows: &Rows,
+    rows: &[u8],
     blocks: usize,
     i: usize,
     information: &[u8],
@@ -70,7 +69,7 @@ fn add_block(
 pub fn add_found(
     p: Setting,
     products: &Tables,
-    rows: &Rows,
+    rows: &[u8],
     blocks: usize,
     j: usize,
     information: &[u8],
@@ -105,7 +104,7 @@ pub fn add_found(
 fn guess_from_start(
     p: Setting,
     products: &Tables,
-    rows: &Rows,
+    rows: &[u8],
     scale: u8,
     blocks: usize,
     i: usize,
@@ -130,7 +129,7 @@ fn guess_from_start(
 fn guess_from_end(
     p: Setting,
     products: &Tables,
-    rows: &Rows,
+    rows: &[u8],
     blocks: usize,
     i: usize,
     message: &mut [u8],
@@ -148,21 +147,21 @@ fn guess_from_end(
     }
 }
 
-// Whether at most half of d_0 symbols are left of block i.
+// Whether what is left of block i costs at most d_0.
 fn is_light(p: Setting, i: usize, left: &[u8]) -> bool
-    requires { ⌜ Sound p × Small p × (i * p .n + p .n ≤ length (now left)) ⌝ }
+    requires { ⌜ Sound p × (i * p .n + p .n ≤ length (now left)) ⌝ }
 {
     let start = i * p.n;
     let end = start + p.n;
     let distance = p.n - p.k + 1;
-    2 * super::area::weight(&left[start..end]) <= distance
+    super::area::cost(&left[start..end]) <= distance
 }
 
 // Guesses block i of the message again, if it has such a block and too much is left of it: from the first symbols, or else from the last ones.
 fn guess_block(
     p: Setting,
     products: &Tables,
-    rows: &Rows,
+    rows: &[u8],
     scale: u8,
     blocks: usize,
     i: usize,
@@ -189,7 +188,7 @@ fn guess_block(
 pub fn guess_window(
     p: Setting,
     products: &Tables,
-    rows: &Rows,
+    rows: &[u8],
     scale: u8,
     blocks: usize,
     j: usize,

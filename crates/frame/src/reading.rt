@@ -3,35 +3,48 @@ ghost use mathlib.Core.Path.{_≡_};
 ghost use Prim.Native.Nat.{_+_, _*_, _≤_, _<_};
 ghost use lib.ListN.{length};
 ghost use Rattle.field.specs.Symbols.{Symbols};
-ghost use Rattle.code.specs.Code as distances;
+ghost use Rattle.code.specs.Code.{distancesTo};
 ghost use Rattle.code.specs.Settings.{Sound};
-ghost use Rattle.tables.specs.Tables.{Ready, Small};
+ghost use Rattle.tables.specs.Tables.{Ready};
+ghost use Rattle.block.specs.Area.{Working};
 ghost use Rattle.frame.specs.Frame.{Progress, Advanced, Compared, FrameRead};
 use code::Setting;
 use field::Tables;
-use tables::Rows;
 
-// One turn: the blocks of window j are guessed, and then block j made certain by what the window says.
-fn turn(
+// Makes block j certain by what is left of its window: where it is little, the guess is right; else the levels find what to add, or none serves.
+fn settle(
     p: Setting,
     products: &Tables,
-    rows: &Rows,
-    scale: u8,
+    rows: &[u8],
+    bound: usize,
     blocks: usize,
     reception: &[u8],
     j: usize,
     message: &mut [u8],
     left: &mut [u8],
+    series: &mut [u8],
+    locator: &mut [u8],
+    values: &mut [u8],
+    information: &mut [u8],
 ) -> bool
-    requires { ⌜ Ready p (now products) (now rows) × (scale < p .q) × (length (now reception) ≡ (blocks + p .m) * p .n) × Symbols (p .q) (now reception) × (j < blocks) × Progress p blocks (now reception) j (now message) (now left) ⌝ }
+    requires { ⌜ Ready p (now products) (now rows) × (bound ≡ distancesTo (p .n) (p .k) (p .m)) × (length (now reception) ≡ (blocks + p .m) * p .n) × Symbols (p .q) (now reception) × (j < blocks) × Progress p blocks (now reception) j (now message) (now left) × Working p (now series) (now locator) (now values) (now information) ⌝ }
     ensures { λ r. ⌜ Advanced p blocks (now (reception .entry)) (j + 1) (now (message .exit)) (now (left .exit)) r ⌝ }
 {
-    let size = (p.m + 1) * p.n;
     let start = j * p.n;
-    let end = start + size;
-    super::guess::guess_window(p, products, rows, scale, blocks, j, message, left);
-    let mut information = [0u8; block::CAPACITY];
-    let found = super::window::read_window(p, products, rows, &left[start..end], &mut information);
+    let end = start + (p.m + 1) * p.n;
+    if super::area::cost(&left[start..end]) < bound {
+        return true;
+    }
+    let found = super::window::find_level(
+        p,
+        products,
+        rows,
+        &left[start..end],
+        series,
+        locator,
+        values,
+        information,
+    );
     if found == 0 {
         return false;
     }
@@ -41,7 +54,7 @@ fn turn(
         rows,
         blocks,
         j,
-        &information,
+        information,
         found,
         message,
         left,
@@ -49,20 +62,63 @@ fn turn(
     true
 }
 
+// One turn: the blocks of window j are guessed, and then block j is made certain.
+fn turn(
+    p: Setting,
+    products: &Tables,
+    rows: &[u8],
+    scale: u8,
+    bound: usize,
+    blocks: usize,
+    reception: &[u8],
+    j: usize,
+    message: &mut [u8],
+    left: &mut [u8],
+    series: &mut [u8],
+    locator: &mut [u8],
+    values: &mut [u8],
+    information: &mut [u8],
+) -> bool
+    requires { ⌜ Ready p (now products) (now rows) × (scale < p .q) × (bound ≡ distancesTo (p .n) (p .k) (p .m)) × (length (now reception) ≡ (blocks + p .m) * p .n) × Symbols (p .q) (now reception) × (j < blocks) × Progress p blocks (now reception) j (now message) (now left) × Working p (now series) (now locator) (now values) (now information) ⌝ }
+    ensures { λ r. ⌜ Advanced p blocks (now (reception .entry)) (j + 1) (now (message .exit)) (now (left .exit)) r ⌝ }
+{
+    super::guess::guess_window(p, products, rows, scale, blocks, j, message, left);
+    settle(
+        p,
+        products,
+        rows,
+        bound,
+        blocks,
+        reception,
+        j,
+        message,
+        left,
+        series,
+        locator,
+        values,
+        information,
+    )
+}
+
 // The windows in turn.
 fn read_windows(
     p: Setting,
     products: &Tables,
-    rows: &Rows,
-    scale: u8,
+    rows: &[u8],
+    bound: usize,
     blocks: usize,
     reception: &[u8],
     message: &mut [u8],
     left: &mut [u8],
+    series: &mut [u8],
+    locator: &mut [u8],
+    values: &mut [u8],
+    information: &mut [u8],
 ) -> bool
-    requires { ⌜ Ready p (now products) (now rows) × (scale < p .q) × (length (now reception) ≡ (blocks + p .m) * p .n) × Symbols (p .q) (now reception) × Progress p blocks (now reception) 0 (now message) (now left) ⌝ }
+    requires { ⌜ Ready p (now products) (now rows) × (bound ≡ distancesTo (p .n) (p .k) (p .m)) × (length (now reception) ≡ (blocks + p .m) * p .n) × Symbols (p .q) (now reception) × Progress p blocks (now reception) 0 (now message) (now left) × Working p (now series) (now locator) (now values) (now information) ⌝ }
     ensures { λ r. ⌜ Advanced p blocks (now (reception .entry)) blocks (now (message .exit)) (now (left .exit)) r ⌝ }
 {
+    let scale = field::inverse(p.q, products, rows[0]);
     let mut j: usize = 0;
     while j < blocks {
         if !turn(
@@ -70,11 +126,16 @@ fn read_windows(
             products,
             rows,
             scale,
+            bound,
             blocks,
             reception,
             j,
             message,
             left,
+            series,
+            locator,
+            values,
+            information,
         ) {
             return false;
         }
@@ -83,9 +144,9 @@ fn read_windows(
     true
 }
 
-// The last comparison: at most t nonzero symbols in every window of what is left.
-fn compare_windows(p: Setting, blocks: usize, left: &[u8], limit: usize) -> bool
-    requires { ⌜ Sound p × Small p × (limit ≡ distances.limit (p .n) (p .k) (p .m)) × (length (now left) ≡ (blocks + p .m) * p .n) ⌝ }
+// The last comparison: every window of what is left costs less than the bound against zeros.
+fn compare_windows(p: Setting, blocks: usize, left: &[u8], bound: usize) -> bool
+    requires { ⌜ Sound p × (bound ≡ distancesTo (p .n) (p .k) (p .m)) × (length (now left) ≡ (blocks + p .m) * p .n) ⌝ }
     ensures { λ r. ⌜ Compared p blocks (now (left .entry)) r ⌝ }
 {
     let n = p.n;
@@ -94,7 +155,7 @@ fn compare_windows(p: Setting, blocks: usize, left: &[u8], limit: usize) -> bool
     let mut j: usize = 0;
     while j < blocks {
         let end = start + size;
-        if limit < super::area::weight(&left[start..end]) {
+        if bound <= super::area::cost(&left[start..end]) {
             return false;
         }
         start += n;
@@ -103,26 +164,43 @@ fn compare_windows(p: Setting, blocks: usize, left: &[u8], limit: usize) -> bool
     true
 }
 
-// The message that fits the reception and what is left of the reception without its transmission; or false, if no message fits.
+// The message that fits the reception and what is left of the reception without its transmission; or false, if no message fits. The other areas are worked
+// in.
 pub fn read(
     p: Setting,
     products: &Tables,
-    rows: &Rows,
+    rows: &[u8],
     blocks: usize,
     reception: &[u8],
     message: &mut [u8],
     left: &mut [u8],
+    series: &mut [u8],
+    locator: &mut [u8],
+    values: &mut [u8],
+    information: &mut [u8],
 ) -> bool
-    requires { ⌜ Ready p (now products) (now rows) × (1 ≤ blocks) × (length (now reception) ≡ (blocks + p .m) * p .n) × Symbols (p .q) (now reception) × (length (now message) ≡ blocks * p .k) × (length (now left) ≡ length (now reception)) ⌝ }
+    requires { ⌜ Ready p (now products) (now rows) × (1 ≤ blocks) × (length (now reception) ≡ (blocks + p .m) * p .n) × Symbols (p .q) (now reception) × (length (now message) ≡ blocks * p .k) × (length (now left) ≡ length (now reception)) × Working p (now series) (now locator) (now values) (now information) ⌝ }
     ensures { λ r. ⌜ FrameRead p blocks (now (reception .entry)) (now (message .exit)) (now (left .exit)) r ⌝ }
 {
-    super::area::clear(message);
+    let m = p.m;
+    let bound = super::window::distances_to(p, m);
+    field::clear(message);
     bytes::copy(reception, left);
-    let scale = field::inverse(p.q, products, rows[0]);
-    if !read_windows(p, products, rows, scale, blocks, reception, message, left) {
+    if !read_windows(
+        p,
+        products,
+        rows,
+        bound,
+        blocks,
+        reception,
+        message,
+        left,
+        series,
+        locator,
+        values,
+        information,
+    ) {
         return false;
     }
-    let m = p.m;
-    let limit = (super::window::distances_to(p, m) - 1) / 2;
-    compare_windows(p, blocks, left, limit)
+    compare_windows(p, blocks, left, bound)
 }

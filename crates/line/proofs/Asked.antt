@@ -11,7 +11,7 @@ use Rattle.code.specs.declared.Setting.{Setting}
 use Rattle.code.specs.Settings.{isSetting, settingOf}
 use Rattle.link.specs.Questions.{Question, ask, firstNo, mostBlocks, symbolQuestion}
 use Rattle.link.proofs.Answers.{all-yes, append-yes, append-no, after-first}
-use Rattle.line.specs.Questions.{settingIn, blocksIn, symbolsIn, digitsTo, mostCharacters, characterQuestions, lengthQuestion, headQuestions, lineQuestions}
+use Rattle.line.specs.Questions.{settingIn, blocksIn, symbolsIn, digitsTo, mostCharacters, characterQuestions, lengthQuestion, headQuestions, HoldsFrame, lineQuestions}
 
 -- Questions 1, 3 and 10 over the setting's number, T and the count of the digits left; 3 and 10 over the setting.
 abbrev pub headLater : ℕ → ℕ → Setting → List Question
@@ -47,7 +47,7 @@ pub record HeadYes (line : List ℕ) : Type 0 where
   pub most : blocksIn line ≤ mostBlocks
   pub long : length line - 4 ≡ (blocksIn line + settingOf (settingIn line) .m) * settingOf (settingIn line) .n
 
-pub head-yes : (line : List ℕ) → firstNo (characterQuestions line ++ headQuestions line) .number ≡ 0 → HeadYes line
+pub head-yes : (line : List ℕ) → HoldsFrame line → HeadYes line
 head-yes line e =
     let all = all-yes (characterQuestions line ++ headQuestions line) tt e in
     let T = blocksIn line in
@@ -63,11 +63,11 @@ head-yes line e =
     }
 
 -- Then question 4 is left; otherwise the first "no" of those is the line's.
-pub after-head : (line : List ℕ) → firstNo (characterQuestions line ++ headQuestions line) .number ≡ 0
+pub after-head : (line : List ℕ) → HoldsFrame line
     → firstNo (lineQuestions line) ≡ firstNo (symbolQuestion (settingOf (settingIn line) .q) (symbolsIn line) ∷ [])
 after-head line e =
     append-yes (characterQuestions line ++ headQuestions line) (symbolQuestion (settingOf (settingIn line) .q) (symbolsIn line) ∷ []) tt e
 
-pub in-head : (line : List ℕ) → (firstNo (characterQuestions line ++ headQuestions line) .number ≡ 0 → ⊥)
+pub in-head : (line : List ℕ) → (HoldsFrame line → ⊥)
     → firstNo (lineQuestions line) ≡ firstNo (characterQuestions line ++ headQuestions line)
 in-head line h = append-no (characterQuestions line ++ headQuestions line) (symbolQuestion (settingOf (settingIn line) .q) (symbolsIn line) ∷ []) h

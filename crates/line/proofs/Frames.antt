@@ -1,7 +1,7 @@
--- The frame of a line whose questions 11, 9, 1, 3 and 10 got "yes", from decoding to the line's answer.
--- Holds: `symbols-long`, `blocks-is` (the reception's length and T); `decoding-asked` (decoding's questions ask what is left, 4);
--- `frame-answered` (what decoding gives); `head-refused`; `read-frame` (the symbols that were read); `answers-most`, `answered-most` (an output line's
--- length); `answers-kept` (a line too long is answered by its beginning).
+-- The frame of a line that holds one (questions 11, 9, 1, 3 and 10 got "yes"), from decoding to the line's answer.
+-- Holds: `symbols-count`, `symbols-read`, `symbols-long`, `blocks-is` (the reception and T); `decoding-asked` (decoding's questions ask what is left, 4);
+-- `refusal-line`, `success-line`; `frame-answered` (what decoding gives), `frame-left`; `any-room`, `room-is` (the working areas); `head-refused`; `answers-most`,
+-- `answer-most` (an output line's length); `answered-shown` (with room for every frame); `answers-kept` (a line too long is answered by its beginning).
 use mathlib.Core.Path.{_≡_, refl, sym, ap, ap₂, subst, _∙_}
 use mathlib.Core.Bool.{Bool, true, false, _&&_}
 use mathlib.Core.List.{List, [], _∷_, _++_, map}
@@ -13,20 +13,22 @@ use lib.Arith.{digits-div, digits-mod}
 use lib.Dec.{T, eqb, leb, lit≤, leb→le}
 use lib.ListN.{length, take, drop, length-map, length-drop}
 use lib.Seq.{length-take-le, take-at, take-all}
-use borrow.Author.Tests.{eq-eqb, le-leb, lt-leb}
+use borrow.Author.Tests.{eq-eqb, ne-eqb, le-leb, lt-leb}
 use Rattle.algebra.specs.Ops.{pick}
+use Rattle.algebra.proofs.Tests.{and-left, and-right, false-not-true}
 use Rattle.field.specs.Symbols.{Symbols}
 use Rattle.code.specs.declared.Setting.{Setting}
 use Rattle.code.specs.Settings.{isSetting, settingOf}
-use Rattle.code.specs.Windows.{windowLength, transmission, altered, Fits}
-use Rattle.tables.proofs.Small.{Sizes, sizesOf, smallOf}
+use Rattle.code.specs.Windows.{windowLength}
+use Rattle.code.proofs.Settings.{soundOf, Sizes, sizesOf, largestOf}
 use Rattle.link.specs.declared.Answer.{Answer}
-use Rattle.link.specs.Questions.{Question, ask, answer, firstNo, mostBlocks, blocksOf, symbolQuestion, transmissionQuestion, frameQuestions, decodingQuestions}
-use Rattle.link.specs.Decoding.{Decoded, refused as decoding-refused, found as decoding-found, none-fits as decoding-none}
-use Rattle.link.proofs.Answers.{first-no, all-yes, append-yes, message-small, transmission-small}
+use Rattle.link.specs.Questions.{Question, ask, answer, firstNo, mostBlocks, mostSymbols, mostInformation, blocksOf, symbolQuestion, transmissionQuestion, frameQuestions, decodingQuestions}
+use Rattle.link.specs.Decoding.{FrameDecoded, found, none-fits, DecodedIn, Decoded, refused as decoding-refused, well-formed as decoding-well-formed}
+use Rattle.link.proofs.Answers.{first-no, all-yes, append-yes, message-most, transmission-most}
+use Rattle.link.proofs.Determined.{parts-long, message-front}
 use Rattle.line.specs.Characters.{digitOf}
-use Rattle.line.specs.Questions.{mostCharacters, settingIn, blocksIn, symbolsIn, characterQuestions, headQuestions, lineQuestions}
-use Rattle.line.specs.Answering.{refusal, success, FitsIn, alteredIn, messageIn, Answers, refused, found, none-fits, FrameAnswered, Answered}
+use Rattle.line.specs.Questions.{mostCharacters, settingIn, blocksIn, symbolsIn, characterQuestions, headQuestions, HoldsFrame, lineQuestions}
+use Rattle.line.specs.Answering.{refusal, success, mostAnswer, outputLine, messageLength, messageIn, Answers, refused, well-formed, AnswerShown, Working, working, hasRoom, roomIn, RoomForAll, FrameLeft, Answered, no-frame, no-room, decoded}
 use Rattle.line.proofs.Asked.{HeadYes, head-yes, after-head, in-head}
 use Rattle.line.proofs.Placed.{six, success-long}
 
@@ -39,12 +41,19 @@ whole-frame T m n positive =
     let none : (T + m) * n ≡ (T + m) * n + 0 = omega arith in
     (ap (λ (t : ℕ). t % n) none ∙ digits-mod (T + m) positive, ap (λ (t : ℕ). t / n) none ∙ digits-div (T + m) positive)
 
+-- The characters that are read as symbols.
+pub symbols-count : (line : List ℕ) → length (symbolsIn line) ≡ length line - 4
+symbols-count line = length-map (drop 4 line) digitOf ∙ length-drop 4 line
+
+pub symbols-read : (line : List ℕ) → map digitOf (take (length line - 4) (drop 4 line)) ≡ symbolsIn line
+symbols-read line = ap (map digitOf) (take-all (length line - 4) (drop 4 line) (omega (arith, length-drop 4 line)))
+
 module _ (line : List ℕ) (yes : HeadYes line) where
   abbrev p : Setting
   p = settingOf (settingIn line)
 
   pub symbols-long : length (symbolsIn line) ≡ (blocksIn line + p .m) * p .n
-  symbols-long = length-map (drop 4 line) digitOf ∙ (length-drop 4 line ∙ yes .long)
+  symbols-long = symbols-count line ∙ yes .long
 
   pub sizes : Sizes p
   sizes = sizesOf (settingIn line) (yes .setting)
@@ -70,14 +79,14 @@ module _ (line : List ℕ) (yes : HeadYes line) where
       three : (a b c d : Bool) → a ≡ true → b ≡ true → c ≡ true → d ≡ true → firstNo (ask 1 a ∷ ask 2 (b && c) ∷ ask 3 d ∷ []) ≡ answer 0 0 0
       three a b c d ea eb ec ed = simp (ea, eb, ec, ed)
 
-  -- Question 4 is what is left, where the areas have room for every frame.
-  pub decoding-asked : (messageRoom transmissionRoom : ℕ) → 1536 ≤ messageRoom → 3598 ≤ transmissionRoom
+  -- Question 4 is what is left, where the areas have room for the frame.
+  pub decoding-asked : (messageRoom transmissionRoom : ℕ) → messageLength line ≤ messageRoom → length (symbolsIn line) ≤ transmissionRoom
       → firstNo (decodingQuestions (settingIn line) (symbolsIn line) messageRoom transmissionRoom) ≡ firstNo (symbolQuestion (p .q) (symbolsIn line) ∷ [])
   decoding-asked messageRoom transmissionRoom m t =
       let T = blocksOf p (length (symbolsIn line)) in
-      let few : T ≤ mostBlocks = omega (arith, blocks-is, yes .most) in
-      let message : T * p .k ≤ messageRoom = omega (arith, message-small p T sizes few) in
-      let sent : (T + p .m) * p .n ≤ transmissionRoom = omega (arith, transmission-small p T sizes few) in
+      let message : T * p .k ≤ messageRoom = subst (λ (t : ℕ). t * p .k ≤ messageRoom) (sym blocks-is) m in
+      let sent : (T + p .m) * p .n ≤ transmissionRoom =
+      subst (λ (t : ℕ). (t + p .m) * p .n ≤ transmissionRoom) (sym blocks-is) (subst (λ (t : ℕ). t ≤ transmissionRoom) symbols-long t) in
       append-yes (frameQuestions (settingIn line) (length (symbolsIn line)))
       (symbolQuestion (p .q) (symbolsIn line) ∷ ask 5 (leb (T * p .k) messageRoom) ∷ transmissionQuestion p T transmissionRoom ∷ []) tt
       (ap (λ (a : Answer). a .number) frame-asked)
@@ -87,108 +96,135 @@ module _ (line : List ℕ) (yes : HeadYes line) where
       last : (x : Question) (a b : Bool) → a ≡ true → b ≡ true → firstNo (x ∷ ask 5 a ∷ ask 6 b ∷ []) ≡ firstNo (x ∷ [])
       last x a b ea eb = simp (ea, eb)
 
--- Decoding's answer to the reception is the line's.
-module _ (line : List ℕ) (asked : firstNo (characterQuestions line ++ headQuestions line) .number ≡ 0) where
+-- The output line of an answer.
+pub refusal-line : (line : List ℕ) (r : Answer) (x : List ℕ) → (r .number ≡ 0 → ⊥) → outputLine line r x ≡ refusal r
+refusal-line line r x h = ap (λ (b : Bool). pick b (success (r .altered) (settingIn line) (blocksIn line) x) (refusal r)) (ne-eqb (r .number) 0 h)
+
+pub success-line : (line : List ℕ) (r : Answer) (x : List ℕ) → r .number ≡ 0 → outputLine line r x ≡ success (r .altered) (settingIn line) (blocksIn line) x
+success-line line r x h = ap (λ (b : Bool). pick b (success (r .altered) (settingIn line) (blocksIn line) x) (refusal r)) (eq-eqb (r .number) 0 h)
+
+-- Decoding's answer to the line's symbols is the line's, and its message is what is written.
+module _ (line : List ℕ) (holds : HoldsFrame line) where
   yes-of : HeadYes line
-  yes-of = head-yes line asked
+  yes-of = head-yes line holds
 
   abbrev setting : Setting
   setting = settingOf (settingIn line)
 
-  same-answer : (messageRoom transmissionRoom : ℕ) → 1536 ≤ messageRoom → 3598 ≤ transmissionRoom
+  same-answer : (messageRoom transmissionRoom : ℕ) → messageLength line ≤ messageRoom → length (symbolsIn line) ≤ transmissionRoom
       → firstNo (decodingQuestions (settingIn line) (symbolsIn line) messageRoom transmissionRoom) ≡ firstNo (lineQuestions line)
-  same-answer messageRoom transmissionRoom m t = decoding-asked line yes-of messageRoom transmissionRoom m t ∙ sym (after-head line asked)
+  same-answer messageRoom transmissionRoom m t = decoding-asked line yes-of messageRoom transmissionRoom m t ∙ sym (after-head line holds)
 
-  fits-there : (x : List ℕ) → FitsIn line x → Fits setting (blocksOf setting (length (symbolsIn line))) (symbolsIn line) x
-  fits-there x f = subst (λ (T : ℕ). Fits setting T (symbolsIn line) x) (sym (blocks-is line yes-of)) f
-
-  fits-here : (x : List ℕ) → Fits setting (blocksOf setting (length (symbolsIn line))) (symbolsIn line) x → FitsIn line x
-  fits-here x f = subst (λ (T : ℕ). Fits setting T (symbolsIn line) x) (blocks-is line yes-of) f
-
-  -- A message that fits, in front of the area's other bytes.
-  found-answered : (x rest area : List ℕ) (r : Answer) → firstNo (lineQuestions line) .number ≡ 0 → FitsIn line x → r ≡ answer 0 0 (alteredIn line x)
-      → area ≡ x ++ rest → FrameAnswered line r area
-  found-answered x rest area r h f e a =
-      let front : messageIn line area ≡ x =
-      ap (messageIn line) a ∙ take-at x rest (blocksIn line * setting .k) (f .message-of .long) in
-      let small : Symbols 16 x =
-      record { below = λ i l. lt-of-lt-of-le (f .message-of .symbols .below i l) (le-trans (smallOf (settingIn line) (yes-of .setting) .elements) (lit≤ tt)) } in
-      record {
-        refusal-is = λ z. absurd (z (ap (λ (a : Answer). a .number) e));
-        success-is = λ z. found h x f (ap₂ (λ (a : Answer) (y : List ℕ). success (a .altered) (settingIn line) (blocksIn line) y) e front);
-        symbols = λ z. subst (Symbols 16) (sym front) small;
-      }
-
-  decoded-answered : (message transmitted : List ℕ) (r : Answer) (message' transmitted' : List ℕ) → 1536 ≤ length message → 3598 ≤ length transmitted
-      → Decoded (settingIn line) (symbolsIn line) message transmitted r message' transmitted' → FrameAnswered line r message'
-  decoded-answered message transmitted r message' transmitted' m t (decoding-refused h e a b) =
-      let same = same-answer (length message) (length transmitted) m t in
-      let never : r .number ≡ 0 → ⊥ = λ z. h (ap (λ (a : Answer). a .number) (sym e) ∙ z) in
-      record {
-        refusal-is = λ z. refused (λ z. h (ap (λ (a : Answer). a .number) same ∙ z)) (ap refusal (e ∙ same));
-        success-is = λ z. absurd (never z);
-        symbols = λ z. absurd (never z);
-      }
-  decoded-answered message transmitted r message' transmitted' m t (decoding-found h x f e a b) =
-      let same = same-answer (length message) (length transmitted) m t in
-      found-answered x _ message' r (ap (λ (a : Answer). a .number) (sym same) ∙ h) (fits-here x f)
-      (e ∙ ap (λ (T : ℕ). answer 0 0 (altered setting T (symbolsIn line) (transmission setting x))) (blocks-is line yes-of)) a
-  decoded-answered message transmitted r message' transmitted' m t (decoding-none h none e a b) =
-      let same = same-answer (length message) (length transmitted) m t in
-      let never : r .number ≡ 0 → ⊥ = λ z. seven (ap (λ (a : Answer). a .number) (sym e) ∙ z) in
-      record {
-        refusal-is = λ z. none-fits (ap (λ (a : Answer). a .number) (sym same) ∙ h) (λ x f. none x (fits-there x f)) (ap refusal e);
-        success-is = λ z. absurd (never z);
-        symbols = λ z. absurd (never z);
-      }
+  -- Question 7 gives messages of symbols below 16.
+  small-symbols : {r : Answer} {x y : List ℕ} → FrameDecoded setting (blocksIn line) (symbolsIn line) r x y → r .number ≡ 0 → Symbols 16 x
+  small-symbols (found f e t) z =
+      record { below = λ i l. lt-of-lt-of-le (f .message-of .symbols .below i l) (le-trans (largestOf (λ p. p .q) (settingIn line) (yes-of .setting)) (lit≤ tt)) }
+  small-symbols (none-fits far e m t) z = absurd (seven (ap (λ (a : Answer). a .number) (sym e) ∙ z))
     where
       seven : _≡_ {A = ℕ} 7 0 → ⊥
       seven z = omega arith
 
-  -- The same of what code has in hand: the setting's number and the reception.
-  pub frame-answered : (number : ℕ) (reception message transmitted : List ℕ) (r : Answer) (message' transmitted' : List ℕ)
-      → number ≡ settingIn line → reception ≡ symbolsIn line → 1536 ≤ length message → 3598 ≤ length transmitted
-      → Decoded number reception message transmitted r message' transmitted' → FrameAnswered line r message'
-  frame-answered number reception message transmitted r message' transmitted' n s m t decoded =
-      decoded-answered message transmitted r message' transmitted' m t
-      (subst (λ (y : List ℕ). Decoded (settingIn line) y message transmitted r message' transmitted') s
-      (subst (λ (x : ℕ). Decoded x reception message transmitted r message' transmitted') n decoded))
+  pub frame-answered : (message transmitted : List ℕ) (r : Answer) (message' transmitted' : List ℕ)
+      → messageLength line ≤ length message → length (symbolsIn line) ≤ length transmitted
+      → Decoded (settingIn line) (symbolsIn line) message transmitted r message' transmitted'
+      → Answers line (outputLine line r (messageIn line message')) × (r .number ≡ 0 → Symbols 16 (messageIn line message'))
+  frame-answered message transmitted r message' transmitted' m t (decoding-refused h e a b) =
+      let same = same-answer (length message) (length transmitted) m t in
+      let never : r .number ≡ 0 → ⊥ = λ z. h (ap (λ (a : Answer). a .number) (sym e) ∙ z) in (
+        refused (λ z. h (ap (λ (a : Answer). a .number) same ∙ z)) (refusal-line line r (messageIn line message') never ∙ ap refusal (e ∙ same)),
+        λ z. absurd (never z),
+      )
+  frame-answered message transmitted r message' transmitted' m t (decoding-well-formed h D) =
+      let same = same-answer (length message) (length transmitted) m t in
+      let in-frame : DecodedIn setting (blocksIn line) (symbolsIn line) message transmitted r message' transmitted' =
+      subst (λ (T : ℕ). DecodedIn setting T (symbolsIn line) message transmitted r message' transmitted') (blocks-is line yes-of) D in
+      let front : messageIn line message' ≡ in-frame .message-part =
+      message-front setting (soundOf (settingIn line) (yes-of .setting)) (blocksIn line) (symbolsIn line) in-frame in (
+        well-formed (ap (λ (a : Answer). a .number) (sym same) ∙ h) r (in-frame .message-part) (in-frame .transmission-part) (in-frame .decoded) (ap (outputLine line r) front),
+        λ z. subst (Symbols 16) (sym front) (small-symbols (in-frame .decoded) z),
+      )
+
+  -- Areas with room for every frame have room for this one.
+  pub any-room : (w : Working) → RoomForAll w → roomIn line w ≡ true
+  any-room w R =
+      let symbols : length (symbolsIn line) ≤ mostSymbols =
+      subst (λ (t : ℕ). t ≤ mostSymbols) (sym (symbols-long line yes-of)) (transmission-most (settingIn line) setting (blocksIn line) (yes-of .setting) refl (yes-of .most)) in
+      let message : messageLength line ≤ mostInformation = message-most (settingIn line) setting (blocksIn line) (yes-of .setting) refl (yes-of .most) in
+      let a : length (symbolsIn line) ≤ length (w .reception) = omega (arith, R .reception) in
+      let b : length (symbolsIn line) ≤ length (w .transmission) = omega (arith, R .transmission) in
+      let c : messageLength line ≤ length (w .message) = omega (arith, R .message) in
+      simp (le-leb _ _ a, le-leb _ _ b, le-leb _ _ c)
+
+-- What room says.
+pub room-is : (line : List ℕ) (reception message transmission : ℕ) → hasRoom line reception message transmission ≡ true
+    → (length (symbolsIn line) ≤ reception) × (length (symbolsIn line) ≤ transmission) × (messageLength line ≤ message)
+room-is line reception message transmission e =
+    let symbols = leb (length (symbolsIn line)) reception in
+    let sent = leb (length (symbolsIn line)) transmission in
+    let short = leb (messageLength line) message in
+    let all : T (symbols && (sent && short)) = subst T (sym e) tt in
+    let later : T (sent && short) = and-right symbols (sent && short) all in (
+      leb→le (length (symbolsIn line)) reception (and-left symbols (sent && short) all),
+      leb→le (length (symbolsIn line)) transmission (and-left sent short later),
+      leb→le (messageLength line) message (and-right sent short later),
+    )
+
+-- The symbols were read into the front of the reception ..
+front-long : (line front : List ℕ) → front ≡ map digitOf (take (length line - 4) (drop 4 line)) → length front ≡ length line - 4
+front-long line front e = ap length (e ∙ symbols-read line) ∙ symbols-count line
+
+-- .. and decoded there.
+pub frame-left : (line : List ℕ) (number : ℕ) (front : List ℕ) (w : Working) (r : Answer) (message' transmitted' : List ℕ)
+    → number ≡ settingIn line → front ≡ map digitOf (take (length line - 4) (drop 4 line))
+    → Decoded number (take (length line - 4) (front ++ drop (length line - 4) (w .reception))) (w .message) (w .transmission) r message' transmitted'
+    → FrameLeft line w r (working (front ++ drop (length line - 4) (w .reception)) message' transmitted')
+frame-left line number front w r message' transmitted' n e D =
+    let is : front ≡ symbolsIn line = e ∙ symbols-read line in
+    record {
+      symbols = ap₂ (λ (x : List ℕ) (t : ℕ). x ++ drop t (w .reception)) is (sym (symbols-count line));
+      decoded =
+          subst (λ (y : List ℕ). Decoded (settingIn line) y (w .message) (w .transmission) r message' transmitted')
+          (take-at front (drop (length line - 4) (w .reception)) (length line - 4) (front-long line front e) ∙ is)
+          (subst (λ (x : ℕ). Decoded x (take (length line - 4) (front ++ drop (length line - 4) (w .reception))) (w .message) (w .transmission) r message' transmitted') n D);
+    }
 
 -- One of questions 11, 9, 1, 3 and 10 got "no".
 pub head-refused : (line : List ℕ) (r : Answer) → r ≡ firstNo (characterQuestions line ++ headQuestions line) → (r .number ≡ 0 → ⊥) → Answers line (refusal r)
 head-refused line r e never =
-    let head : firstNo (characterQuestions line ++ headQuestions line) .number ≡ 0 → ⊥ = λ z. never (ap (λ (a : Answer). a .number) e ∙ z) in
+    let head : HoldsFrame line → ⊥ = λ z. never (ap (λ (a : Answer). a .number) e ∙ z) in
     let same : firstNo (lineQuestions line) ≡ firstNo (characterQuestions line ++ headQuestions line) = in-head line head in
     refused (λ z. head (ap (λ (a : Answer). a .number) (sym same) ∙ z)) (ap refusal (e ∙ sym same))
 
--- The symbols that were read are the line's.
-pub read-frame : (line area : List ℕ) → take (length (take (length line - 4) (drop 4 line))) area ≡ map digitOf (take (length line - 4) (drop 4 line))
-    → take (length line - 4) area ≡ symbolsIn line
-read-frame line area e =
-    let all : take (length line - 4) (drop 4 line) ≡ drop 4 line = take-all (length line - 4) (drop 4 line) (omega (arith, length-drop 4 line)) in
-    ap (λ (t : ℕ). take t area) (sym (ap length all ∙ length-drop 4 line)) ∙ (e ∙ ap (map digitOf) all)
-
--- An output line has at most 1,546 characters, those of a success line of 512 blocks of three symbols.
-pub answers-most : (line text : List ℕ) → Answers line text → length text ≤ 1546
-answers-most line text (refused h e) = omega (arith, ap length e, six (firstNo (lineQuestions line) .number) (firstNo (lineQuestions line) .place))
-answers-most line text (found h x f e) =
-    let all = all-yes (lineQuestions line) tt h in
-    let few : blocksIn line ≤ mostBlocks = leb→le (blocksIn line) mostBlocks (all .1 .1 .1 .0) in
-    omega (
-      arith,
-      ap length e,
-      success-long (alteredIn line x) (settingIn line) (blocksIn line) x,
-      f .message-of .long,
-      message-small (settingOf (settingIn line)) (blocksIn line) (sizesOf (settingIn line) (all .1 .1 .0)) few,
-    )
-answers-most line text (none-fits h none e) = omega (arith, ap length e, six 7 0)
-
-pub answered-most : (line before : List ℕ) (r : ℕ) (after : List ℕ) → Answered line before r after → r ≤ 1546
-answered-most line before r after a = at (leb (length (a .text)) (length before)) (a .shown .long)
+-- An output line is no longer than the longest success line.
+output-most : (line : List ℕ) (r : Answer) (x : List ℕ) → length x ≤ mostInformation → length (outputLine line r x) ≤ mostAnswer
+output-most line r x l = at (eqb (r .number) 0)
   where
-    at : (t : Bool) → r ≡ pick t (length (a .text)) 0 → r ≤ 1546
+    at : (b : Bool) → length (pick b (success (r .altered) (settingIn line) (blocksIn line) x) (refusal r)) ≤ mostAnswer
+    at true = omega (arith, success-long (r .altered) (settingIn line) (blocksIn line) x)
+    at false = omega (arith, six (r .number) (r .place))
+
+pub answers-most : (line text : List ℕ) → Answers line text → length text ≤ mostAnswer
+answers-most line text (refused h e) = omega (arith, ap length e, six (firstNo (lineQuestions line) .number) (firstNo (lineQuestions line) .place))
+answers-most line text (well-formed h r x y f e) =
+    let all = all-yes (lineQuestions line) tt h in
+    let p = settingOf (settingIn line) in
+    let few : blocksIn line ≤ mostBlocks = leb→le (blocksIn line) mostBlocks (all .1 .1 .1 .0) in
+    let long : length x ≡ blocksIn line * p .k = parts-long p (soundOf (settingIn line) (all .1 .1 .0)) (blocksIn line) (symbolsIn line) f .0 in
+    omega (arith, ap length e, output-most line r x (omega (arith, message-most (settingIn line) p (blocksIn line) (all .1 .1 .0) refl few)))
+
+pub answer-most : (line before : List ℕ) (r : ℕ) (after : List ℕ) → AnswerShown line before r after → r ≤ mostAnswer
+answer-most line before r after a = at (leb (length (a .text)) (length before)) (a .shown .long)
+  where
+    at : (t : Bool) → r ≡ pick t (length (a .text)) 0 → r ≤ mostAnswer
     at true e = omega (arith, answers-most line (a .text) (a .answers))
     at false e = omega arith
+
+-- With room for every frame each line is answered.
+pub answered-shown : (line : List ℕ) (w : Working) (output : List ℕ) (r : ℕ) (w' : Working) (output' : List ℕ) → RoomForAll w
+    → Answered line w output r w' output' → AnswerShown line output r output'
+answered-shown line w output r w' output' R (no-frame h shown e) = shown
+answered-shown line w output r w' output' R (no-room holds none z o e) = absurd (false-not-true (sym none ∙ any-room line holds w R))
+answered-shown line w output r w' output' R (decoded holds room a left shown) = shown
 
 -- Question 11 is the first, and needs no more than one character too many.
 too-long : (line : List ℕ) → mostCharacters < length line → firstNo (lineQuestions line) ≡ answer 11 0 0
@@ -203,10 +239,7 @@ answers-kept room h line text a = at (decLe (length line) room)
         let whole : mostCharacters < length line = omega arith in
         let part : mostCharacters < length (take room line) = omega (arith, length-take-le room line (omega arith)) in
         refused (λ z. absurd (omega (arith, ap (λ r. r .number) (too-long line whole)))) (e ∙ ap refusal (too-long (take room line) part ∙ sym (too-long line whole)))
-    long d (found asked x fits e) =
-        let part : mostCharacters < length (take room line) = omega (arith, length-take-le room line (omega arith)) in
-        absurd (omega (arith, ap (λ r. r .number) (too-long (take room line) part)))
-    long d (none-fits asked far e) =
+    long d (well-formed asked r x y f e) =
         let part : mostCharacters < length (take room line) = omega (arith, length-take-le room line (omega arith)) in
         absurd (omega (arith, ap (λ r. r .number) (too-long (take room line) part)))
 

@@ -1,5 +1,6 @@
 -- The frame in a line, and the questions of a line (01, "Lines at the planning desk" and "Questions, asked in this order").
--- Holds: `settingIn`, `blocksIn`, `symbolsIn`; `digitsTo`; `characterQuestions`, `headQuestions`, `lineQuestions`.
+-- Holds: `settingIn`, `blocksIn`, `symbolsIn`; `digitsTo`; `mostCharacters`; `characterQuestions`, `headQuestions`, `HoldsFrame`, `lineQuestions`.
+use mathlib.Core.Path.{_≡_, refl}
 use mathlib.Core.Bool.{_&&_}
 use mathlib.Core.List.{List, [], _∷_, _++_, map}
 use Prim.Native.Nat.{ℕ, _+_, _-_, _*_}
@@ -7,7 +8,7 @@ use lib.Dec.{eqb, leb}
 use lib.ListN.{length, getD, drop}
 use Rattle.code.specs.declared.Setting.{Setting}
 use Rattle.code.specs.Settings.{isSetting, settingOf}
-use Rattle.link.specs.Questions.{Question, ask, askAt, mostBlocks, symbolsTo, symbolQuestion}
+use Rattle.link.specs.Questions.{Question, ask, askAt, firstNo, mostBlocks, mostSymbols, symbolsTo, symbolQuestion}
 use Rattle.line.specs.Characters.{digitOf}
 
 -- "one digit for the setting, three for T, then one a symbol for T+m blocks"
@@ -24,9 +25,13 @@ symbolsIn line = map digitOf (drop 4 line)
 abbrev pub digitsTo : List ℕ → ℕ
 digitsTo line = symbolsTo 16 (map digitOf line)
 
--- 4 + (512 + 2) × 7, the longest frame with its head.
+-- The longest frame behind its four digits.
 abbrev pub mostCharacters : ℕ
-mostCharacters = 3602
+mostCharacters = 4 + mostSymbols
+
+-- "At most 3,602 characters?"
+pub most-characters : mostCharacters ≡ 3602
+most-characters = refl
 
 -- 11: "At most 3,602 characters?" 9: "At least four, all 0-9 or a-f? (place: the first wrong character, else the length)".
 abbrev pub characterQuestions : List ℕ → List Question
@@ -46,6 +51,10 @@ headQuestions line =
     ∷ ask 3 (leb (blocksIn line) mostBlocks)
     ∷ lengthQuestion (settingOf (settingIn line)) (blocksIn line) (length line - 4)
     ∷ []
+
+-- 11, 9, 1, 3 and 10 get "yes": the line holds a frame.
+abbrev pub HoldsFrame : List ℕ → Type 0
+HoldsFrame line = firstNo (characterQuestions line ++ headQuestions line) .number ≡ 0
 
 -- "A line: 11 .. 9 .. 1; 3; 10 .. 4; 7." 4 counts its place in symbols. (7 is asked of the frame: see `Answers`.)
 abbrev pub lineQuestions : List ℕ → List Question

@@ -1,11 +1,11 @@
 -- 01's sample of refused lines ("The desk program's input"), computed; and three more: a line one character too long, a wrong character, a short line.
 use mathlib.Core.Path.{_≡_, refl}
 use mathlib.Core.List.{List, [], _∷_, map}
-use Prim.Native.Nat.{ℕ}
+use Prim.Native.Nat.{ℕ, _+_}
 use lib.ListN.{replicate}
 use Rattle.link.specs.Questions.{firstNo, symbolsTo}
 use Rattle.line.specs.Characters.{digitOf, characterOf, hex}
-use Rattle.line.specs.Questions.{lineQuestions}
+use Rattle.line.specs.Questions.{mostCharacters, lineQuestions}
 use Rattle.line.specs.Answering.{refusal}
 
 -- The first "no" of a line of these digits is answered by a line of those.
@@ -33,7 +33,7 @@ unfolding digitOf characterOf hex symbolsTo
 sample-length = refl
 
 -- All letters z: question 11 comes before 9.
-pub sample-long : refusal (firstNo (lineQuestions (replicate 3603 122))) ≡ map characterOf (0 ∷ 11 ∷ 0 ∷ 0 ∷ 0 ∷ 0 ∷ [])
+pub sample-long : refusal (firstNo (lineQuestions (replicate (mostCharacters + 1) 122))) ≡ map characterOf (0 ∷ 11 ∷ 0 ∷ 0 ∷ 0 ∷ 0 ∷ [])
 unfolding digitOf characterOf hex symbolsTo
 sample-long = refl
 

@@ -1,8 +1,8 @@
 // Characters and digits, one by one and in runs.
 ghost use mathlib.Core.Path.{_≡_};
 ghost use mathlib.Core.List.{map};
-ghost use Prim.Native.Nat.{_≤_, _<_};
-ghost use lib.ListN.{length, take};
+ghost use Prim.Native.Nat.{_<_};
+ghost use lib.ListN.{length};
 ghost use Rattle.line.specs.Characters.{digitOf, characterOf};
 ghost use Rattle.line.specs.Questions.{digitsTo};
 
@@ -50,10 +50,10 @@ pub fn first_wrong(line: &[u8]) -> usize
     i
 }
 
-// The values of the characters, at the front of the area.
+// The values of the characters, in an area of just their length.
 pub fn read_digits(characters: &[u8], area: &mut [u8])
-    requires { ⌜ length (now characters) ≤ length (now area) ⌝ }
-    ensures { λ _. ⌜ take (length (now (characters .entry))) (now (area .exit)) ≡ map digitOf (now (characters .entry)) ⌝ }
+    requires { ⌜ length (now characters) ≡ length (now area) ⌝ }
+    ensures { λ _. ⌜ now (area .exit) ≡ map digitOf (now (characters .entry)) ⌝ }
 {
     let mut i: usize = 0;
     while i < characters.len() {

@@ -3,9 +3,11 @@ ghost use mathlib.Core.Path.{_≡_};
 ghost use mathlib.Core.List.{_++_};
 ghost use Prim.Native.Nat.{_≤_};
 ghost use lib.ListN.{length};
-ghost use Rattle.link.specs.Questions.{firstNo};
+ghost use Rattle.link.specs.Questions.{firstNo, mostInformation};
 ghost use Rattle.line.specs.Characters.{digitOf};
-ghost use Rattle.line.specs.Questions.{settingIn, blocksIn, characterQuestions, headQuestions};
+ghost use Rattle.line.specs.Questions.{settingIn, blocksIn, characterQuestions, headQuestions, HoldsFrame};
+ghost use Rattle.line.specs.Answering.{messageLength};
+use super::MOST_CHARACTERS;
 use super::characters;
 use link::Answer;
 
@@ -34,11 +36,22 @@ pub fn blocks_in(line: &[u8]) -> u32
     (high * 16 + middle) * 16 + low
 }
 
+// T × k, the length of the message in the frame that the line holds.
+pub fn message_length(line: &[u8]) -> usize
+    requires { ⌜ HoldsFrame (now line) ⌝ }
+    ensures { λ r. ⌜ (r ≡ messageLength (now (line .entry))) × (r ≤ mostInformation) ⌝ }
+{
+    let number = setting_in(line);
+    let blocks = blocks_in(line) as usize;
+    let p = tables::setting(number);
+    blocks * p.k
+}
+
 // Questions 11 and 9.
 fn character_questions(line: &[u8]) -> Answer
     ensures { λ r. ⌜ r ≡ firstNo (characterQuestions (now (line .entry))) ⌝ }
 {
-    if 3602 < line.len() {
+    if MOST_CHARACTERS < line.len() {
         return link::questions::no(11, 0);
     }
     let right = characters::first_wrong(line);
@@ -60,8 +73,8 @@ fn head_questions(line: &[u8]) -> Answer
     if !tables::is_setting(number) {
         return link::questions::no(1, 0);
     }
-    let blocks = blocks_in(line);
-    if 512 < blocks {
+    let blocks = blocks_in(line) as usize;
+    if link::MOST_BLOCKS < blocks {
         return link::questions::no(3, 0);
     }
     if blocks < 1 {
@@ -70,7 +83,7 @@ fn head_questions(line: &[u8]) -> Answer
     let p = tables::setting(number);
     let n = p.n;
     let m = p.m;
-    if line.len() - 4 != (blocks as usize + m) * n {
+    if line.len() - 4 != (blocks + m) * n {
         return link::questions::no(10, 0);
     }
     link::questions::yes()

@@ -4,6 +4,7 @@ ghost use mathlib.Core.List.{map};
 ghost use Prim.Native.Nat.{_≤_, _<_, _%_};
 ghost use lib.ListN.{length};
 ghost use Rattle.field.specs.Symbols.{Symbols};
+ghost use Rattle.link.specs.Questions.{mostInformation};
 ghost use Rattle.line.specs.Characters.{characterOf, hex};
 ghost use Rattle.line.specs.Answering.{refusal, opening, success, Placed, Shown};
 use super::characters;
@@ -74,7 +75,7 @@ pub fn write_success(
     message: &[u8],
     output: &mut [u8],
 ) -> usize
-    requires { ⌜ Symbols 16 (now message) × (length (now message) ≤ 1536) ⌝ }
+    requires { ⌜ Symbols 16 (now message) × (length (now message) ≤ mostInformation) ⌝ }
     ensures { λ r. ⌜ Shown (success count number blocks (now (message .entry))) (now (output .entry)) r (now (output .exit)) ⌝ }
 {
     let long = 10 + message.len();

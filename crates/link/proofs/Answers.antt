@@ -2,12 +2,12 @@
 -- Holds: `first-yes`, `first-no` (one question), `append-yes`, `append-no` (a list of questions before others), `all-yes`, `yes-all` (number 0 says that every
 -- answer was "yes"), `after-first`, `after-frame` (what is left to ask, over the setting in hand); `symbols-start`, `symbols-next`, `symbols-stop`,
 -- `symbols-end` (question 4, as a loop asks it), `symbols-all`; `Frame`; `FrameYes`, `DecodingYes`, `EncodingYes`, `WindowYes` and `frame-yes`,
--- `decoding-yes`, `encoding-yes`, `display-yes`, `marks-yes`; `message-small`, `transmission-small`, `window-small` (the areas' sizes).
+-- `decoding-yes`, `encoding-yes`, `display-yes`, `marks-yes`; `message-most`, `transmission-most`, `transmission-small`, `window-small` (the areas' sizes).
 use mathlib.Core.Path.{_≡_, refl, sym, ap, subst, _∙_}
 use mathlib.Core.Bool.{Bool, true, false, not, _&&_}
 use mathlib.Core.List.{List, [], _∷_, _++_}
 use Prim.Native.Nat.{ℕ, suc, _+_, _-_, _*_, _/_, _%_, _≤_, _<_}
-use native.Mathlib.Nat.{div-add-mod', le-div-iff-mul-le, mul-le-mul}
+use native.Mathlib.Nat.{div-add-mod', le-div-iff-mul-le, le-trans, mul-le-mul, mul-le-mul-right}
 use native.Mathlib.Numerals.{add-one}
 use native.Mathlib.Omega.{arith}
 use lib.Dec.{T, eqb, leb, ltb, leb→le, ltb→lt, eqb→eq}
@@ -21,8 +21,8 @@ use Rattle.field.proofs.Symbols.{symbols-none as no-symbols, symbols-more}
 use Rattle.code.specs.declared.Setting.{Setting}
 use Rattle.code.specs.Settings.{isSetting, settingOf}
 use Rattle.code.specs.Windows.{windowLength, Message}
-use Rattle.tables.proofs.Small.{Sizes, sizesOf}
-use Rattle.link.specs.Questions.{Question, ask, answer, symbolQuestion, transmissionQuestion, firstNo, mostBlocks, blocksOf, symbolsTo, frameQuestions, decodingQuestions, encodingQuestions, displayQuestions, marksQuestions}
+use Rattle.code.proofs.Settings.{largestOf, Sizes, sizesOf}
+use Rattle.link.specs.Questions.{Question, ask, answer, symbolQuestion, transmissionQuestion, firstNo, mostBlocks, mostSymbols, mostInformation, blocksOf, symbolsTo, frameQuestions, decodingQuestions, encodingQuestions, displayQuestions, marksQuestions}
 
 -- One question: "yes" asks the rest, "no" is the answer.
 pub first-yes : (x : Question) (rest : List Question) → x .holds ≡ true → firstNo (x ∷ rest) ≡ firstNo rest
@@ -181,15 +181,24 @@ frame-yes number long e =
     let all = all-yes (frameQuestions number long) tt e in
     record { setting = all .0; frame = frame-of (settingOf number) long (sizesOf number (all .0)) (all .1 .0) (all .1 .1 .0) }
 
--- The areas that a frame of at most 512 blocks needs are small.
-pub message-small : (p : Setting) (T : ℕ) → Sizes p → T ≤ mostBlocks → T * p .k ≤ 512 * 3
-message-small p T s h = mul-le-mul h (s .information-most)
+-- The areas that a frame of any setting needs, over the setting p in hand.
+pub message-most : (number : ℕ) (p : Setting) (blocks : ℕ) → T (isSetting number) → p ≡ settingOf number → blocks ≤ mostBlocks → blocks * p .k ≤ mostInformation
+message-most number p blocks known e h =
+    subst (λ (s : Setting). blocks * s .k ≤ mostInformation) (sym e)
+    (le-trans (mul-le-mul-right (settingOf number .k) h) (largestOf (λ p. mostBlocks * p .k) number known))
 
-pub transmission-small : (p : Setting) (T : ℕ) → Sizes p → T ≤ mostBlocks → (T + p .m) * p .n ≤ 514 * 7
-transmission-small p T s h = let top : T + p .m ≤ 514 = omega (arith, s .memory-most) in mul-le-mul top (s .symbols-most)
+pub transmission-most : (number : ℕ) (p : Setting) (blocks : ℕ) → T (isSetting number) → p ≡ settingOf number → blocks ≤ mostBlocks → (blocks + p .m) * p .n ≤ mostSymbols
+transmission-most number p blocks known e h =
+    let top : blocks + settingOf number .m ≤ mostBlocks + settingOf number .m = omega arith in
+    subst (λ (s : Setting). (blocks + s .m) * s .n ≤ mostSymbols) (sym e)
+    (le-trans (mul-le-mul-right (settingOf number .n) top) (largestOf (λ p. (mostBlocks + p .m) * p .n) number known))
 
-pub window-small : (p : Setting) → Sizes p → windowLength p ≤ 3 * 7
-window-small p s = let top : p .m + 1 ≤ 3 = omega (arith, s .memory-most) in mul-le-mul top (s .symbols-most)
+-- Bounds of every setting there can be.
+pub transmission-small : (p : Setting) (T : ℕ) → Sizes p → T ≤ mostBlocks → (T + p .m) * p .n ≤ (mostBlocks + 255) * 255
+transmission-small p T s h = let top : T + p .m ≤ mostBlocks + 255 = omega (arith, s .memory-most) in mul-le-mul top (s .symbols-most)
+
+pub window-small : (p : Setting) → Sizes p → windowLength p ≤ 256 * 255
+window-small p s = let top : p .m + 1 ≤ 256 = omega (arith, s .memory-most) in mul-le-mul top (s .symbols-most)
 
 -- What decoding knows when questions 1 to 6 got "yes".
 pub record DecodingYes (number : ℕ) (reception : List ℕ) (messageRoom transmissionRoom : ℕ) : Type 0 where

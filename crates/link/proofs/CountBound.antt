@@ -12,7 +12,7 @@ use Rattle.code.specs.Settings.{settingOf}
 use Rattle.code.proofs.AlteredBound.{altered-bound}
 use Rattle.link.specs.declared.Answer.{Answer}
 use Rattle.link.specs.Questions.{Question, answer, firstNo, blocksOf, decodingQuestions}
-use Rattle.link.specs.Decoding.{Decoded, refused, found, none-fits}
+use Rattle.link.specs.Decoding.{FrameDecoded, found, none-fits, Decoded, refused, well-formed}
 
 -- "The count is 0" after a "no".
 first-no-count : (l : List Question) → firstNo l .altered ≡ 0
@@ -30,14 +30,18 @@ mostAltered p T = limit (p .n) (p .k) (p .m) * ((T + p .m + p .m) / (p .m + 1))
 zero-count : (r : Answer) (most : ℕ) → r .altered ≡ 0 → r .altered ≤ most
 zero-count r most e = omega arith
 
+-- Of question 7's answer.
+frame-count-bound : (p : Setting) (T : ℕ) (reception : List ℕ) {r : Answer} {message sent : List ℕ} → FrameDecoded p T reception r message sent
+    → r .altered ≤ mostAltered p T
+frame-count-bound p T reception {r} {message} (found F e t) =
+    subst (λ (t : ℕ). t ≤ mostAltered p T) (sym (ap (λ (a : Answer). a .altered) e)) (altered-bound p T reception message F)
+frame-count-bound p T reception {r} (none-fits far e f t) = zero-count r (mostAltered p T) (ap (λ (a : Answer). a .altered) e)
+
 -- Whatever was received and lent.
 pub count-bound : (number : ℕ) (reception message sent : List ℕ) (r : Answer) (message' sent' : List ℕ) → Decoded number reception message sent r message' sent'
     → r .altered ≤ mostAltered (settingOf number) (blocksOf (settingOf number) (length reception))
 count-bound number reception message sent r message' sent' (refused h e f g) =
     zero-count r (mostAltered (settingOf number) (blocksOf (settingOf number) (length reception)))
     (ap (λ (a : Answer). a .altered) e ∙ first-no-count (decodingQuestions number reception (length message) (length sent)))
-count-bound number reception message sent r message' sent' (found asked x F e f g) =
-    subst (λ (t : ℕ). t ≤ mostAltered (settingOf number) (blocksOf (settingOf number) (length reception))) (sym (ap (λ (a : Answer). a .altered) e))
-    (altered-bound (settingOf number) (blocksOf (settingOf number) (length reception)) reception x F)
-count-bound number reception message sent r message' sent' (none-fits asked far e f g) =
-    zero-count r (mostAltered (settingOf number) (blocksOf (settingOf number) (length reception))) (ap (λ (a : Answer). a .altered) e)
+count-bound number reception message sent r message' sent' (well-formed asked D) =
+    frame-count-bound (settingOf number) (blocksOf (settingOf number) (length reception)) reception (D .decoded)

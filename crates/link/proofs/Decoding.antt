@@ -4,7 +4,7 @@
 use mathlib.Core.Path.{_≡_, refl, sym, ap, subst, _∙_}
 use mathlib.Core.Bool.{Bool, true, false, not}
 use mathlib.Core.List.{List, _++_}
-use Prim.Native.Nat.{ℕ, _+_, _-_, _*_, _≤_, _<_}
+use Prim.Native.Nat.{ℕ, _+_, _*_, _≤_, _<_}
 use native.Mathlib.Omega.{arith}
 use native.Mathlib.Decide.{ℕ-discrete}
 use lib.Dec.{eqb}
@@ -19,13 +19,13 @@ use Rattle.code.specs.declared.Setting.{Setting}
 use Rattle.code.specs.Settings.{settingOf, Sound}
 use Rattle.code.specs.Windows.{transmission}
 use Rattle.code.proofs.Numbers.{transmission-length}
-use Rattle.tables.proofs.Small.{Sizes, sizesOf}
+use Rattle.code.proofs.Settings.{Sizes, sizesOf}
 use Rattle.frame.specs.Frame.{FrameRead, fits, none}
 use Rattle.frame.proofs.Ends.{left-altered, left-back}
 use Rattle.link.specs.declared.Answer.{Answer}
-use Rattle.link.specs.Questions.{answer, firstNo, blocksOf, decodingQuestions}
+use Rattle.link.specs.Questions.{answer, firstNo, mostBlocks, blocksOf, decodingQuestions}
 use Rattle.link.proofs.Answers.{decoding-yes}
-use Rattle.link.specs.Decoding.{Restored, FrameDecoded, frame-found, frame-none, Decoded, refused, found, none-fits}
+use Rattle.link.specs.Decoding.{Restored, FrameDecoded, found, none-fits, Decoded, refused, well-formed}
 
 module _ (q : ℕ) (reception before : List ℕ) where
   pub restored-none : Restored q 0 reception before before
@@ -63,14 +63,14 @@ module _ (p : Setting) (T : ℕ) (reception message left : List ℕ) where
   pub frame-decoded-none : {r : Bool} (a : Answer) (cleared emptied : List ℕ) → FrameRead p T reception message left r → not r ≡ true → a ≡ answer 7 0 0
       → cleared ≡ replicate (T * p .k) 0 → emptied ≡ replicate ((T + p .m) * p .n) 0 → FrameDecoded p T reception a cleared emptied
   frame-decoded-none a cleared emptied (fits F symbols long residual) h e f g = absurd (false-not-true h)
-  frame-decoded-none a cleared emptied (none far) h e f g = frame-none far e f g
+  frame-decoded-none a cleared emptied (none far) h e f g = none-fits far e f g
 
   pub frame-decoded-found : Sound p → {r : Bool} (restored : List ℕ) (weight : ℕ) → Symbols (p .q) reception → length reception ≡ (T + p .m) * p .n
       → FrameRead p T reception message left r → not r ≡ false → weight ≡ countOf (length left) (λ i. not (eqb (getD left i 0) 0))
       → Restored (p .q) (length left) reception left restored → FrameDecoded p T reception (answer 0 0 weight) message restored
   frame-decoded-found S restored weight R long (none far) h counted back = absurd (false-not-true (sym h))
   frame-decoded-found S restored weight R long (fits F symbols same residual) h counted back =
-      frame-found F
+      found F
       (ap (answer 0 0) (counted ∙ (ap (λ (t : ℕ). countOf t (λ i. not (eqb (getD left i 0) 0))) (same ∙ long)
       ∙ sym (left-altered p S T reception message left R (F .message-of) residual))))
       (ext-getD 0 restored (transmission p message) (back .long ∙ (same ∙ (long ∙ sym (transmission-length p S T message (F .message-of)))))
@@ -80,7 +80,7 @@ module _ (p : Setting) (T : ℕ) (reception message left : List ℕ) where
 pub record Receiving (p : Setting) (reception : List ℕ) (messageRoom transmissionRoom : ℕ) : Type 0 where
   pub sizes : Sizes p
   pub blocks : 1 ≤ blocksOf p (length reception)
-  pub most : blocksOf p (length reception) ≤ 512
+  pub most : blocksOf p (length reception) ≤ mostBlocks
   pub long : length reception ≡ (blocksOf p (length reception) + p .m) * p .n
   pub symbols : Symbols (p .q) reception
   pub message-room : blocksOf p (length reception) * p .k ≤ messageRoom
@@ -109,16 +109,9 @@ module _ (number : ℕ) (reception message transmitted : List ℕ) where
   decoded-asked p e asked {r} {front} {sent} =
       subst (λ (s : Setting). FrameDecoded s (blocksOf s (length reception)) reception r front sent
       → Decoded number reception message transmitted r (front ++ drop (blocksOf s (length reception) * s .k) message)
-      (sent ++ drop ((blocksOf s (length reception) + s .m) * s .n) transmitted)) (sym e) whole
-    where
-      whole : FrameDecoded (settingOf number) (blocksOf (settingOf number) (length reception)) reception r front sent
-          → Decoded number reception message transmitted r (front ++ drop (blocksOf (settingOf number) (length reception) * settingOf number .k) message)
-          (sent ++ drop ((blocksOf (settingOf number) (length reception) + settingOf number .m) * settingOf number .n) transmitted)
-      whole (frame-found F a t) =
-          found asked front F a refl (ap (λ (l : List ℕ). l ++ drop ((blocksOf (settingOf number) (length reception) + settingOf number .m) * settingOf number .n) transmitted) t)
-      whole (frame-none far a f t) =
-          none-fits asked far a (ap (λ (l : List ℕ). l ++ drop (blocksOf (settingOf number) (length reception) * settingOf number .k) message) f)
-          (ap (λ (l : List ℕ). l ++ drop ((blocksOf (settingOf number) (length reception) + settingOf number .m) * settingOf number .n) transmitted) t)
+      (sent ++ drop ((blocksOf s (length reception) + s .m) * s .n) transmitted)) (sym e)
+      (λ frame. well-formed asked
+      (record { message-part = front; transmission-part = sent; decoded = frame; message-area = refl; transmission-area = refl }))
 
   pub decoded-refused : (r : Answer) → r ≡ firstNo (decodingQuestions number reception (length message) (length transmitted)) → (r .number ≡ 0 → ⊥)
       → Decoded number reception message transmitted r message transmitted

@@ -8,13 +8,14 @@ use native.Mathlib.Nat.{mul-le-mul-right}
 use native.Mathlib.Omega.{arith}
 use lib.ListN.{length, take, drop}
 use lib.Seq.{take-append-le}
+use Rattle.code.specs.declared.Setting.{Setting}
 use Rattle.code.specs.Settings.{settingOf}
 use Rattle.code.specs.Windows.{Fits}
 use Rattle.code.proofs.Settings.{soundOf}
 use Rattle.code.proofs.Demand3.{independent-of-later-blocks}
 use Rattle.link.specs.declared.Answer.{Answer}
 use Rattle.link.specs.Questions.{firstNo, blocksOf, decodingQuestions}
-use Rattle.link.specs.Decoding.{Decoded, refused, found, none-fits}
+use Rattle.link.specs.Decoding.{FrameDecoded, found, none-fits, Decoded, refused, well-formed}
 use Rattle.link.proofs.Answers.{decoding-yes}
 
 -- What a call returned whose questions 1 to 6 got "yes", on a reception that some message fits: number 0, and a message that fits at the front of its area.
@@ -25,14 +26,20 @@ pub record Returned (number : ℕ) (reception : List ℕ) (r : Answer) (message'
   pub rest : List ℕ
   pub front : message' ≡ returned ++ rest
 
+-- Where some message fits, question 7's answer is one that fits.
+decodable-found : (p : Setting) (T : ℕ) (reception x : List ℕ) {r : Answer} {message sent : List ℕ} → Fits p T reception x → FrameDecoded p T reception r message sent
+    → (r .number ≡ 0) × Fits p T reception message
+decodable-found p T reception x F (found G e t) = (ap (λ (a : Answer). a .number) e, G)
+decodable-found p T reception x F (none-fits far e m t) = absurd (far x F)
+
 pub decodable-returns : (number : ℕ) (reception message transmitted : List ℕ) {r : Answer} {message' transmitted' : List ℕ}
     → firstNo (decodingQuestions number reception (length message) (length transmitted)) .number ≡ 0
     → (x : List ℕ) → Fits (settingOf number) (blocksOf (settingOf number) (length reception)) reception x
     → Decoded number reception message transmitted r message' transmitted' → Returned number reception r message'
 decodable-returns number reception message transmitted asked x F (refused h e m t) = absurd (h asked)
-decodable-returns number reception message transmitted asked x F (found h y G e m t) =
-    record { accepted = ap (λ (a : Answer). a .number) e; returned = y; fits = G; rest = drop (blocksOf (settingOf number) (length reception) * settingOf number .k) message; front = m }
-decodable-returns number reception message transmitted asked x F (none-fits h far e m t) = absurd (far x F)
+decodable-returns number reception message transmitted asked x F (well-formed h D) =
+    let one = decodable-found (settingOf number) (blocksOf (settingOf number) (length reception)) reception x F (D .decoded) in
+    record { accepted = one .0; returned = D .message-part; fits = one .1; rest = drop (blocksOf (settingOf number) (length reception) * settingOf number .k) message; front = D .message-area }
 
 -- "And the returned messages of any two decodable receptions, of one setting and length and alike through the end of that window, have the same blocks
 -- 0 to j, whatever stands after the window in either": for any two decoding calls whose questions 1 to 6 get yes, whatever the lent areas held.

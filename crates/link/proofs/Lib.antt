@@ -7,6 +7,7 @@ pub mod Windows
 pub mod Samples
 pub mod Decoding
 pub mod CountBound
+pub mod Determined
 pub mod OrderKinds
 pub mod Orders
 pub mod Demand3

@@ -22,7 +22,7 @@ use Rattle.code.proofs.Search.{fitsTest, fits-of-test, noneFits, no-message-fit
 use Rattle.link.specs.declared.Answer.{Answer}
 use Rattle.link.specs.Questions.{answer, firstNo, blocksOf, decodingQuestions, encodingQuestions}
 use Rattle.link.specs.Encoding.{Encoded, encodedArea}
-use Rattle.link.specs.Decoding.{Decoded, refused, found, none-fits}
+use Rattle.link.specs.Decoding.{FrameDecoded, found, none-fits, Decoded, refused, well-formed}
 use Rattle.link.proofs.Answers.{all-yes, yes-all, decoding-yes}
 
 pub data Call : Type 0 where
@@ -201,6 +201,12 @@ encoding-order o t before after r room E = (
     written =
         E .area ∙ ap (λ (b : Bool). pick b (encodedArea p (o .given) before) before) (eq-eqb (r .number) 0 (ap (λ (a : Answer). a .number) (E .answered ∙ clear)))
 
+-- Question 7's answer and parts are the order's.
+record Parts (o : Order) (r : Answer) (message sent : List ℕ) : Type 0 where
+  answered : r ≡ answer (o .number) (o .place) (o .count)
+  message-is : o .message ≡ message
+  sent-is : o .sent ≡ sent
+
 -- Questions 1 to 6 get "yes" of the order's reception with these areas.
 module _ (o : Order) (asked : firstNo (decodingQuestions (o .setting) (o .given) (length (o .message)) (length (o .sent))) .number ≡ 0) (clear-place : o .place ≡ 0) where
   abbrev p : Setting
@@ -214,9 +220,23 @@ module _ (o : Order) (asked : firstNo (decodingQuestions (o .setting) (o .given)
   never-refused message sent hm hs no-to =
       no-to (ap (λ (a : Answer). a .number) (decoding-room (o .setting) (o .given) (length (o .message)) (length message) (length (o .sent)) (length sent) asked hm hs))
 
+  -- Of the whole call it is enough to know question 7's answer and parts.
+  whole : (message message' sent sent' : List ℕ) (r : Answer) → length (o .message) ≤ length message → length (o .sent) ≤ length sent
+      → length (o .message) ≡ blocks o * p .k → length (o .sent) ≡ (blocks o + p .m) * p .n
+      → ((x y : List ℕ) → FrameDecoded p (blocks o) (o .given) r x y → Parts o r x y)
+      → Decoded (o .setting) (o .given) message sent r message' sent'
+      → (r ≡ answer (o .number) (o .place) (o .count)) × Begun (o .message) message message' × Begun (o .sent) sent sent'
+  whole message message' sent sent' r hm hs long sent-long frame (refused h e f g) = absurd (never-refused message sent hm hs h)
+  whole message message' sent sent' r hm hs long sent-long frame (well-formed h D) =
+      let parts = frame (D .message-part) (D .transmission-part) (D .decoded) in (
+        parts .answered,
+        begun (o .message) (D .message-part) message message' (blocks o * p .k) (D .message-area) (parts .message-is) long,
+        begun (o .sent) (D .transmission-part) sent sent' ((blocks o + p .m) * p .n) (D .transmission-area) (parts .sent-is) sent-long,
+      )
+
   read-order : o .number ≡ 0 → Passes (readTest o) → Promised decoding o
   unfolding readTest
-  read-order zero-number t message message' sent sent' r hm hs D = at D
+  read-order zero-number t message message' sent sent' r hm hs D = whole message message' sent sent' r hm hs (fits .message-of .long) sent-long frame D
     where
       fit : Bool
       fit = fitsTest p (blocks o) (o .given) (o .message)
@@ -240,21 +260,21 @@ module _ (o : Order) (asked : firstNo (decodingQuestions (o .setting) (o .given)
       sent-long =
           ap length sent-is ∙ transmission-length p sound (blocks o) (o .message) (fits .message-of)
 
-      at : Decoded (o .setting) (o .given) message sent r message' sent'
-          → (r ≡ answer (o .number) (o .place) (o .count)) × Begun (o .message) message message' × Begun (o .sent) sent sent'
-      at (refused h e f g) = absurd (never-refused message sent hm hs h)
-      at (none-fits a none e f g) = absurd (none (o .message) fits)
-      at (found a x F e f g) =
+      frame : (x y : List ℕ) → FrameDecoded p (blocks o) (o .given) r x y → Parts o r x y
+      frame x y (none-fits none e f g) = absurd (none (o .message) fits)
+      frame x y (found F e g) =
           let one : o .message ≡ x = at-most-one-fits p sound (blocks o) (o .given) (o .message) x fits F in
-          let sent-one : o .sent ≡ transmission p x = sent-is ∙ ap (transmission p) one in (
-            same-answer e zero-number clear-place (count-is ∙ ap (altered p (blocks o) (o .given)) sent-one),
-            begun (o .message) x message message' (blocks o * p .k) f one (fits .message-of .long),
-            begun (o .sent) (transmission p x) sent sent' ((blocks o + p .m) * p .n) g sent-one sent-long,
-          )
+          let sent-one : o .sent ≡ transmission p x = sent-is ∙ ap (transmission p) one in
+          record {
+            answered = same-answer e zero-number clear-place (count-is ∙ ap (altered p (blocks o) (o .given)) sent-one);
+            message-is = one;
+            sent-is = sent-one ∙ sym g;
+          }
 
   seven-order : o .number ≡ 7 → Passes (sevenTest o) → Promised decoding o
   unfolding sevenTest
-  seven-order seven t message message' sent sent' r hm hs D = at D
+  seven-order seven t message message' sent sent' r hm hs D =
+      whole message message' sent sent' r hm hs (zeros-long (blocks o * p .k) (o .message) message-is) (zeros-long ((blocks o + p .m) * p .n) (o .sent) sent-is) frame D
     where
       none : Bool
       none = noneFits p (blocks o) (o .given)
@@ -280,15 +300,9 @@ module _ (o : Order) (asked : firstNo (decodingQuestions (o .setting) (o .given)
       count-is : o .count ≡ 0
       count-is = eqb→eq (o .count) 0 (and-right no-sent no-count (and-right no-message (no-sent && no-count) later))
 
-      at : Decoded (o .setting) (o .given) message sent r message' sent'
-          → (r ≡ answer (o .number) (o .place) (o .count)) × Begun (o .message) message message' × Begun (o .sent) sent sent'
-      at (refused h e f g) = absurd (never-refused message sent hm hs h)
-      at (found a x F e f g) = absurd (no-message-fits p sound (blocks o) (o .given) (and-left none (no-message && (no-sent && no-count)) t) x F)
-      at (none-fits a far e f g) = (
-        same-answer e seven clear-place count-is,
-        begun (o .message) (replicate (blocks o * p .k) 0) message message' (blocks o * p .k) f message-is (zeros-long (blocks o * p .k) (o .message) message-is),
-        begun (o .sent) (replicate ((blocks o + p .m) * p .n) 0) sent sent' ((blocks o + p .m) * p .n) g sent-is (zeros-long ((blocks o + p .m) * p .n) (o .sent) sent-is),
-      )
+      frame : (x y : List ℕ) → FrameDecoded p (blocks o) (o .given) r x y → Parts o r x y
+      frame x y (found F e g) = absurd (no-message-fits p sound (blocks o) (o .given) (and-left none (no-message && (no-sent && no-count)) t) x F)
+      frame x y (none-fits far e f g) = record { answered = same-answer e seven clear-place count-is; message-is = message-is ∙ sym f; sent-is = sent-is ∙ sym g }
 
 order-kept : (c : Call) (o : Order) → Passes (testOf c o) → Promised c o
 unfolding decodingTest

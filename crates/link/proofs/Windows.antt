@@ -3,7 +3,7 @@
 use mathlib.Core.Path.{_≡_, sym, ap, subst, _∙_}
 use mathlib.Core.Bool.{Bool, not}
 use mathlib.Core.List.{List, []}
-use Prim.Native.Nat.{ℕ, _+_, _-_, _*_, _≤_, _<_}
+use Prim.Native.Nat.{ℕ, _+_, _-_, _*_, _≤_}
 use native.Mathlib.Nat.{mul-le-mul-right}
 use native.Mathlib.Omega.{arith}
 use lib.Count.{ones}
@@ -13,32 +13,30 @@ use borrow.Author.Tests.{eq-eqb, ne-eqb}
 use Rattle.algebra.specs.Ops.{pick}
 use Rattle.code.specs.declared.Setting.{Setting}
 use Rattle.code.specs.Settings.{settingOf}
-use Rattle.code.specs.Windows.{windowLength, windowDistance}
-use Rattle.tables.proofs.Small.{Sizes}
+use Rattle.code.specs.Windows.{windowLength, windowDistance, mostWindow}
+use Rattle.code.proofs.Settings.{Sizes, largestOf}
 use Rattle.link.specs.declared.Answer.{Answer}
 use Rattle.link.specs.Questions.{firstNo, blocksOf, displayQuestions, marksQuestions}
 use Rattle.link.specs.Display.{windowOf}
 use Rattle.link.specs.Marks.{marksOf, Marked}
-use Rattle.link.proofs.Answers.{Frame, WindowYes, window-small}
+use Rattle.link.proofs.Answers.{WindowYes}
 use Rattle.link.proofs.Bits.{ones-bits}
 
--- Window j lies within a frame of this length; it has at most 21 symbols.
+-- Window j lies within a frame of this length, and is no longer than any.
 pub record Window (p : Setting) (long j : ℕ) : Type 0 where
   pub sizes : Sizes p
-  pub small : windowLength p ≤ 21
+  pub short : windowLength p ≤ mostWindow
   pub within : j * p .n + windowLength p ≤ long
 
-window-of : (p : Setting) (long j : ℕ) → Frame p long → j < blocksOf p long → Window p long j
-window-of p long j f h =
-    let top : j + (p .m + 1) ≤ blocksOf p long + p .m = omega arith in
-    record {
-      sizes = f .sizes;
-      small = window-small p (f .sizes);
-      within = omega (arith, mul-le-mul-right (p .n) top, f .long-is);
-    }
-
 pub window-yes : (number long j : ℕ) (p : Setting) → p ≡ settingOf number → WindowYes number long j → Window p long j
-window-yes number long j p e y = subst (λ (p : Setting). Window p long j) (sym e) (window-of (settingOf number) long j (y .frame) (y .inside))
+window-yes number long j p e y =
+    let top : j + (settingOf number .m + 1) ≤ blocksOf (settingOf number) long + settingOf number .m = omega (arith, y .inside) in
+    subst (λ (p : Setting). Window p long j) (sym e)
+    (record {
+      sizes = y .frame .sizes;
+      short = largestOf windowLength number (y .setting);
+      within = omega (arith, mul-le-mul-right (settingOf number .n) top, y .frame .long-is);
+    })
 
 -- The display.
 module _ (number : ℕ) (reception : List ℕ) (j : ℕ) where

@@ -1,5 +1,5 @@
--- What decoding promises (demands 1 and 2; 01, "Questions, asked in this order"). Holds: `Decoded`;
--- `Restored` and `FrameDecoded`, what its parts promise one another.
+-- What decoding promises (demands 1 and 2; 01, "Questions, asked in this order"). Holds: `FrameDecoded`, the two answers to question 7; `DecodedIn`, these
+-- in lent areas; `Decoded`, a whole call. `Restored` is what its parts promise one another.
 use mathlib.Core.Path.{_≡_}
 use mathlib.Core.List.{List, _++_}
 use Prim.Native.Nat.{ℕ, _+_, _*_, _≤_, _<_}
@@ -18,12 +18,23 @@ pub record Restored (q count : ℕ) (reception before after : List ℕ) : Type 0
   pub inside : (i : ℕ) → i < count → getD after i 0 ≡ sub (opsOf q) (getD reception i 0) (getD before i 0)
   pub outside : (i : ℕ) → count ≤ i → getD after i 0 ≡ getD before i 0
 
--- Question 7, with areas of just the right size: the message that fits, its transmission and its altered symbols; or number 7 and zeros.
+-- Question 7, "Does some message fit?", of a reception of T+m blocks: the answer, and what it puts in the first T × k bytes of the message area and in the
+-- first (T+m) × n of the transmission area.
 pub data FrameDecoded (p : Setting) (T : ℕ) (reception : List ℕ) (r : Answer) (message transmitted : List ℕ) : Type 0 where
-  frame-found : Fits p T reception message → r ≡ answer 0 0 (altered p T reception (transmission p message)) → transmitted ≡ transmission p message
+  -- "a message that fits, its transmission and the number of symbols altered"
+  found : Fits p T reception message → r ≡ answer 0 0 (altered p T reception (transmission p message)) → transmitted ≡ transmission p message
       → FrameDecoded p T reception r message transmitted
-  frame-none : ((x : List ℕ) → Fits p T reception x → ⊥) → r ≡ answer 7 0 0 → message ≡ replicate (T * p .k) 0
+  -- "It refuses with number 7 if no message fits", and "the places for the message and its transmission hold zeros".
+  none-fits : ((x : List ℕ) → Fits p T reception x → ⊥) → r ≡ answer 7 0 0 → message ≡ replicate (T * p .k) 0
       → transmitted ≡ replicate ((T + p .m) * p .n) 0 → FrameDecoded p T reception r message transmitted
+
+-- The same in lent areas: each holds its part, and "bytes past those places never change".
+pub record DecodedIn (p : Setting) (T : ℕ) (reception message transmitted : List ℕ) (r : Answer) (message' transmitted' : List ℕ) : Type 0 where
+  pub message-part : List ℕ
+  pub transmission-part : List ℕ
+  pub decoded : FrameDecoded p T reception r message-part transmission-part
+  pub message-area : message' ≡ message-part ++ drop (T * p .k) message
+  pub transmission-area : transmitted' ≡ transmission-part ++ drop ((T + p .m) * p .n) transmitted
 
 -- What a call on this setting and reception, with these areas lent, answers and leaves in the areas.
 pub data Decoded (number : ℕ) (reception message transmitted : List ℕ) (r : Answer) (message' transmitted' : List ℕ) : Type 0 where
@@ -31,20 +42,7 @@ pub data Decoded (number : ℕ) (reception message transmitted : List ℕ) (r : 
   refused : (firstNo (decodingQuestions number reception (length message) (length transmitted)) .number ≡ 0 → ⊥)
       → r ≡ firstNo (decodingQuestions number reception (length message) (length transmitted))
       → message' ≡ message → transmitted' ≡ transmitted → Decoded number reception message transmitted r message' transmitted'
-  -- A message fits: it, its transmission and the number of symbols altered; every byte past those places as before.
-  found : firstNo (decodingQuestions number reception (length message) (length transmitted)) .number ≡ 0
-      → (x : List ℕ) → Fits (settingOf number) (blocksOf (settingOf number) (length reception)) reception x
-      → r ≡ answer 0 0 (altered (settingOf number) (blocksOf (settingOf number) (length reception)) reception (transmission (settingOf number) x))
-      → message' ≡ x ++ drop (blocksOf (settingOf number) (length reception) * settingOf number .k) message
-      → transmitted' ≡ transmission (settingOf number) x
-      ++ drop ((blocksOf (settingOf number) (length reception) + settingOf number .m) * settingOf number .n) transmitted
-      → Decoded number reception message transmitted r message' transmitted'
-  -- No message fits: number 7, place and count 0, and zeros in those places; every byte past them as before.
-  none-fits : firstNo (decodingQuestions number reception (length message) (length transmitted)) .number ≡ 0
-      → ((x : List ℕ) → Fits (settingOf number) (blocksOf (settingOf number) (length reception)) reception x → ⊥)
-      → r ≡ answer 7 0 0
-      → message' ≡ replicate (blocksOf (settingOf number) (length reception) * settingOf number .k) 0
-      ++ drop (blocksOf (settingOf number) (length reception) * settingOf number .k) message
-      → transmitted' ≡ replicate ((blocksOf (settingOf number) (length reception) + settingOf number .m) * settingOf number .n) 0
-      ++ drop ((blocksOf (settingOf number) (length reception) + settingOf number .m) * settingOf number .n) transmitted
+  -- "From a well-formed reception, with areas large enough": question 7, with the setting of that number and the T of that length.
+  well-formed : firstNo (decodingQuestions number reception (length message) (length transmitted)) .number ≡ 0
+      → DecodedIn (settingOf number) (blocksOf (settingOf number) (length reception)) reception message transmitted r message' transmitted'
       → Decoded number reception message transmitted r message' transmitted'

@@ -1,5 +1,5 @@
 -- The questions of each call (01, "Questions, asked in this order"): a call's answer is the first "no".
--- Holds: `Question`, `firstNo`; `blocksOf` (T), `symbolsTo`; the questions of decoding, encoding, display and marks.
+-- Holds: `Question`, `firstNo`; `mostBlocks`, `mostSymbols`, `mostInformation`; `blocksOf` (T), `symbolsTo`; the questions of decoding, encoding, display and marks.
 use mathlib.Core.Bool.{Bool, _&&_}
 use mathlib.Core.List.{List, [], _∷_, _++_}
 use Prim.Native.Nat.{ℕ, suc, _+_, _-_, _*_, _/_, _%_}
@@ -7,7 +7,7 @@ use lib.Dec.{eqb, leb, ltb}
 use lib.ListN.{length}
 use Rattle.algebra.specs.Ops.{pick}
 use Rattle.code.specs.declared.Setting.{Setting}
-use Rattle.code.specs.Settings.{isSetting, settingOf}
+use Rattle.code.specs.Settings.{settings, isSetting, settingOf, largest}
 use Rattle.code.specs.Windows.{windowLength}
 use Rattle.link.specs.declared.Answer.{Answer}
 
@@ -35,6 +35,13 @@ firstNo (x ∷ rest) = pick (x .holds) (firstNo rest) (answer (x .number) (x .pl
 -- "T at most 512"
 abbrev pub mostBlocks : ℕ
 mostBlocks = 512
+
+-- The most symbols of a transmission, (T+m) × n, and of a message, T × k, of any setting.
+abbrev pub mostSymbols : ℕ
+mostSymbols = largest (λ p. (mostBlocks + p .m) * p .n) settings
+
+abbrev pub mostInformation : ℕ
+mostInformation = largest (λ p. mostBlocks * p .k) settings
 
 -- T of a reception of this length.
 abbrev pub blocksOf : Setting → ℕ → ℕ

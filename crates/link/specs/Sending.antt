@@ -3,17 +3,19 @@ use mathlib.Core.Path.{_≡_}
 use mathlib.Core.List.{List}
 use Prim.Native.Nat.{ℕ, _≤_, _<_}
 use lib.ListN.{getD}
+use Rattle.field.specs.Tables.{Products}
 use Rattle.code.specs.declared.Setting.{Setting}
 use Rattle.code.specs.Windows.{transmission, Message}
 use Rattle.code.specs.Reading.{Residual}
 use Rattle.tables.specs.Tables.{Ready}
 use Rattle.frame.specs.Frame.{Areas}
+use Rattle.link.specs.Questions.{mostBlocks}
 
 -- A message of T blocks, and the tables of its setting.
-pub record Sending (p : Setting) (products : List (List ℕ)) (rows message : List ℕ) (T : ℕ) : Type 0 where
+pub record Sending (p : Setting) (products : Products) (rows message : List ℕ) (T : ℕ) : Type 0 where
   pub ready : Ready p products rows
   pub message-of : Message p T message
-  pub most : T ≤ 512
+  pub most : T ≤ mostBlocks
 
 -- The message's first `count` symbols were sent: the area holds its transmission less that of the rest, the message with zeros in their places.
 pub record SentTo (p : Setting) (T : ℕ) (message : List ℕ) (count : ℕ) (area : List ℕ) : Type 0 where

@@ -6,10 +6,14 @@ ghost use lib.ListN.{length};
 ghost use Rattle.field.specs.Fields.{Good};
 ghost use Rattle.field.specs.Symbols.{Symbols};
 ghost use Rattle.code.specs.Settings.{isSetting, settingOf};
+ghost use Rattle.link.specs.Questions.{mostBlocks};
+ghost use Rattle.tables.specs.Tables.{Ready};
+ghost use Rattle.block.specs.Area.{Working};
 ghost use Rattle.link.specs.Decoding.{Restored, FrameDecoded, Decoded};
 use super::Answer;
 use super::questions;
 use code::Setting;
+use field::Tables;
 
 // The reception less what is left of it: the transmission, in the place of what is left.
 fn restore(q: usize, reception: &[u8], left: &mut [u8])
@@ -24,7 +28,50 @@ fn restore(q: usize, reception: &[u8], left: &mut [u8])
     }
 }
 
-// Question 7, on areas of just the sizes that the message and its transmission take.
+// Question 7, with the tables and the working areas lent, on areas of just the sizes that the message and its transmission take.
+fn decode_lent(
+    p: Setting,
+    products: &Tables,
+    rows: &[u8],
+    blocks: usize,
+    reception: &[u8],
+    message: &mut [u8],
+    transmission: &mut [u8],
+    series: &mut [u8],
+    locator: &mut [u8],
+    values: &mut [u8],
+    information: &mut [u8],
+) -> Answer
+    requires { ⌜ Ready p (now products) (now rows) × (1 ≤ blocks) × (blocks ≤ mostBlocks) × (length (now reception) ≡ (blocks + p .m) * p .n) × Symbols (p .q) (now reception) × (length (now message) ≡ blocks * p .k) × (length (now transmission) ≡ length (now reception)) × Working p (now series) (now locator) (now values) (now information) ⌝ }
+    ensures { λ r. ⌜ FrameDecoded p blocks (now (reception .entry)) r (now (message .exit)) (now (transmission .exit)) ⌝ }
+{
+    if !frame::reading::read(
+        p,
+        products,
+        rows,
+        blocks,
+        reception,
+        message,
+        transmission,
+        series,
+        locator,
+        values,
+        information,
+    ) {
+        field::clear(message);
+        field::clear(transmission);
+        return questions::no(7, 0);
+    }
+    let altered = frame::area::weight(transmission);
+    restore(p.q, reception, transmission);
+    Answer {
+        number: 0,
+        altered: altered as u32,
+        place: 0,
+    }
+}
+
+// The same; the tables and the working areas are made here.
 fn decode_frame(
     setting: u32,
     p: Setting,
@@ -33,13 +80,18 @@ fn decode_frame(
     message: &mut [u8],
     transmission: &mut [u8],
 ) -> Answer
-    requires { ⌜ T (isSetting setting) × (p ≡ settingOf setting) × (1 ≤ blocks) × (blocks ≤ 512) × (length (now reception) ≡ (blocks + p .m) * p .n) × Symbols (p .q) (now reception) × (length (now message) ≡ blocks * p .k) × (length (now transmission) ≡ length (now reception)) ⌝ }
+    requires { ⌜ T (isSetting setting) × (p ≡ settingOf setting) × (1 ≤ blocks) × (blocks ≤ mostBlocks) × (length (now reception) ≡ (blocks + p .m) * p .n) × Symbols (p .q) (now reception) × (length (now message) ≡ blocks * p .k) × (length (now transmission) ≡ length (now reception)) ⌝ }
     ensures { λ r. ⌜ FrameDecoded p blocks (now (reception .entry)) r (now (message .exit)) (now (transmission .exit)) ⌝ }
 {
-    let q = p.q;
-    let products = field::tables(q);
-    let rows = tables::rows(setting);
-    if !frame::reading::read(
+    let products = field::tables(p.q);
+    let mut rows = [0u8; tables::MOST_ROWS];
+    tables::rows(setting, &mut rows);
+    let mut series = [0u8; tables::MOST_BLOCK + 1];
+    let mut locator = [0u8; tables::MOST_BLOCK + 1];
+    let mut values = [0u8; tables::MOST_BLOCK + 1];
+    let mut information = [0u8; tables::MOST_BLOCK + 1];
+    let room = p.n + 1;
+    decode_lent(
         p,
         &products,
         &rows,
@@ -47,18 +99,11 @@ fn decode_frame(
         reception,
         message,
         transmission,
-    ) {
-        frame::area::clear(message);
-        frame::area::clear(transmission);
-        return questions::no(7, 0);
-    }
-    let altered = frame::area::weight(transmission);
-    restore(q, reception, transmission);
-    Answer {
-        number: 0,
-        altered: altered as u32,
-        place: 0,
-    }
+        &mut series[..room],
+        &mut locator[..room],
+        &mut values[..room],
+        &mut information[..room],
+    )
 }
 
 // Decodes a reception: the answer to questions 1 to 7 and the number of symbols altered; the message that fits in the first T × k bytes of its

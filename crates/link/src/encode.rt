@@ -1,21 +1,23 @@
 // Encoding: from a message (the information word) to its transmission (the codeword).
 ghost use mathlib.Core.Path.{_≡_};
-ghost use Prim.Native.Nat.{_+_, _*_, _<_};
+ghost use Prim.Native.Nat.{_+_, _*_, _≤_, _<_};
+ghost use lib.Dec.{T};
 ghost use lib.ListN.{length};
-ghost use Rattle.code.specs.Windows.{transmission};
+ghost use Rattle.code.specs.Settings.{isSetting, settingOf};
+ghost use Rattle.code.specs.Windows.{transmission, Message};
+ghost use Rattle.link.specs.Questions.{mostBlocks};
 ghost use Rattle.link.specs.Sending.{Sending, SentTo};
 ghost use Rattle.link.specs.Encoding.{Encoded};
 use super::Answer;
 use super::questions;
 use code::Setting;
 use field::Tables;
-use tables::Rows;
 
 // Sends information block i: adds what it contributes to the m+1 blocks that it reaches.
 fn send_block(
     p: Setting,
     products: &Tables,
-    rows: &Rows,
+    rows: &[u8],
     message: &[u8],
     blocks: usize,
     i: usize,
@@ -38,16 +40,27 @@ fn send_block(
 }
 
 // The whole transmission: zeros, to which each information block adds its part.
-fn send(p: Setting, products: &Tables, rows: &Rows, message: &[u8], blocks: usize, area: &mut [u8])
+fn send(p: Setting, products: &Tables, rows: &[u8], message: &[u8], blocks: usize, area: &mut [u8])
     requires { ⌜ Sending p (now products) (now rows) (now message) blocks × (length (now area) ≡ (blocks + p .m) * p .n) ⌝ }
     ensures { λ _. ⌜ now (area .exit) ≡ transmission p (now (message .entry)) ⌝ }
 {
-    frame::area::clear(area);
+    field::clear(area);
     let mut i: usize = 0;
     while i < blocks {
         send_block(p, products, rows, message, blocks, i, area);
         i += 1;
     }
+}
+
+// The transmission of a message, in an area of just its size; the tables are made here.
+fn encode_frame(setting: u32, p: Setting, message: &[u8], blocks: usize, area: &mut [u8])
+    requires { ⌜ T (isSetting setting) × (p ≡ settingOf setting) × Message p blocks (now message) × (blocks ≤ mostBlocks) × (length (now area) ≡ (blocks + p .m) * p .n) ⌝ }
+    ensures { λ _. ⌜ now (area .exit) ≡ transmission p (now (message .entry)) ⌝ }
+{
+    let mut rows = [0u8; tables::MOST_ROWS];
+    tables::rows(setting, &mut rows);
+    let products = field::tables(p.q);
+    send(p, &products, &rows, message, blocks, area);
 }
 
 // Encodes a message: the answer to questions 1, 8, 3, 4 and 6, and the transmission in the first (T+m) × n bytes of its area.
@@ -59,20 +72,8 @@ pub fn encode(setting: u32, message: &[u8], transmission: &mut [u8]) -> Answer
         return answer;
     }
     let p = tables::setting(setting);
-    let n = p.n;
-    let k = p.k;
-    let m = p.m;
-    let products = field::tables(p.q);
-    let rows = tables::rows(setting);
-    let blocks = message.len() / k;
-    let long = (blocks + m) * n;
-    send(
-        p,
-        &products,
-        &rows,
-        message,
-        blocks,
-        &mut transmission[..long],
-    );
+    let blocks = message.len() / p.k;
+    let long = (blocks + p.m) * p.n;
+    encode_frame(setting, p, message, blocks, &mut transmission[..long]);
     answer
 }

@@ -5,6 +5,9 @@ pub mod encode;
 pub mod mark;
 pub mod questions;
 
+// "T at most 512"
+pub const MOST_BLOCKS: usize = 512;
+
 // The answer of every call: the number and place of the first question answered "no", or 0 and 0, and the number of symbols altered.
 #[repr(C)]
 pub struct Answer {

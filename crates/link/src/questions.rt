@@ -2,6 +2,7 @@
 ghost use mathlib.Core.Path.{_≡_};
 ghost use Rattle.link.specs.Questions.{answer, firstNo, symbolsTo, frameQuestions, decodingQuestions, encodingQuestions, displayQuestions, marksQuestions};
 use super::Answer;
+use super::MOST_BLOCKS;
 
 // "When every answer is yes, number and place are 0."
 pub fn yes() -> Answer
@@ -61,7 +62,7 @@ pub fn frame_questions(number: u32, long: usize) -> Answer
     if long < (m + 1) * n {
         return no(2, 0);
     }
-    if 512 < long / n - m {
+    if MOST_BLOCKS < long / n - m {
         return no(3, 0);
     }
     yes()
@@ -118,7 +119,7 @@ pub fn encoding_questions(number: u32, message: &[u8], transmission_room: usize)
         return no(8, 0);
     }
     let blocks = message.len() / k;
-    if 512 < blocks {
+    if MOST_BLOCKS < blocks {
         return no(3, 0);
     }
     let symbols = first_not_below(q, message);

@@ -1,51 +1,88 @@
 -- Multiples of the generator's rows, added to a block symbol by symbol and to a window block by block.
--- Holds: `row-none`, `row-more`, `rows-none`, `rows-more`.
+-- Holds: `multiple-none`, `multiple-more`; `row-room`, `row-symbols`, `row-added`; `rows-none`, `rows-more`.
 use mathlib.Core.Path.{_≡_, refl, sym, ap, ap₂, subst, _∙_}
 use mathlib.Core.List.{List}
 use Prim.Native.Nat.{ℕ, _+_, _-_, _*_, _≤_, _<_}
+use native.Mathlib.Nat.{mul-le-mul-right}
 use native.Mathlib.Omega.{arith}
 use native.Mathlib.Decide.{ℕ-discrete}
 use lib.ListN.{length, getD, take, drop, set, length-set}
 use lib.Arith.{digits-lt}
 use lib.Seq.{getD-set-same, getD-set-other}
 use borrow.Rule.Slice.PartMut.{putMid}
-use Rattle.field.specs.Symbols.{Symbols}
+use Rattle.field.specs.Fields.{opsOf}
+use Rattle.field.specs.Symbols.{Symbols, Is}
 use Rattle.field.proofs.Symbols.{symbols-set}
 use Rattle.code.specs.declared.Setting.{Setting}
+use Rattle.code.specs.Generator.{rowSymbol}
 use Rattle.code.specs.Transmission.{view}
-use Rattle.tables.specs.Adding.{plusRow, RowAdded, RowsAdded}
+use Rattle.code.specs.Settings.{codeOf, Sound}
+use Rattle.code.proofs.Numbers.{rowSymbol-below}
+use Rattle.tables.specs.Tables.{RowsOf}
+use Rattle.tables.specs.Adding.{plusRow, MultipleAdded, RowAdded, RowsAdded}
 use Rattle.tables.proofs.Parts.{part-length, part-symbol, put-length, put-before, put-inside, put-after, put-symbols}
 
-module _ (p : Setting) (r u j : ℕ) (before : List ℕ) where
-  pub row-none : Symbols (p .q) before → RowAdded p r u j 0 before before
-  row-none S = record { long = refl; symbols = S; inside = λ i l. absurd (omega arith); outside = λ i l. refl }
+module _ (q u : ℕ) (row before : List ℕ) where
+  pub multiple-none : Symbols q before → MultipleAdded q u 0 row before before
+  multiple-none S = record { long = refl; symbols = S; inside = λ i l. absurd (omega arith); outside = λ i l. refl }
 
-  pub row-more : (i : ℕ) (after : List ℕ) (v : ℕ) → RowAdded p r u j i before after → i < length before
-      → v ≡ plusRow p r u j i (getD after i 0) → v < p .q → RowAdded p r u j (i + 1) before (set after i v)
-  row-more i after v L l e below =
-      let past : i < length after = omega (arith, L .long) in
+  pub multiple-more : (i : ℕ) (after : List ℕ) (v : ℕ) → MultipleAdded q u i row before after → i < length before
+      → Is q v (opsOf q .add (getD after i 0) (opsOf q .mul u (getD row i 0))) → MultipleAdded q u (i + 1) row before (set after i v)
+  multiple-more i after v L l is =
       record {
         long = length-set after i v ∙ L .long;
-        symbols = symbols-set (p .q) after i v below (L .symbols);
+        symbols = symbols-set q after i v (is .below) (L .symbols);
         inside = λ a h. at-inside a (ℕ-discrete a i) h;
         outside = λ a h. getD-set-other after i a v 0 (omega arith) ∙ L .outside a (omega arith);
       }
     where
-      at-inside : (a : ℕ) → Dec (a ≡ i) → a < i + 1 → getD (set after i v) a 0 ≡ plusRow p r u j a (getD before a 0)
+      at-inside : (a : ℕ) → Dec (a ≡ i) → a < i + 1 → getD (set after i v) a 0 ≡ opsOf q .add (getD before a 0) (opsOf q .mul u (getD row a 0))
       at-inside a (yes s) h =
           let past : i < length after = omega (arith, L .long) in
           let least : i ≤ i = omega arith in
-          ap (λ (t : ℕ). getD (set after i v) t 0) s ∙ getD-set-same after i v 0 past ∙ e
-          ∙ ap (plusRow p r u j i) (L .outside i least)
-          ∙ ap (λ (t : ℕ). plusRow p r u j t (getD before t 0)) (sym s)
+          ap (λ (t : ℕ). getD (set after i v) t 0) s ∙ getD-set-same after i v 0 past ∙ is .same
+          ∙ ap (λ (t : ℕ). opsOf q .add t (opsOf q .mul u (getD row i 0))) (L .outside i least)
+          ∙ ap (λ (t : ℕ). opsOf q .add (getD before t 0) (opsOf q .mul u (getD row t 0))) (sym s)
       at-inside a (no d) h = getD-set-other after i a v 0 d ∙ L .inside a (omega arith)
+
+-- A row of the generator is that part of the lent rows.
+module _ (p : Setting) (S : Sound p) (rows : List ℕ) (R : RowsOf p rows) (j r : ℕ) (lj : j ≤ p .m) (lr : r < p .k) where
+  abbrev start : ℕ
+  start = (j * p .k + r) * p .n
+
+  abbrev row : List ℕ
+  row = take (start + p .n - start) (drop start rows)
+
+  pub row-room : start + p .n ≤ length rows
+  row-room =
+      let below : j < p .m + 1 = omega arith in
+      let next : j * p .k + r + 1 ≤ (p .m + 1) * p .k = omega (arith, digits-lt below lr) in
+      omega (arith, mul-le-mul-right (p .n) next, R .room)
+
+  row-symbol : (i : ℕ) → i < p .n → getD row i 0 ≡ rowSymbol (codeOf p) j r i
+  row-symbol i l = part-symbol (p .n) start rows i l ∙ R .at j r i (omega arith) lr l
+
+  pub row-symbols : Symbols (p .q) row
+  row-symbols =
+      record {
+        below = λ i l. let inside : i < p .n = omega (arith, part-length (p .n) start rows row-room) in
+            subst (λ (t : ℕ). t < p .q) (sym (row-symbol i inside)) (rowSymbol-below p S j r i);
+      }
+
+  pub row-added : (v : ℕ) (before after : List ℕ) → length before ≡ p .n → MultipleAdded (p .q) v (length before) row before after → RowAdded p r v j before after
+  row-added v before after long M =
+      record {
+        long = M .long;
+        symbols = M .symbols;
+        inside = λ i l. M .inside i (omega arith) ∙ ap (λ (t : ℕ). opsOf (p .q) .add (getD before i 0) (opsOf (p .q) .mul v t)) (row-symbol i l);
+      }
 
 module _ (p : Setting) (r u : ℕ) (before : List ℕ) where
   pub rows-none : Symbols (p .q) before → RowsAdded p r u 0 before before
   rows-none S = record { long = refl; symbols = S; inside = λ s i l h. absurd (omega arith); outside = λ a l. refl }
 
   pub rows-more : (s start : ℕ) (window part : List ℕ) → start ≡ s * p .n → start + p .n ≤ length window → RowsAdded p r u s before window
-      → RowAdded p r u s (p .n) (take (start + p .n - start) (drop start window)) part
+      → RowAdded p r u s (take (start + p .n - start) (drop start window)) part
       → RowsAdded p r u (s + 1) before (putMid start (start + p .n - start) window part)
   rows-more s start window part e room L M =
       record {

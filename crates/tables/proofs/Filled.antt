@@ -1,5 +1,5 @@
 -- A setting's rows, filled from its nested table one row after the other.
--- Holds: `rowOf`, `entry`, `Filled`, `filled-none`, `filled-more`, `rows-of` (the filled rows are the generator's, for every setting).
+-- Holds: `rowOf`, `entry`, `Filled`, `filled-none`, `filled-more`, `filled-long`, `rows-of` (the filled rows are the generator's, for every setting).
 use mathlib.Core.Path.{_≡_, refl, sym, ap, ap₂, subst, _∙_}
 use mathlib.Core.List.{List, [], _++_, append-assoc}
 use Prim.Native.Nat.{ℕ, _+_, _-_, _*_, _/_, _%_, _≤_, _<_}
@@ -7,19 +7,18 @@ use native.Mathlib.Nat.{mod-lt, div-lt-iff-lt-mul}
 use native.Mathlib.Omega.{arith}
 use native.Mathlib.Decide.{decLt}
 use lib.Arith.{digits-div, digits-mod, digits-lt}
-use lib.ListN.{length, getD, take, drop, replicate, length-replicate}
+use lib.ListN.{length, getD, take, drop}
 use lib.Seq.{paste, take-length, drop-drop}
 use borrow.Rule.Slice.PartMut.{putMid}
 use Rattle.code.specs.declared.Setting.{Setting}
 use Rattle.code.specs.Generator.{rowSymbol}
 use Rattle.code.specs.Transmission.{tabulate}
 use Rattle.code.specs.Settings.{codeOf}
-use Rattle.code.proofs.Lists.{getD-tabulate, getD-zeros}
+use Rattle.code.proofs.Lists.{getD-tabulate}
 use Rattle.code.specs.Settings.{Sound}
 use Rattle.code.proofs.Settings.{block-positive}
-use Rattle.code.proofs.Numbers.{rowSymbol-below, positive}
-use Rattle.tables.specs.Tables.{generatorOf, RowsOf}
-use Rattle.tables.proofs.Parts.{put-length, put-before, put-inside, put-after}
+use Rattle.tables.specs.Tables.{generatorOf, rowsLength, RowsOf}
+use Rattle.tables.proofs.Parts.{put-length, put-before, put-inside}
 
 -- Row a of a nested table of groups of k rows.
 abbrev pub rowOf : ℕ → List (List (List ℕ)) → ℕ → List ℕ
@@ -29,46 +28,45 @@ rowOf k table a = getD (getD table (a / k) []) (a % k) []
 abbrev pub entry : ℕ → ℕ → List (List (List ℕ)) → ℕ → ℕ
 entry n k table b = getD (rowOf k table (b / n)) (b % n) 0
 
--- The first a rows stand in their places, and the places past them hold 0.
-pub record Filled (size n k : ℕ) (table : List (List (List ℕ))) (a : ℕ) (rows : List ℕ) : Type 0 where
-  pub long : length rows ≡ size
+-- The first a rows stand in their places.
+pub record Filled (n k : ℕ) (table : List (List (List ℕ))) (a : ℕ) (rows : List ℕ) : Type 0 where
   pub at : (b : ℕ) → b < a * n → getD rows b 0 ≡ entry n k table b
-  pub past : (b : ℕ) → a * n ≤ b → getD rows b 0 ≡ 0
 
 -- A row laid out is the part in its place.
 paste-put : (d : List ℕ) (at : ℕ) (s : List ℕ) → paste d at s (length s) ≡ putMid at (length s) d s
 paste-put d at s =
     append-assoc (take at d) (take (length s) s) (drop (at + length s) d) ∙ ap₂ (λ (l r : List ℕ). take at d ++ (l ++ r)) (take-length s) (sym (drop-drop (length s) at d))
 
-module _ (size n k : ℕ) (table : List (List (List ℕ))) where
-  pub filled-none : Filled size n k table 0 (replicate size 0)
-  filled-none = record { long = length-replicate size 0; at = λ b l. absurd (omega arith); past = λ b l. getD-zeros size b }
+module _ (n k : ℕ) (table : List (List (List ℕ))) where
+  pub filled-none : (rows : List ℕ) → Filled n k table 0 rows
+  filled-none rows = record { at = λ b l. absurd (omega arith) }
 
   -- One row more.
-  pub filled-more : (a : ℕ) (rows after : List ℕ) → Filled size n k table a rows → a * n + n ≤ size → length (rowOf k table a) ≡ n
-      → after ≡ paste rows (a * n) (rowOf k table a) (length (rowOf k table a)) → Filled size n k table (a + 1) after
-  filled-more a rows after f l e p =
-      subst (Filled size n k table (a + 1)) (sym (p ∙ paste-put rows (a * n) row))
-      (record {
-        long = put-length (a * n) (length row) rows row room refl ∙ f .long;
-        at = λ b h. at b h (decLt b (a * n));
-        past = λ b h. put-after (a * n) (length row) rows row room refl b (omega (arith, e)) ∙ f .past b (omega arith);
-      })
-    where
-      row : List ℕ
-      row = rowOf k table a
+  module _ (a : ℕ) (rows after : List ℕ) (f : Filled n k table a rows) (l : a * n + n ≤ length rows) (e : length (rowOf k table a) ≡ n)
+      (p : after ≡ paste rows (a * n) (rowOf k table a) (length (rowOf k table a))) where
+    abbrev row : List ℕ
+    row = rowOf k table a
 
-      room : a * n + length row ≤ length rows
-      room = omega (arith, f .long, e)
+    room : a * n + length row ≤ length rows
+    room = omega (arith, e)
 
-      at : (b : ℕ) → b < (a + 1) * n → Dec (b < a * n) → getD (putMid (a * n) (length row) rows row) b 0 ≡ entry n k table b
-      at b h (yes g) = put-before (a * n) (length row) rows row room refl b g ∙ f .at b g
-      at b h (no g) =
-          let i : ℕ = b - a * n in
-          let place : b ≡ a * n + i = omega arith in
-          let inside : i < n = omega arith in
-          rw place (put-inside (a * n) (length row) rows row room refl i (omega (arith, e))
-          ∙ sym (ap₂ (λ (r c : ℕ). getD (rowOf k table r) c 0) (digits-div a inside) (digits-mod a inside)))
+    put : after ≡ putMid (a * n) (length row) rows row
+    put = p ∙ paste-put rows (a * n) row
+
+    pub filled-long : length after ≡ length rows
+    filled-long = ap length put ∙ put-length (a * n) (length row) rows row room refl
+
+    pub filled-more : Filled n k table (a + 1) after
+    filled-more = record { at = λ b h. ap (λ (t : List ℕ). getD t b 0) put ∙ at b h (decLt b (a * n)) }
+      where
+        at : (b : ℕ) → b < (a + 1) * n → Dec (b < a * n) → getD (putMid (a * n) (length row) rows row) b 0 ≡ entry n k table b
+        at b h (yes g) = put-before (a * n) (length row) rows row room refl b g ∙ f .at b g
+        at b h (no g) =
+            let i : ℕ = b - a * n in
+            let place : b ≡ a * n + i = omega arith in
+            let inside : i < n = omega arith in
+            rw place (put-inside (a * n) (length row) rows row room refl i (subst (λ (t : ℕ). i < t) (sym e) inside)
+            ∙ sym (ap₂ (λ (r c : ℕ). getD (rowOf k table r) c 0) (digits-div a inside) (digits-mod a inside)))
 
 -- The generator's symbols, at each place of the nested table.
 entry-generator : (p : Setting) (b : ℕ) → b / p .n / p .k < p .m + 1 → b / p .n % p .k < p .k → b % p .n < p .n
@@ -81,25 +79,21 @@ entry-generator p b lj lr li =
     (getD-tabulate (p .k) (λ r. tabulate (p .n) (λ i. rowSymbol (codeOf p) (b / p .n / p .k) r i)) (b / p .n % p .k) [] lr)
     ∙ getD-tabulate (p .n) (λ i. rowSymbol (codeOf p) (b / p .n / p .k) (b / p .n % p .k) i) (b % p .n) 0 li)
 
-module _ (p : Setting) (S : Sound p) (size : ℕ) (table : List (List (List ℕ))) (rows : List ℕ) (e : table ≡ generatorOf p)
-    (f : Filled size (p .n) (p .k) table ((p .m + 1) * p .k) rows) where
-  row-at : (b : ℕ) → b < (p .m + 1) * p .k * p .n → getD rows b 0 ≡ rowSymbol (codeOf p) (b / p .n / p .k) (b / p .n % p .k) (b % p .n)
+module _ (p : Setting) (S : Sound p) (table : List (List (List ℕ))) (rows : List ℕ) (e : table ≡ generatorOf p)
+    (f : Filled (p .n) (p .k) table ((p .m + 1) * p .k) rows) where
+  row-at : (b : ℕ) → b < rowsLength p → getD rows b 0 ≡ rowSymbol (codeOf p) (b / p .n / p .k) (b / p .n % p .k) (b % p .n)
   row-at b l =
       f .at b l
       ∙ (ap (λ (g : List (List (List ℕ))). entry (p .n) (p .k) g b) e
       ∙ entry-generator p b (div-lt-iff-lt-mul (S .information) .1 (div-lt-iff-lt-mul (block-positive p S) .1 l)) (mod-lt (b / p .n) (S .information)) (mod-lt b (block-positive p S)))
 
   -- The filled rows are the generator's.
-  pub rows-of : RowsOf p rows
-  rows-of =
+  pub rows-of : rowsLength p ≤ length rows → RowsOf p rows
+  rows-of room =
       record {
+        room = room;
         at = λ j r i lj lr li.
             row-at ((j * p .k + r) * p .n + i) (digits-lt (digits-lt lj lr) li)
             ∙ (ap₂ (λ (a b : ℕ). rowSymbol (codeOf p) (a / p .k) (a % p .k) b) (digits-div (j * p .k + r) li) (digits-mod (j * p .k + r) li)
             ∙ ap₂ (λ (a b : ℕ). rowSymbol (codeOf p) a b i) (digits-div j lr) (digits-mod j lr));
-        symbols = record { below = λ b l. at b (decLt b ((p .m + 1) * p .k * p .n)) };
       }
-    where
-      at : (b : ℕ) → Dec (b < (p .m + 1) * p .k * p .n) → getD rows b 0 < p .q
-      at b (yes l) = subst (λ (t : ℕ). t < p .q) (sym (row-at b l)) (rowSymbol-below p S (b / p .n / p .k) (b / p .n % p .k) (b % p .n))
-      at b (no d) = subst (λ (t : ℕ). t < p .q) (sym (f .past b (omega arith))) (positive p S)

@@ -1,13 +1,13 @@
 -- Where symbols stand in a setting's rows, with the bounds that the code asks; sums that the loops make.
--- Holds: `Place`, `place-of`; `product-sum`, `product-sum-all` (the sum over the rows of G_j), `combination-sum`, `combination-sum-all`; `sum-more`.
-use mathlib.Core.Path.{_≡_, sym, ap}
+-- Holds: `Place`, `place-of`, `first-place`; `product-sum`, `product-sum-all` (the sum over the rows of G_j), `combination-sum`, `combination-sum-all`; `sum-more`.
+use mathlib.Core.Path.{_≡_, sym, ap, subst}
 use mathlib.Core.List.{List}
 use Prim.Native.Nat.{ℕ, _+_, _-_, _*_, _≤_, _<_}
-use native.Mathlib.Nat.{mul-le-mul}
+use native.Mathlib.Nat.{mul-le-mul-left}
 use native.Mathlib.Numerals.{add-one}
 use native.Mathlib.Omega.{arith}
 use lib.Arith.{digits-lt}
-use lib.ListN.{getD}
+use lib.ListN.{length, getD}
 use Rattle.algebra.specs.Sum.{sum}
 use Rattle.algebra.proofs.Sums.{sum-ext}
 use Rattle.field.specs.Fields.{opsOf}
@@ -15,25 +15,38 @@ use Rattle.code.specs.declared.Setting.{Setting}
 use Rattle.code.specs.Generator.{timesG}
 use Rattle.code.specs.Transmission.{view}
 use Rattle.code.specs.Level.{combination}
-use Rattle.code.specs.Settings.{codeOf}
-use Rattle.tables.specs.Tables.{Small, RowsOf}
+use Rattle.code.specs.Settings.{codeOf, Sound}
+use Rattle.code.proofs.Settings.{block-positive}
+use Rattle.code.proofs.Numbers.{rowSymbol-below}
+use Rattle.tables.specs.Tables.{rowsLength, RowsOf}
 
--- The steps of computing a place of the rows stay small.
-pub record Place (n k j r i : ℕ) : Type 0 where
-  pub group : j * k ≤ 42
-  pub row : j * k + r ≤ 42
-  pub start : (j * k + r) * n ≤ 42
-  pub place : (j * k + r) * n + i < 42
+-- The steps of computing a place stay within the rows, and the symbol there is the generator's.
+pub record Place (p : Setting) (rows : List ℕ) (j r i : ℕ) : Type 0 where
+  pub group : j * p .k ≤ length rows
+  pub row : j * p .k + r ≤ length rows
+  pub start : (j * p .k + r) * p .n ≤ length rows
+  pub place : (j * p .k + r) * p .n + i < length rows
+  pub below : getD rows ((j * p .k + r) * p .n + i) 0 < p .q
 
-pub place-of : (p : Setting) → Small p → (j r i : ℕ) → j ≤ p .m → r < p .k → i < p .n → Place (p .n) (p .k) j r i
-place-of p S j r i lj lr li =
-    let below : j < p .m + 1 = omega arith in
-    let inside : (j * p .k + r) * p .n + i < (p .m + 1) * p .k * p .n = digits-lt (digits-lt below lr) li in
-    let group : j * p .k ≤ 2 * 3 = mul-le-mul (within j (p .m) lj (S .memory)) (S .information) in
-    record { group = omega arith; row = omega (arith, S .information); start = omega (arith, S .rows); place = omega (arith, S .rows) }
-  where
-    within : (a b : ℕ) → a ≤ b → b ≤ 2 → a ≤ 2
-    within a b h l = omega arith
+pub place-of : (p : Setting) → Sound p → (rows : List ℕ) → RowsOf p rows → (j r i : ℕ) → j ≤ p .m → r < p .k → i < p .n → Place p rows j r i
+place-of p S rows R j r i lj lr li =
+    let inside : j < p .m + 1 = omega arith in
+    let fits : (j * p .k + r) * p .n + i < rowsLength p = digits-lt (digits-lt inside lr) li in
+    let wide : j * p .k + r ≤ (j * p .k + r) * p .n = omega (arith, mul-le-mul-left (j * p .k + r) (block-positive p S)) in
+    record {
+      group = omega (arith, R .room);
+      row = omega (arith, R .room);
+      start = omega (arith, R .room);
+      place = omega (arith, R .room);
+      below = subst (λ (t : ℕ). t < p .q) (sym (R .at j r i inside lr li)) (rowSymbol-below p S j r i);
+    }
+
+-- There is a first symbol.
+pub first-place : (p : Setting) → Sound p → (rows : List ℕ) → RowsOf p rows → (0 < length rows) × (getD rows 0 0 < p .q)
+first-place p S rows R =
+    let at : Place p rows 0 0 0 = place-of p S rows R 0 0 0 (omega arith) (S .information) (block-positive p S) in
+    let first : (0 * p .k + 0) * p .n + 0 ≡ 0 = omega arith in
+    (subst (λ (t : ℕ). t < length rows) first (at .place), subst (λ (t : ℕ). getD rows t 0 < p .q) first (at .below))
 
 -- The first r terms of the sum over the rows of G_j, from the lent rows.
 abbrev pub product-sum : ℕ → List ℕ → List ℕ → ℕ → ℕ → ℕ → ℕ → ℕ → ℕ → ℕ

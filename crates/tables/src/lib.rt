@@ -5,11 +5,16 @@ ghost use lib.Dec.{T};
 ghost use lib.ListN.{length};
 ghost use lib.Seq.{paste};
 ghost use Rattle.code.specs.Settings.{isSetting, settingOf};
-ghost use Rattle.tables.specs.Tables.{generatorOf, RowsOf};
+ghost use Rattle.tables.specs.Tables.{generatorOf, rowsLength, RowsOf};
 
 pub mod product;
 
 use code::Setting;
+
+// The most symbols of any setting's rows, and of a block: what a call that makes these areas makes room for.
+pub const MOST_ROWS: usize = 42;
+
+pub const MOST_BLOCK: usize = 7;
 
 // Question 1: "Is the setting 1, 2 or 3?"
 pub fn is_setting(number: u32) -> bool
@@ -90,69 +95,66 @@ pub fn generator_3() -> [[[u8; 7]; 3]; 2]
     GENERATOR_3
 }
 
-// A setting's rows one after the other, with room for the largest.
-pub type Rows = [u8; 42];
-
-// Lays a row of the table out, from a place of the rows on.
-fn lay_row(row: &[u8], at: usize, rows: &mut Rows)
-    requires { ⌜ (length (now rows) ≡ 42) × (at + length (now row) ≤ 42) ⌝ }
-    ensures { λ r. ⌜ now (rows .exit) ≡ paste (now (rows .entry)) at (now (row .entry)) (length (now (row .entry))) ⌝ }
+// Lays a row of the table out, from a place of the area on.
+fn lay_row(row: &[u8], at: usize, area: &mut [u8])
+    requires { ⌜ at + length (now row) ≤ length (now area) ⌝ }
+    ensures { λ _. ⌜ now (area .exit) ≡ paste (now (area .entry)) at (now (row .entry)) (length (now (row .entry))) ⌝ }
 {
     let mut i: usize = 0;
     while i < row.len() {
-        rows[at + i] = row[i];
+        area[at + i] = row[i];
         i += 1;
     }
 }
 
-fn rows_1() -> Rows
-    ensures { λ r. ⌜ RowsOf (settingOf 1) r ⌝ }
+fn rows_1(area: &mut [u8])
+    requires { ⌜ rowsLength (settingOf 1) ≤ length (now area) ⌝ }
+    ensures { λ _. ⌜ RowsOf (settingOf 1) (now (area .exit)) ⌝ }
 {
     let table = generator_1();
-    let mut rows = [0u8; 42];
     let mut a: usize = 0;
     while a < 3 {
-        lay_row(&table[a / 1][a % 1], a * 4, &mut rows);
+        lay_row(&table[a / 1][a % 1], a * 4, area);
         a += 1;
     }
-    rows
 }
 
-fn rows_2() -> Rows
-    ensures { λ r. ⌜ RowsOf (settingOf 2) r ⌝ }
+fn rows_2(area: &mut [u8])
+    requires { ⌜ rowsLength (settingOf 2) ≤ length (now area) ⌝ }
+    ensures { λ _. ⌜ RowsOf (settingOf 2) (now (area .exit)) ⌝ }
 {
     let table = generator_2();
-    let mut rows = [0u8; 42];
     let mut a: usize = 0;
     while a < 6 {
-        lay_row(&table[a / 2][a % 2], a * 7, &mut rows);
+        lay_row(&table[a / 2][a % 2], a * 7, area);
         a += 1;
     }
-    rows
 }
 
-fn rows_3() -> Rows
-    ensures { λ r. ⌜ RowsOf (settingOf 3) r ⌝ }
+fn rows_3(area: &mut [u8])
+    requires { ⌜ rowsLength (settingOf 3) ≤ length (now area) ⌝ }
+    ensures { λ _. ⌜ RowsOf (settingOf 3) (now (area .exit)) ⌝ }
 {
     let table = generator_3();
-    let mut rows = [0u8; 42];
     let mut a: usize = 0;
     while a < 6 {
-        lay_row(&table[a / 3][a % 3], a * 7, &mut rows);
+        lay_row(&table[a / 3][a % 3], a * 7, area);
         a += 1;
     }
-    rows
 }
 
-pub fn rows(number: u32) -> Rows
-    requires { ⌜ T (isSetting number) ⌝ }
-    ensures { λ r. ⌜ RowsOf (settingOf number) r ⌝ }
+// A setting's rows one after the other, at the front of the area.
+pub fn rows(number: u32, area: &mut [u8])
+    requires { ⌜ T (isSetting number) × (rowsLength (settingOf number) ≤ length (now area)) ⌝ }
+    ensures { λ _. ⌜ RowsOf (settingOf number) (now (area .exit)) ⌝ }
 {
     if number == 1 {
-        return rows_1();
+        rows_1(area);
+        return;
     }
     if number == 2 {
-        return rows_2();
+        rows_2(area);
+        return;
     }
-    rows_3()
+    rows_3(area);
 }

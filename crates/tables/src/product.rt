@@ -2,15 +2,16 @@
 ghost use mathlib.Core.Path.{_≡_};
 ghost use Prim.Native.Nat.{_+_, _-_, _*_, _≤_, _<_};
 ghost use lib.ListN.{length, getD};
+ghost use Rattle.field.specs.Fields.{Good};
 ghost use Rattle.field.specs.Symbols.{Symbols, Is};
+ghost use Rattle.field.specs.Tables.{Lent};
 ghost use Rattle.code.specs.Generator.{timesG};
 ghost use Rattle.code.specs.Level as level;
 ghost use Rattle.code.specs.Transmission.{view};
 ghost use Rattle.code.specs.Settings.{codeOf};
 ghost use Rattle.code.specs.Windows.{windowLength};
 ghost use Rattle.tables.specs.Tables.{Ready};
-ghost use Rattle.tables.specs.Adding.{RowAdded, RowsAdded};
-use super::Rows;
+ghost use Rattle.tables.specs.Adding.{MultipleAdded, RowAdded, RowsAdded};
 use code::Setting;
 use field::Tables;
 
@@ -18,7 +19,7 @@ use field::Tables;
 pub fn times_g(
     p: Setting,
     products: &Tables,
-    rows: &Rows,
+    rows: &[u8],
     information: &[u8],
     from: usize,
     j: usize,
@@ -49,7 +50,7 @@ pub fn times_g(
 pub fn combination(
     p: Setting,
     products: &Tables,
-    rows: &Rows,
+    rows: &[u8],
     information: &[u8],
     l: usize,
     i: usize,
@@ -69,22 +70,31 @@ pub fn combination(
     sum
 }
 
-// Adds v × row r of G_j to a block.
-fn add_row(p: Setting, products: &Tables, rows: &Rows, r: usize, v: u8, j: usize, block: &mut [u8])
-    requires { ⌜ Ready p (now products) (now rows) × (r < p .k) × (v < p .q) × (j ≤ p .m) × (length (now block) ≡ p .n) × Symbols (p .q) (now block) ⌝ }
-    ensures { λ _. ⌜ RowAdded p r v j (p .n) (now (block .entry)) (now (block .exit)) ⌝ }
+// Adds v × a row to a block.
+fn add_multiple(q: usize, products: &Tables, v: u8, row: &[u8], block: &mut [u8])
+    requires { ⌜ Good q × Lent q (now products) × (v < q) × Symbols q (now row) × Symbols q (now block) × (length (now row) ≡ length (now block)) ⌝ }
+    ensures { λ _. ⌜ MultipleAdded q v (length (now (block .entry))) (now (row .entry)) (now (block .entry)) (now (block .exit)) ⌝ }
 {
-    let q = p.q;
-    let n = p.n;
     let mut i: usize = 0;
-    while i < n {
-        block[i] = field::add_product(q, products, block[i], v, rows[(j * p.k + r) * n + i]);
+    while i < block.len() {
+        block[i] = field::add_product(q, products, block[i], v, row[i]);
         i += 1;
     }
 }
 
+// Adds v × row r of G_j to a block.
+fn add_row(p: Setting, products: &Tables, rows: &[u8], r: usize, v: u8, j: usize, block: &mut [u8])
+    requires { ⌜ Ready p (now products) (now rows) × (r < p .k) × (v < p .q) × (j ≤ p .m) × (length (now block) ≡ p .n) × Symbols (p .q) (now block) ⌝ }
+    ensures { λ _. ⌜ RowAdded p r v j (now (block .entry)) (now (block .exit)) ⌝ }
+{
+    let n = p.n;
+    let start = (j * p.k + r) * n;
+    let end = start + n;
+    add_multiple(p.q, products, v, &rows[start..end], block);
+}
+
 // Adds v × row r of G_0, .., G_m to the blocks of a window: what one information symbol contributes.
-pub fn add_rows(p: Setting, products: &Tables, rows: &Rows, r: usize, v: u8, window: &mut [u8])
+pub fn add_rows(p: Setting, products: &Tables, rows: &[u8], r: usize, v: u8, window: &mut [u8])
     requires { ⌜ Ready p (now products) (now rows) × (r < p .k) × (v < p .q) × (length (now window) ≡ windowLength p) × Symbols (p .q) (now window) ⌝ }
     ensures { λ _. ⌜ RowsAdded p r v (p .m + 1) (now (window .entry)) (now (window .exit)) ⌝ }
 {

@@ -1,169 +1,132 @@
 -- `block::repair` meets its contract: what its parts promise gives the two answers.
-use Prim.Native.Nat.{_+_, _-_, _*_, _≤_}
+use mathlib.Core.Path.{_∙_}
 use native.Mathlib.Omega.{arith}
-use Rattle.code.specs.Transmission.{view}
-use Rattle.code.specs.Level.{combination}
-use Rattle.code.specs.Settings.{codeOf}
-use Rattle.block.specs.Area.{at}
-use Rattle.block.proofs.Accumulated.{distance-le}
-use Rattle.block.proofs.Levels.{level-fits, block-short}
-use Rattle.block.proofs.Answers.{Known, Parts, step-long, step-near, step-far}
-use Rattle.block.proofs.Spectra.{point-none, spectrum-none}
+use Rattle.code.proofs.Settings.{sizes, level-fits}
+use Rattle.block.proofs.Answers.{step-long, step-near, step-far}
 use borrow.Author.Needs.{needs}
 use Rattle.block.proofs.repair.Statement.{statement}
 use Rattle.block.proofs.repair.Tie as tie
 
-add-blocks : tie.Need-add-blocks
-add-blocks c = search needs
-
-mul-count : tie.Need-mul-count
-mul-count c = let p = c .before .pre in let a = c .before .args in omega (arith, level-fits (a .p) (p .0 .sound) (a .l) (p .3), block-short (a .p) (p .0 .sound) (p .0 .small))
-
-sub-zeros : tie.Need-sub-zeros
-sub-zeros c = let p = c .before .before .pre in let a = c .before .before .args in omega (arith, level-fits (a .p) (p .0 .sound) (a .l) (p .3))
-
-add-known : tie.Need-add-known
-add-known c = search needs
-
 add-distance : tie.Need-add-distance
-add-distance c = search needs
+add-distance c = let entry = c .before .before .before .before .before .before in omega (arith, entry .pre .3, sizes (entry .args .p) (entry .pre .0 .sound) .memory-most)
 
-unit-requires : tie.Need-unit-requires
-unit-requires c κs = search needs
+mul-distance : tie.Need-mul-distance
+mul-distance c = let entry = c .before .before .before .before .before .before .before in omega (arith, level-fits (entry .args .p) (entry .pre .0 .sound) (entry .args .l) (entry .pre .3), sizes (entry .args .p) (entry .pre .0 .sound) .symbols-most)
 
-add-values-requires : tie.Need-add-values-requires
-add-values-requires c κs =
-    let p = c .before .before .before .before .pre in
-    let a = c .before .before .before .before .args in
-    let short = block-short (a .p) (p .0 .sound) (p .0 .small) in (
-      p .0 .sound .good,
-      p .0 .products,
-      p .2,
-      omega arith,
-      omega (arith, short),
-      point-none _ (p .0 .sound .good),
-      spectrum-none _ _ _ (p .0 .sound .good) (c .before .unit .ensures),
-    )
+sub-distance : tie.Need-sub-distance
+sub-distance c = let entry = c .before .before .before .before .before .before .before .before in level-fits (entry .args .p) (entry .pre .0 .sound) (entry .args .l) (entry .pre .3)
 
-unit-requires-2 : tie.Need-unit-requires-2
-unit-requires-2 c κs = search needs
+add-distance-2 : tie.Need-add-distance-2
+add-distance-2 c = search needs
 
-locate-requires : tie.Need-locate-requires
-locate-requires c κs =
-    let p = c .before .before .before .before .before .before .before .before .pre in
-    let a = c .before .before .before .before .before .before .before .before .args in
-    let spectral = c .before .before .before .add-values .ensures .1 in
-    let short = block-short (a .p) (p .0 .sound) (p .0 .small) in
-    (p .0 .sound .good, p .0 .products, spectral .area, spectral .first, omega arith, omega (arith, short))
-
--- What the parts have promised where the locator is known.
-abbrev known : (c : tie.After-locate) → Known (c .before .before .before .before .before .before .before .before .before .args .p) (c .before .before .before .before .before .before .before .before .before .args .l) (c .before .before .before .before .before .before .before .before .before .args .block .now) (c .locate .result)
-known c =
-    let p = c .before .before .before .before .before .before .before .before .before .pre in
-    record {
-      sound = p .0 .sound;
-      level = p .3;
-      long = p .1;
-      symbols = p .2;
-      series = _;
-      spectral = c .before .before .before .before .add-values .ensures .1;
-      locator = _;
-      located = c .locate .ensures;
-    }
-
--- The locator is no longer than the known part of the spectrum.
-length-known : (c : tie.After-locate) → c .locate .result ≤ c .before .before .before .before .before .before .before .before .before .args .p .n - (c .before .before .before .before .before .before .before .before .before .args .l + 1) * c .before .before .before .before .before .before .before .before .before .args .p .k
-length-known c = let located = c .locate .ensures .placed .located in omega (arith, located .grown, located .placed)
+begin-requires : tie.Need-begin-requires
+begin-requires c κs = search needs
 
 mul-if1 : tie.Need-mul-if1
 mul-if1 c =
-    let p = c .before .before .before .before .before .before .before .before .before .pre in
-    omega (arith, length-known c, block-short (c .before .before .before .before .before .before .before .before .before .args .p) (p .0 .sound) (p .0 .small))
+    let entry = c .before .before .before .before .before .before .before .before .before .before .before .before .before .before .before .before .before .before .before .before .before .before in
+    let located = c .before .before .before .before .before .before .before .before .before .begin .ensures .located .placed .located in
+    omega (arith, located .grown, located .placed, sizes (entry .args .p) (entry .pre .0 .sound) .symbols-most)
+
+same-length : tie.Need-same-length
+same-length c = search needs
+
+same-length-2 : tie.Need-same-length-2
+same-length-2 c = search needs
+
+same-length-3 : tie.Need-same-length-3
+same-length-3 c = search needs
+
+same-length-4 : tie.Need-same-length-4
+same-length-4 c = search needs
 
 returns : tie.Need-returns
-returns c = step-long _ _ _ _ _ (known (c .before)) (omega arith)
+returns c =
+    let entry = c .before .before .before .before .before .before .before .before .before .before .before .before .before .before .before .before .before .before .before .before .before .before .before in
+    step-long (entry .args .p) (entry .pre .0 .sound) (entry .args .l) (entry .pre .3) _ (entry .pre .1) (entry .pre .2) _ _ _ _ _ _ (c .before .before .before .before .before .before .before .before .before .before .begin .ensures) (omega arith)
 
-add-values-requires-2 : tie.Need-add-values-requires-2
-add-values-requires-2 c κs =
-    let p = c .before .before .before .before .before .before .before .before .before .before .before .pre in
-    let a = c .before .before .before .before .before .before .before .before .before .before .before .args in
-    let first = c .before .before .before .before .before .before .add-values .ensures in
-    let short = block-short (a .p) (p .0 .sound) (p .0 .small) in
-    (p .0 .sound .good, p .0 .products, p .2, omega arith, omega (arith, short), first .0, first .1)
-
-extend-requires : tie.Need-extend-requires
-extend-requires c κs =
-    let p = c .before .before .before .before .before .before .before .before .before .before .before .before .before .before .pre in
-    let a = c .before .before .before .before .before .before .before .before .before .before .before .before .before .before .args in (
-      p .0 .sound .good,
-      p .0 .products,
-      c .before .before .before .before .before .locate .ensures .placed .locator-area,
-      c .before .before .add-values2 .ensures .1 .area,
-      length-known (c .before .before .before .before .before),
-      omega (arith, level-fits (a .p) (p .0 .sound) (a .l) (p .3), block-short (a .p) (p .0 .sound) (p .0 .small)),
+read-candidate-requires : tie.Need-read-candidate-requires
+read-candidate-requires c κs =
+    let entry = c .before .before .before .before .before .before .before .before .before .before .before .before .before .before .before .before .before .before .before .before .before .before .before .before .before .before .before in
+    let room = entry .pre .4 in
+    let kept = c .before .before .before .before .before .before .before .before .before .before .before .before .before .before .begin .kept in (
+      entry .pre .0,
+      entry .pre .2,
+      entry .pre .3,
+      record {
+        series-long = kept .1 .1 .1 .1 .0 ∙ room .series-long;
+        locator-long = kept .1 .1 .1 .1 .1 .0 ∙ room .locator-long;
+        values-long = kept .1 .1 .1 .1 .1 .1 .0 ∙ room .values-long;
+        information-long = kept .1 .1 .1 .1 .1 .1 .1 .0 ∙ room .information-long;
+      },
+      c .before .before .before .before .before .before .before .before .before .before .before .before .before .before .begin .ensures,
     )
 
-read-requires : tie.Need-read-requires
-read-requires c κs =
-    let p = c .before .before .before .before .before .before .before .before .before .before .before .before .before .before .before .before .pre in
-    let a = c .before .before .before .before .before .before .before .before .before .before .before .before .before .before .before .before .args in (
-      p .0,
-      omega (arith, level-fits (a .p) (p .0 .sound) (a .l) (p .3), block-short (a .p) (p .0 .sound) (p .0 .small)),
-      c .before .extend .ensures .values-area,
-    )
+cost-requires : tie.Need-cost-requires
+cost-requires c κs =
+    let entry = c .before .before .before .before .before .before .before .before .before .before .before .before .before .before .before .before .before .before .before .before .before .before .before .before .before .before .before .before .before .before .before .before .before .before .before in
+    let fits = level-fits (entry .args .p) (entry .pre .0 .sound) (entry .args .l) (entry .pre .3) in
+    let long = c .before .before .before .before .before .before .before .read-candidate .kept .1 .1 .1 .1 .1 .1 .1 .1 .1 .0 ∙ (c .before .before .before .before .before .before .before .before .before .before .before .before .before .before .before .before .before .before .before .before .before .before .begin .kept .1 .1 .1 .1 .1 .1 .1 .0 ∙ entry .pre .4 .information-long) in
+    (entry .pre .0, c .before .before .before .before .before .before .before .read-candidate .ensures .reads .below, omega (arith, fits, long), entry .pre .3, entry .pre .1)
 
-differing-requires : tie.Need-differing-requires
-differing-requires c κs =
-    let p = c .before .before .before .before .before .before .before .before .before .before .before .before .before .before .before .before .before .before .pre in
-    (p .0, c .before .read .ensures .area, p .3, p .1)
+same-length-5 : tie.Need-same-length-5
+same-length-5 c = search needs
 
-mul-if2 : tie.Need-mul-if2
-mul-if2 c =
-    let p = c .before .before .before .before .before .before .before .before .before .before .before .before .before .before .before .before .before .before .before .pre in
-    let a = c .before .before .before .before .before .before .before .before .before .before .before .before .before .before .before .before .before .before .before .args in
-    let few = distance-le (at (a .block .now)) (combination (codeOf (a .p)) (a .l) (view (a .p .k) (c .before .before .read .result))) (a .p .n) in
-    omega (arith, c .differing .ensures, few, block-short (a .p) (p .0 .sound) (p .0 .small))
+same-length-6 : tie.Need-same-length-6
+same-length-6 c = search needs
 
--- What all parts have promised where the count is known.
-parts : (c : tie.After-differing) → Parts (c .before .before .before .before .before .before .before .before .before .before .before .before .before .before .before .before .before .before .before .args .p) (c .before .before .before .before .before .before .before .before .before .before .before .before .before .before .before .before .before .before .before .args .l) (c .before .before .before .before .before .before .before .before .before .before .before .before .before .before .before .before .before .before .before .args .block .now) (c .before .before .read .result) (c .differing .result)
-parts c =
-    record {
-      length-found = _;
-      begun = known (c .before .before .before .before .before .before .before .before .before .before);
-      series = _;
-      spectral = c .before .before .before .before .before .before .before .add-values2 .ensures .1;
-      after = _;
-      values = _;
-      continued = c .before .before .before .before .extend .ensures;
-      reads = c .before .before .read .ensures;
-      counted = c .differing .ensures;
-    }
+same-length-7 : tie.Need-same-length-7
+same-length-7 c = search needs
+
+same-length-8 : tie.Need-same-length-8
+same-length-8 c = search needs
 
 returns-2 : tie.Need-returns-2
-returns-2 c = step-near _ _ _ _ _ (parts (c .before)) (omega arith)
+returns-2 c =
+    let entry = c .before .before .before .before .before .before .before .before .before .before .before .before .before .before .before .before .before .before .before .before .before .before .before .before .before .before .before .before .before .before .before .before .before .before .before .before .before in
+    step-near (entry .args .p) (entry .pre .0 .sound) (entry .args .l) (entry .pre .3) _ (entry .pre .1) (entry .pre .2) _ _ _ _ _ _ (c .before .before .before .before .before .before .before .before .before .before .before .before .before .before .before .before .before .before .before .before .before .before .before .before .begin .ensures) _ (c .before .before .before .before .before .before .before .before .before .read-candidate .ensures) (c .before .cost .ensures) (omega arith)
+
+same-length-9 : tie.Need-same-length-9
+same-length-9 c = search needs
+
+same-length-10 : tie.Need-same-length-10
+same-length-10 c = search needs
+
+same-length-11 : tie.Need-same-length-11
+same-length-11 c = search needs
+
+same-length-12 : tie.Need-same-length-12
+same-length-12 c = search needs
 
 returns-3 : tie.Need-returns-3
-returns-3 c = step-far _ _ _ _ _ (parts (c .before)) (omega arith)
+returns-3 c =
+    let entry = c .before .before .before .before .before .before .before .before .before .before .before .before .before .before .before .before .before .before .before .before .before .before .before .before .before .before .before .before .before .before .before .before .before .before .before .before .before in
+    step-far (entry .args .p) (entry .pre .0 .sound) (entry .args .l) (entry .pre .3) _ (entry .pre .1) (entry .pre .2) _ _ _ _ _ _ (c .before .before .before .before .before .before .before .before .before .before .before .before .before .before .before .before .before .before .before .before .before .before .before .before .begin .ensures) _ (c .before .before .before .before .before .before .before .before .before .read-candidate .ensures) (c .before .cost .ensures) (omega arith)
 
 pub repair-spec : {M : Type 1} → statement M
 repair-spec =
     tie.close
     (tie.spec
-    add-blocks
-    mul-count
-    sub-zeros
-    add-known
     add-distance
-    unit-requires
-    add-values-requires
-    unit-requires-2
-    locate-requires
+    mul-distance
+    sub-distance
+    add-distance-2
+    begin-requires
     mul-if1
+    same-length
+    same-length-2
+    same-length-3
+    same-length-4
     returns
-    add-values-requires-2
-    extend-requires
-    read-requires
-    differing-requires
-    mul-if2
+    read-candidate-requires
+    cost-requires
+    same-length-5
+    same-length-6
+    same-length-7
+    same-length-8
     returns-2
+    same-length-9
+    same-length-10
+    same-length-11
+    same-length-12
     returns-3)

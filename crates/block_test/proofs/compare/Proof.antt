@@ -15,7 +15,7 @@ loop-holds : tie.Need-loop-holds Inv-loop μ-loop
 loop-holds c = omega arith
 
 one-requires : tie.Need-one-requires Inv-loop μ-loop
-one-requires c κs = let p = c .before .before .pre in (p .0, p .1)
+one-requires c κs = search needs
 
 add-near : tie.Need-add-near Inv-loop μ-loop
 add-near c = omega arith

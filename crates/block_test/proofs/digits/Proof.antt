@@ -1,30 +1,34 @@
--- `block_test::digits` meets its contract. The loop's invariant: the area holds symbols.
+-- `block_test::digits` meets its contract. The loop's invariant: the array keeps its length and holds symbols.
+use mathlib.Core.Path.{_≡_}
 use Prim.Native.Nat.{_≤_, _-_}
 use native.Mathlib.Nat.{mod-lt}
 use native.Mathlib.Omega.{arith}
+use lib.ListN.{length, length-set}
+use Rattle.field.specs.Symbols.{Symbols}
 use Rattle.field.proofs.Operations.{good-small}
-use Rattle.block.specs.Area.{Area, capacity}
-use Rattle.block.proofs.Accumulated.{zero-below, area-set, area-zeros}
+use Rattle.field.proofs.Symbols.{symbols-set, symbols-zeros}
+use Rattle.tables.specs.Tables.{mostBlock}
+use Rattle.block.proofs.Accumulated.{zero-below}
 use Rattle.block_test.proofs.digits.Statement.{statement}
 use Rattle.block_test.proofs.digits.Tie as tie
 
 abbrev Inv-loop : tie.InvT-loop
-Inv-loop q number series₀ rest₀ i₀ series rest i = (i ≤ capacity) × Area q series
+Inv-loop q number symbols₀ rest₀ i₀ symbols rest i = (i ≤ mostBlock) × (length symbols ≡ mostBlock) × Symbols q symbols
 
 abbrev μ-loop : tie.MeasureT-loop
-μ-loop q number series₀ rest₀ i₀ series rest i = capacity - i
+μ-loop q number symbols₀ rest₀ i₀ symbols rest i = mostBlock - i
 
 loop-holds : tie.Need-loop-holds Inv-loop μ-loop
-loop-holds c = (omega arith, area-zeros _ (c .pre))
+loop-holds c = (omega arith, omega arith, symbols-zeros _ mostBlock (zero-below _ (c .pre)))
 
-rem-series : tie.Need-rem-series Inv-loop μ-loop
-rem-series c = omega (arith, zero-below (c .before .before .args .q) (c .before .before .pre))
+rem-symbols : tie.Need-rem-symbols Inv-loop μ-loop
+rem-symbols c = omega (arith, zero-below (c .before .before .args .q) (c .before .before .pre))
 
-cast-series : tie.Need-cast-series Inv-loop μ-loop
-cast-series c = omega (arith, mod-lt (c .before .loop .rest) (zero-below (c .before .before .args .q) (c .before .before .pre)), good-small (c .before .before .args .q) (c .before .before .pre))
+cast-symbols : tie.Need-cast-symbols Inv-loop μ-loop
+cast-symbols c = omega (arith, mod-lt (c .before .loop .rest) (zero-below (c .before .before .args .q) (c .before .before .pre)), good-small (c .before .before .args .q) (c .before .before .pre))
 
-array-write-series : tie.Need-array-write-series Inv-loop μ-loop
-array-write-series c = omega arith
+array-write-symbols : tie.Need-array-write-symbols Inv-loop μ-loop
+array-write-symbols c = omega arith
 
 div-rest : tie.Need-div-rest Inv-loop μ-loop
 div-rest c = omega (arith, zero-below (c .before .before .args .q) (c .before .before .pre))
@@ -36,10 +40,12 @@ loop-less : tie.Need-loop-less Inv-loop μ-loop
 loop-less c = omega arith
 
 loop-again : tie.Need-loop-again Inv-loop μ-loop
-loop-again c = let l = c .before .loop in (omega arith, area-set _ (l .series) (l .i) _ (l .inv .1) (mod-lt (l .rest) (zero-below (c .before .before .args .q) (c .before .before .pre))))
+loop-again c =
+    let l = c .before .loop in
+    (omega arith, simp length-set (l .inv .1), symbols-set _ (l .symbols) (l .i) _ (mod-lt (l .rest) (zero-below _ (c .before .before .pre))) (l .inv .2))
 
 returns : tie.Need-returns Inv-loop μ-loop
-returns c = c .before .loop .inv .1
+returns c = let inv = c .before .loop .inv in (inv .1, inv .2)
 
 pub digits-spec : {M : Type 1} → statement M
 digits-spec =
@@ -48,9 +54,9 @@ digits-spec =
     Inv-loop
     μ-loop
     loop-holds
-    rem-series
-    cast-series
-    array-write-series
+    rem-symbols
+    cast-symbols
+    array-write-symbols
     div-rest
     add-i
     loop-less

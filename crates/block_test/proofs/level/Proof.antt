@@ -3,8 +3,9 @@ use mathlib.Core.Path.{sym, subst}
 use Prim.Native.Nat.{_≤_}
 use Rattle.code.specs.declared.Setting.{Setting}
 use Rattle.code.specs.Settings.{Sound}
-use Rattle.code.proofs.Settings.{soundOf}
-use Rattle.tables.proofs.Small.{readyOf}
+use Rattle.code.proofs.Settings.{soundOf, largestOf}
+use Rattle.tables.specs.Tables.{rowsLength, mostBlock}
+use Rattle.tables.proofs.Lending.{readyOf}
 use borrow.Author.Needs.{needs}
 use Rattle.block_test.proofs.level.Statement.{statement}
 use Rattle.block_test.proofs.level.Tie as tie
@@ -15,8 +16,11 @@ setting-requires c κs = search needs
 tables-requires : tie.Need-tables-requires
 tables-requires c κs = subst Sound (sym (c .setting .ensures)) (soundOf (c .before .args .number) (c .before .pre .0)) .good
 
+slice-aggregate-rows : tie.Need-slice-aggregate-rows
+slice-aggregate-rows c = search needs
+
 rows-requires : tie.Need-rows-requires
-rows-requires c κs = search needs
+rows-requires c κs = let entry = c .before .before .before in (entry .pre .0, largestOf rowsLength (entry .args .number) (entry .pre .0))
 
 print-requires : tie.Need-print-requires
 print-requires c κs = search needs
@@ -24,12 +28,18 @@ print-requires c κs = search needs
 print-requires-2 : tie.Need-print-requires-2
 print-requires-2 c κs = search needs
 
+slice-aggregate-compare : tie.Need-slice-aggregate-compare
+slice-aggregate-compare c = search needs
+
 compare-requires : tie.Need-compare-requires
 compare-requires c κs =
-    let p = c .before .before .before .before .before .before .before .pre in
-    let e = c .before .before .before .before .before .before .setting .ensures in (
-      readyOf (c .before .before .before .before .before .before .before .args .number) _ (p .0) e _ _ (c .before .before .before .before .before .tables .ensures) (c .before .before .before .before .rows .ensures),
-      subst (λ (x : Setting). c .before .before .before .before .before .before .before .args .l ≤ x .m) (sym e) (p .1),
+    let entry = c .before .before .before .before .before .before .before .before .before in
+    let number = entry .args .number in
+    let p = entry .pre in
+    let e = c .before .before .before .before .before .before .before .before .setting .ensures in (
+      readyOf number _ (p .0) e _ _ (c .before .before .before .before .before .before .before .tables .ensures) (c .before .before .before .before .before .rows2 .ensures),
+      subst (λ (x : Setting). x .n ≤ mostBlock) (sym e) (largestOf (λ x. x .n) number (p .0)),
+      subst (λ (x : Setting). entry .args .l ≤ x .m) (sym e) (p .1),
       p .2,
       p .3,
       p .4,
@@ -44,8 +54,10 @@ level-spec =
     (tie.spec
     setting-requires
     tables-requires
+    slice-aggregate-rows
     rows-requires
     print-requires
     print-requires-2
+    slice-aggregate-compare
     compare-requires
     returns)

@@ -1,9 +1,8 @@
 -- `block_test::near` is safe and ends.
-use Prim.Native.Nat.{_≤_, _-_, _+_, _*_}
+use Prim.Native.Nat.{_≤_, _-_, _*_}
 use native.Mathlib.Omega.{arith}
 use borrow.Author.Needs.{needs}
-use Rattle.block.specs.Area.{capacity}
-use Rattle.block.proofs.Levels.{level-fits, block-short, area-symbols}
+use Rattle.code.proofs.Settings.{sizes, level-fits}
 use Rattle.block_test.proofs.near.Statement.{statement}
 use Rattle.block_test.proofs.near.Tie as tie
 
@@ -18,13 +17,12 @@ loop-holds c = omega arith
 
 combination-requires : tie.Need-combination-requires Inv-loop μ-loop
 combination-requires c κs =
-    let p = c .before .before .before .pre in
-    let s = c .before .before .before .args .p in
-    let room : (c .before .before .before .args .l + 1) * s .k ≤ capacity = omega (arith, level-fits s (p .0 .sound) (c .before .before .before .args .l) (p .2), block-short s (p .0 .sound) (p .0 .small)) in
-    (p .0, area-symbols (p .1), rw (p .1 .size) room, p .2, omega arith)
+    let entry = c .before .before .before .before .before in
+    let p = entry .pre in
+    (p .0, p .1, omega (arith, level-fits (entry .args .p) (p .0 .sound) (entry .args .l) (p .3)), p .3, omega arith)
 
-element-copy-out-same : tie.Need-element-copy-out-same Inv-loop μ-loop
-element-copy-out-same c = let p = c .before .before .before .before .pre in omega (arith, block-short (c .before .before .before .before .args .p) (p .0 .sound) (p .0 .small))
+shared-slice-read-same : tie.Need-shared-slice-read-same Inv-loop μ-loop
+shared-slice-read-same c = omega arith
 
 add-i : tie.Need-add-i Inv-loop μ-loop
 add-i c = omega arith
@@ -36,7 +34,7 @@ loop-again : tie.Need-loop-again Inv-loop μ-loop
 loop-again c = omega arith
 
 add-cost : tie.Need-add-cost Inv-loop μ-loop
-add-cost c = let p = c .before .before .before .before .before .before .pre in omega (arith, block-short (c .before .before .before .before .before .before .args .p) (p .0 .sound) (p .0 .small))
+add-cost c = let entry = c .before .before .before .before .before .before .before .before in omega (arith, sizes (entry .args .p) (entry .pre .0 .sound) .symbols-most)
 
 returns : tie.Need-returns Inv-loop μ-loop
 returns c = search needs
@@ -58,7 +56,7 @@ near-spec =
     μ-loop
     loop-holds
     combination-requires
-    element-copy-out-same
+    shared-slice-read-same
     add-i
     loop-less
     loop-again

@@ -1,9 +1,8 @@
 -- `block_test::one` meets its contract.
-use Prim.Native.Nat.{_-_}
+use mathlib.Core.Path.{sym}
 use native.Mathlib.Omega.{arith}
-use lib.ListN.{length-take}
+use lib.Seq.{length-take-le}
 use Rattle.field.proofs.Symbols.{symbols-take}
-use Rattle.block.proofs.Levels.{block-short, area-symbols}
 use borrow.Author.Needs.{needs}
 use Rattle.block_test.proofs.one.Statement.{statement}
 use Rattle.block_test.proofs.one.Tie as tie
@@ -11,29 +10,21 @@ use Rattle.block_test.proofs.one.Tie as tie
 digits-requires : tie.Need-digits-requires
 digits-requires c κs = search needs
 
+array-share-prefix-symbols : tie.Need-array-share-prefix-symbols
+array-share-prefix-symbols c = search needs
+
+slice-aggregate-received : tie.Need-slice-aggregate-received
+slice-aggregate-received c = sym (length-take-le _ _ (omega arith))
+
 some-near-requires : tie.Need-some-near-requires
-some-near-requires c κs = search needs
+some-near-requires c κs = let p = c .before .before .before .pre in (p .0, p .1, p .2, length-take-le _ _ (omega arith))
 
-sub-repair : tie.Need-sub-repair
-sub-repair c = search needs
-
-part-repair-start : tie.Need-part-repair-start
-part-repair-start c = search needs
-
-part-repair-end : tie.Need-part-repair-end
-part-repair-end c = search needs
-
-repair-requires : tie.Need-repair-requires
-repair-requires c κs =
-    let p = c .before .before .before .before .before .before .pre in
-    let s = c .before .before .before .before .before .before .args .p in
-    let l = c .before .before .before .before .before .digits .result in
-    let a = c .before .before .before .before .before .digits .ensures in (
-      p .0,
-      omega (arith, length-take (s .n - 0) l, a .size, block-short s (p .0 .sound) (p .0 .small)),
-      symbols-take (s .q) (s .n - 0) l (area-symbols a),
-      p .1,
-    )
+repaired-requires : tie.Need-repaired-requires
+repaired-requires c κs =
+    let entry = c .before .before .before .before in
+    let p = entry .pre in
+    let symbols = c .before .before .digits in
+    (p .0, p .1, p .2, length-take-le _ _ (omega arith), symbols-take _ (entry .args .p .n) (symbols .result) (symbols .ensures .1))
 
 returns : tie.Need-returns
 returns c = search needs
@@ -52,11 +43,10 @@ one-spec =
     tie.close
     (tie.spec
     digits-requires
+    array-share-prefix-symbols
+    slice-aggregate-received
     some-near-requires
-    sub-repair
-    part-repair-start
-    part-repair-end
-    repair-requires
+    repaired-requires
     returns
     returns-2
     returns-3

@@ -15,10 +15,13 @@ loop-holds : tie.Need-loop-holds Inv-loop μ-loop
 loop-holds c = omega arith
 
 digits-requires : tie.Need-digits-requires Inv-loop μ-loop
-digits-requires c κs = c .before .before .pre .0 .sound .good
+digits-requires c κs = search needs
+
+slice-aggregate-near : tie.Need-slice-aggregate-near Inv-loop μ-loop
+slice-aggregate-near c = omega arith
 
 near-requires : tie.Need-near-requires Inv-loop μ-loop
-near-requires c κs = let p = c .before .before .before .before .pre in (p .0, c .before .digits .ensures, p .1)
+near-requires c κs = let p = c .before .before .before .before .before .before .pre in (p .0, c .before .digits .ensures .1, omega arith, p .2, p .3)
 
 returns : tie.Need-returns Inv-loop μ-loop
 returns c = search needs
@@ -43,6 +46,7 @@ some-near-spec =
     μ-loop
     loop-holds
     digits-requires
+    slice-aggregate-near
     near-requires
     returns
     add-x

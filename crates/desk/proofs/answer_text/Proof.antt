@@ -16,15 +16,18 @@ use Rattle.desk.proofs.answer_text.Statement.{statement}
 use Rattle.desk.proofs.answer_text.Tie as tie
 
 abbrev Inv-loop : tie.InvT-loop
-Inv-loop text line₀ held output₀ kept₀ from₀ line output kept from =
-    (length line ≡ length line₀) × (length output ≡ length output₀) × (kept ≤ length line₀) × (from ≤ length text)
+Inv-loop text line₀ held reception₀ message₀ transmission₀ output₀ kept₀ from₀ line reception message transmission output kept from =
+    (length line ≡ length line₀) × (length reception ≡ length reception₀) × (length message ≡ length message₀) × (length transmission ≡ length transmission₀)
+    × (length output ≡ length output₀) × (kept ≤ length line₀) × (from ≤ length text)
     × ((begun : List ℕ) → Holds begun line₀ held → Holds (restOf begun (take from text)) line kept)
 
 abbrev μ-loop : tie.MeasureT-loop
-μ-loop text line₀ held output₀ kept₀ from₀ line output kept from = length text - from
+μ-loop text line₀ held reception₀ message₀ transmission₀ output₀ kept₀ from₀ line reception message transmission output kept from = length text - from
 
 loop-holds : tie.Need-loop-holds Inv-loop μ-loop
-loop-holds c = (omega arith, omega arith, omega arith, omega arith, λ begun H. held-none begun (now (c .before .before .before .args .text)) (now (c .before .before .before .args .line)) (c .before .before .before .args .held) H)
+loop-holds c =
+    let a = c .before .before .before .before .before .before .args in
+    (omega arith, omega arith, omega arith, omega arith, omega arith, omega arith, omega arith, λ begun H. held-none begun (now (a .text)) (now (a .line)) (a .held) H)
 
 sub-answer-lines : tie.Need-sub-answer-lines Inv-loop μ-loop
 sub-answer-lines c = omega arith
@@ -36,20 +39,27 @@ part-answer-lines-end : tie.Need-part-answer-lines-end Inv-loop μ-loop
 part-answer-lines-end c = omega arith
 
 answer-lines-requires : tie.Need-answer-lines-requires Inv-loop μ-loop
-answer-lines-requires c κs = (omega arith, record { characters = omega arith; answer = omega arith })
+answer-lines-requires c κs = (
+  omega arith,
+  record {
+    characters = omega arith;
+    frame = record { reception = omega arith; message = omega arith; transmission = omega arith };
+    answer = omega arith;
+  },
+)
 
 -- What is left of the text is not empty, so something of it is read.
-left : (c : tie.After-answer-lines Inv-loop μ-loop) → length (take (length (now (c .before .before .before .before .before .before .before .before .before .args .text)) - c .before .before .before .before .before .loop .from) (drop (c .before .before .before .before .before .loop .from) (now (c .before .before .before .before .before .before .before .before .before .args .text)))) ≡ length (now (c .before .before .before .before .before .before .before .before .before .args .text)) - c .before .before .before .before .before .loop .from
+left : (c : tie.After-answer-lines Inv-loop μ-loop) → length (take (length (now (c .before .before .before .before .before .before .before .before .before .before .before .before .before .before .before .args .text)) - c .before .before .before .before .before .before .before .before .loop .from) (drop (c .before .before .before .before .before .before .before .before .loop .from) (now (c .before .before .before .before .before .before .before .before .before .before .before .before .before .before .before .args .text)))) ≡ length (now (c .before .before .before .before .before .before .before .before .before .before .before .before .before .before .before .args .text)) - c .before .before .before .before .before .before .before .before .loop .from
 left c =
-    let text = now (c .before .before .before .before .before .before .before .before .before .args .text) in
-    let from = c .before .before .before .before .before .loop .from in
+    let text = now (c .before .before .before .before .before .before .before .before .before .before .before .before .before .before .before .args .text) in
+    let from = c .before .before .before .before .before .before .before .before .loop .from in
     length-take-le (length text - from) (drop from text) (omega (arith, length-drop from text))
 
 slice-reshare-prefix-write-all : tie.Need-slice-reshare-prefix-write-all Inv-loop μ-loop
-slice-reshare-prefix-write-all c = omega (arith, c .before .before .before .before .answer-lines .ensures .within .waiting)
+slice-reshare-prefix-write-all c = omega (arith, c .before .before .before .before .before .before .before .before .before .before .answer-lines .ensures .within .waiting)
 
 slice-aggregate-write-all : tie.Need-slice-aggregate-write-all Inv-loop μ-loop
-slice-aggregate-write-all c = sym (length-take-le _ _ (omega (arith, c .before .before .before .before .before .answer-lines .ensures .within .waiting)))
+slice-aggregate-write-all c = sym (length-take-le _ _ (omega (arith, c .before .before .before .before .before .before .before .before .before .before .before .answer-lines .ensures .within .waiting)))
 
 write-all-requires : tie.Need-write-all-requires Inv-loop μ-loop
 write-all-requires c κs = search needs
@@ -60,41 +70,63 @@ same-length c = omega arith
 same-length-2 : tie.Need-same-length-2 Inv-loop μ-loop
 same-length-2 c = omega arith
 
-returns : tie.Need-returns Inv-loop μ-loop
-returns c = (omega arith, λ begun H e. absurd (subst (λ (b : Bool). T (not b)) e tt))
-
-add-from : tie.Need-add-from Inv-loop μ-loop
-add-from c = omega (arith, left (c .before .before .before .before .before .before .before .before), c .before .before .before .before .before .before .before .before .answer-lines .ensures .within .place)
-
-loop-less : tie.Need-loop-less Inv-loop μ-loop
-loop-less c =
-    let read : 0 < c .before .before .before .before .before .before .before .before .answer-lines .result .from = c .before .before .before .before .before .before .before .before .answer-lines .ensures .on (omega (arith, left (c .before .before .before .before .before .before .before .before))) in
-    omega (arith, read, left (c .before .before .before .before .before .before .before .before), c .before .before .before .before .before .before .before .before .answer-lines .ensures .within .place)
-
-loop-again : tie.Need-loop-again Inv-loop μ-loop
-loop-again c =
-    let a = c .before .before .before .before .before .before .before .before .before .before .before .before .before .before .before .before .before .args in
-    let l = c .before .before .before .before .before .before .before .before .before .before .before .before .before .loop in
-    let done = c .before .before .before .before .before .before .before .before .answer-lines in
-    let few : done .result .from ≤ length (now (a .text)) - l .from = omega (arith, left (c .before .before .before .before .before .before .before .before), done .ensures .within .place) in (
-      omega arith,
-      omega arith,
-      omega (arith, done .ensures .within .characters),
-      omega (arith, few),
-      λ begun H. held-on begun (now (a .text)) (l .from) (done .result .from) _ (done .result .held) few (done .ensures .reached (restOf begun (take (l .from) (now (a .text)))) (l .inv .4 begun H) .kept),
-    )
-
 same-length-3 : tie.Need-same-length-3 Inv-loop μ-loop
 same-length-3 c = omega arith
 
 same-length-4 : tie.Need-same-length-4 Inv-loop μ-loop
 same-length-4 c = omega arith
 
+same-length-5 : tie.Need-same-length-5 Inv-loop μ-loop
+same-length-5 c = omega arith
+
+returns : tie.Need-returns Inv-loop μ-loop
+returns c = (omega arith, λ begun H e. absurd (subst (λ (b : Bool). T (not b)) e tt))
+
+add-from : tie.Need-add-from Inv-loop μ-loop
+add-from c = omega (arith, left (c .before .before .before .before .before .before .before .before .before .before .before .before .before .before), c .before .before .before .before .before .before .before .before .before .before .before .before .before .before .answer-lines .ensures .within .place)
+
+loop-less : tie.Need-loop-less Inv-loop μ-loop
+loop-less c =
+    let done = c .before .before .before .before .before .before .before .before .before .before .before .before .before .before .answer-lines in
+    let read : 0 < done .result .from = done .ensures .on (omega (arith, left (c .before .before .before .before .before .before .before .before .before .before .before .before .before .before))) in
+    omega (arith, read, left (c .before .before .before .before .before .before .before .before .before .before .before .before .before .before), done .ensures .within .place)
+
+loop-again : tie.Need-loop-again Inv-loop μ-loop
+loop-again c =
+    let a = c .before .before .before .before .before .before .before .before .before .before .before .before .before .before .before .before .before .before .before .before .before .before .before .before .before .before .before .before .before .args in
+    let l = c .before .before .before .before .before .before .before .before .before .before .before .before .before .before .before .before .before .before .before .before .before .before .loop in
+    let done = c .before .before .before .before .before .before .before .before .before .before .before .before .before .before .answer-lines in
+    let few : done .result .from ≤ length (now (a .text)) - l .from = omega (arith, left (c .before .before .before .before .before .before .before .before .before .before .before .before .before .before), done .ensures .within .place) in (
+      omega arith,
+      omega arith,
+      omega arith,
+      omega arith,
+      omega arith,
+      omega (arith, done .ensures .within .characters),
+      omega (arith, few),
+      λ begun H. held-on begun (now (a .text)) (l .from) (done .result .from) _ (done .result .held) few (done .ensures .reached (restOf begun (take (l .from) (now (a .text)))) (l .inv .7 begun H) .kept),
+    )
+
+same-length-6 : tie.Need-same-length-6 Inv-loop μ-loop
+same-length-6 c = omega arith
+
+same-length-7 : tie.Need-same-length-7 Inv-loop μ-loop
+same-length-7 c = omega arith
+
+same-length-8 : tie.Need-same-length-8 Inv-loop μ-loop
+same-length-8 c = omega arith
+
+same-length-9 : tie.Need-same-length-9 Inv-loop μ-loop
+same-length-9 c = omega arith
+
+same-length-10 : tie.Need-same-length-10 Inv-loop μ-loop
+same-length-10 c = omega arith
+
 returns-2 : tie.Need-returns-2 Inv-loop μ-loop
 returns-2 c =
-    let a = c .before .before .before .before .before .args in
+    let a = c .before .before .before .before .before .before .before .before .args in
     let l = c .before .loop in
-    (omega arith, λ begun H e. held-all begun (now (a .text)) (l .from) (l .line) (l .kept) (omega arith) (l .inv .4 begun H))
+    (omega arith, λ begun H e. held-all begun (now (a .text)) (l .from) (l .line) (l .kept) (omega arith) (l .inv .7 begun H))
 
 pub answer-text-spec : {M : Type 1} → statement M
 answer-text-spec =
@@ -112,10 +144,16 @@ answer-text-spec =
     write-all-requires
     same-length
     same-length-2
+    same-length-3
+    same-length-4
+    same-length-5
     returns
     add-from
     loop-less
     loop-again
-    same-length-3
-    same-length-4
+    same-length-6
+    same-length-7
+    same-length-8
+    same-length-9
+    same-length-10
     returns-2)

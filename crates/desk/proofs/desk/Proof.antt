@@ -9,17 +9,25 @@ use Rattle.desk.proofs.desk.Statement.{statement}
 use Rattle.desk.proofs.desk.Tie as tie
 
 abbrev Inv-loop : tie.InvT-loop
-Inv-loop input₀ line₀ output₀ held₀ turns₀ input line output held turns =
-    (length input ≡ length input₀) × (length line ≡ length line₀) × (length output ≡ length output₀) × (held ≤ length line₀)
+Inv-loop input₀ line₀ reception₀ message₀ transmission₀ output₀ held₀ turns₀ input line reception message transmission output held turns =
+    (length input ≡ length input₀) × (length line ≡ length line₀) × (length reception ≡ length reception₀) × (length message ≡ length message₀)
+    × (length transmission ≡ length transmission₀) × (length output ≡ length output₀) × (held ≤ length line₀)
 
 abbrev μ-loop : tie.MeasureT-loop
-μ-loop input₀ line₀ output₀ held₀ turns₀ input line output held turns = turns
+μ-loop input₀ line₀ reception₀ message₀ transmission₀ output₀ held₀ turns₀ input line reception message transmission output held turns = turns
 
 loop-holds : tie.Need-loop-holds Inv-loop μ-loop
 loop-holds c = omega arith
 
 turn-requires : tie.Need-turn-requires Inv-loop μ-loop
-turn-requires c κs = (omega arith, record { characters = omega arith; answer = omega arith })
+turn-requires c κs = (
+  omega arith,
+  record {
+    characters = omega arith;
+    frame = record { reception = omega arith; message = omega arith; transmission = omega arith };
+    answer = omega arith;
+  },
+)
 
 left-after-requires : tie.Need-left-after-requires Inv-loop μ-loop
 left-after-requires c κs = omega arith
@@ -31,7 +39,14 @@ loop-again : tie.Need-loop-again Inv-loop μ-loop
 loop-again c = omega arith
 
 answer-last-requires : tie.Need-answer-last-requires Inv-loop μ-loop
-answer-last-requires c κs = (omega arith, record { characters = omega arith; answer = omega arith })
+answer-last-requires c κs = (
+  omega arith,
+  record {
+    characters = omega arith;
+    frame = record { reception = omega arith; message = omega arith; transmission = omega arith };
+    answer = omega arith;
+  },
+)
 
 slice-reshare-prefix-write-all : tie.Need-slice-reshare-prefix-write-all Inv-loop μ-loop
 slice-reshare-prefix-write-all c = search needs
@@ -50,6 +65,15 @@ same-length-2 c = omega arith
 
 same-length-3 : tie.Need-same-length-3 Inv-loop μ-loop
 same-length-3 c = omega arith
+
+same-length-4 : tie.Need-same-length-4 Inv-loop μ-loop
+same-length-4 c = omega arith
+
+same-length-5 : tie.Need-same-length-5 Inv-loop μ-loop
+same-length-5 c = omega arith
+
+same-length-6 : tie.Need-same-length-6 Inv-loop μ-loop
+same-length-6 c = omega arith
 
 returns : tie.Need-returns Inv-loop μ-loop
 returns c = tt
@@ -72,4 +96,7 @@ desk-spec =
     same-length
     same-length-2
     same-length-3
+    same-length-4
+    same-length-5
+    same-length-6
     returns)

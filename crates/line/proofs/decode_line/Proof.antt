@@ -1,50 +1,59 @@
--- `line::decode_line`: what decoding says of the symbols that were read.
-use mathlib.Core.Path.{sym}
+-- `line::decode_line`: the symbols are read into the front of the reception, and decoded there.
+use mathlib.Core.Path.{sym, _∙_}
 use Prim.Native.Nat.{_-_, _≤_}
 use native.Mathlib.Omega.{arith}
 use borrow.Author.Needs.{needs}
 use denote.Ref.{now}
-use lib.ListN.{length, take, drop, length-take, length-drop}
+use lib.ListN.{length, drop, length-drop}
 use lib.Seq.{length-take-le}
+use Rattle.line.specs.Answering.{working}
 use Rattle.line.proofs.Asked.{HeadYes, head-yes}
-use Rattle.line.proofs.Frames.{frame-answered, read-frame}
+use Rattle.line.proofs.Frames.{symbols-count, room-is, frame-left}
 use Rattle.line.proofs.decode_line.Statement.{statement}
 use Rattle.line.proofs.decode_line.Tie as tie
 
--- Questions 11, 9, 1, 3 and 10 got "yes".
+-- The line holds a frame, and there is room for its symbols.
 known : (c : tie.Start) → HeadYes (now (c .args .line))
 known c = head-yes (now (c .args .line)) (c .pre .0)
+
+room : (c : tie.Start)
+    → (length (now (c .args .line)) - 4 ≤ length (now (c .args .reception))) × (length (now (c .args .line)) - 4 ≤ length (now (c .args .transmission)))
+room c =
+    let a = c .args in
+    let enough = room-is (now (a .line)) (length (now (a .reception))) (length (now (a .message))) (length (now (a .transmission))) (c .pre .1) in
+    (omega (arith, symbols-count (now (a .line)), enough .0), omega (arith, symbols-count (now (a .line)), enough .1))
 
 setting-in-requires : tie.Need-setting-in-requires
 setting-in-requires c κs = known (c .before .before .before .before) .least
 
 sub-long : tie.Need-sub-long
-sub-long c = known (c .before .before .before .before .before) .least
+sub-long c = omega (arith, known (c .before .before .before .before .before) .least)
 
 sub-read-digits : tie.Need-sub-read-digits
-sub-read-digits c = known (c .before .before .before .before .before) .least
+sub-read-digits c = omega (arith, known (c .before .before .before .before .before) .least)
 
 part-read-digits-start : tie.Need-part-read-digits-start
-part-read-digits-start c = known (c .before .before .before .before .before) .least
+part-read-digits-start c = omega (arith, known (c .before .before .before .before .before) .least)
 
 part-read-digits-end : tie.Need-part-read-digits-end
 part-read-digits-end c = search needs
 
+slice-relend-prefix-read-digits : tie.Need-slice-relend-prefix-read-digits
+slice-relend-prefix-read-digits c = omega (arith, room (c .before .before .before .before .before .before))
+
+slice-aggregate-read-digits : tie.Need-slice-aggregate-read-digits
+slice-aggregate-read-digits c = sym (length-take-le _ _ (omega (arith, room (c .before .before .before .before .before .before .before))))
+
 read-digits-requires : tie.Need-read-digits-requires
 read-digits-requires c κs =
-    let entry = c .before .before .before .before .before .before .before in
-    let line = now (entry .args .line) in
-    omega (arith, known entry .characters, entry .pre .1, length-take (length line - 4) (drop 4 line), length-drop 4 line)
-
--- The reception has room for the line's symbols.
-room : (c : tie.After-slice-known4) → length (now (c .before .before .before .before .before .before .before .before .before .before .args .line)) - 4 ≤ length (c .before .before .read-digits .last .1 .0)
-room c = omega (arith, known (c .before .before .before .before .before .before .before .before .before .before) .characters, c .before .before .before .before .before .before .before .before .before .before .pre .1, c .before .before .read-digits .kept .1 .0)
+    let line = now (c .before .before .before .before .before .before .before .args .line) in
+    length-take-le (length line - 4) (drop 4 line) (omega (arith, length-drop 4 line)) ∙ sym (length-take-le _ _ (omega (arith, room (c .before .before .before .before .before .before .before))))
 
 slice-reshare-prefix-decode : tie.Need-slice-reshare-prefix-decode
-slice-reshare-prefix-decode c = room c
+slice-reshare-prefix-decode c = omega (arith, room (c .before .before .before .before .before .before .before .before .before .before))
 
 slice-aggregate-decode : tie.Need-slice-aggregate-decode
-slice-aggregate-decode c = sym (length-take-le _ _ (room (c .before)))
+slice-aggregate-decode c = sym (length-take-le _ _ (omega (arith, room (c .before .before .before .before .before .before .before .before .before .before .before))))
 
 decode-requires : tie.Need-decode-requires
 decode-requires c κs = search needs
@@ -60,12 +69,9 @@ same-length-3 c = search needs
 
 returns : tie.Need-returns
 returns c =
-    let entry = c .before .before .before .before .before .before .before .before .before .before .before .before .before .before .before .before .before .before in
-    let line = now (entry .args .line) in
-    frame-answered line (entry .pre .0) (c .before .before .before .before .before .before .before .before .before .before .before .before .before .setting-in .result) (take (length line - 4) (c .before .before .before .before .before .before .before .before .before .before .read-digits .last .1 .0)) (now (entry .args .message))
-    (now (entry .args .transmission)) (c .before .before .before .before .decode .result) (c .before .before .before .before .decode .last .1 .1 .0) (c .before .before .before .before .decode .last .1 .1 .1 .0)
-    (c .before .before .before .before .before .before .before .before .before .before .before .before .before .setting-in .ensures) (read-frame line (c .before .before .before .before .before .before .before .before .before .before .read-digits .last .1 .0) (c .before .before .before .before .before .before .before .before .before .before .read-digits .ensures)) (entry .pre .2) (entry .pre .3)
-    (c .before .before .before .before .decode .ensures)
+    let a = c .before .before .before .before .before .before .before .before .before .before .before .before .before .before .before .before .before .before .args in
+    frame-left (now (a .line)) (c .before .before .before .before .before .before .before .before .before .before .before .before .before .setting-in .result) (c .before .before .before .before .before .before .before .before .before .before .read-digits .last .1 .0) (working (now (a .reception)) (now (a .message)) (now (a .transmission))) (c .before .before .before .before .decode .result) _ _ (c .before .before .before .before .before .before .before .before .before .before .before .before .before .setting-in .ensures)
+    (c .before .before .before .before .before .before .before .before .before .before .read-digits .ensures) (c .before .before .before .before .decode .ensures)
 
 pub decode-line-spec : {M : Type 1} → statement M
 decode-line-spec =
@@ -76,6 +82,8 @@ decode-line-spec =
     sub-read-digits
     part-read-digits-start
     part-read-digits-end
+    slice-relend-prefix-read-digits
+    slice-aggregate-read-digits
     read-digits-requires
     slice-reshare-prefix-decode
     slice-aggregate-decode

@@ -17,23 +17,23 @@ abbrev μ-loop : tie.MeasureT-loop
 μ-loop q products k values from y sum₀ e₀ sum e = k - e
 
 loop-holds : tie.Need-loop-holds Inv-loop μ-loop
-loop-holds c = (omega arith, falling-none _ (c .pre .0) _ _)
+loop-holds c = (omega arith, falling-none _ (c .before .pre .0) _ _)
 
 add-add : tie.Need-add-add Inv-loop μ-loop
 add-add c = omega arith
 
-element-copy-out-add : tie.Need-element-copy-out-add Inv-loop μ-loop
-element-copy-out-add c = omega arith
+shared-slice-read-add : tie.Need-shared-slice-read-add Inv-loop μ-loop
+shared-slice-read-add c = omega arith
 
 add-requires : tie.Need-add-requires Inv-loop μ-loop
 add-requires c κs =
-    let p = c .before .before .before .pre in
-    let a = c .before .before .before .args in
+    let p = c .before .before .before .before .pre in
+    let a = c .before .before .before .before .args in
     let l = c .before .before .loop in
-    (p .0, l .inv .1 .below, p .2 .below (a .from + l .e))
+    (p .0, l .inv .1 .below, p .2 (a .from + l .e))
 
 multiply-requires : tie.Need-multiply-requires Inv-loop μ-loop
-multiply-requires c κs = let p = c .before .before .before .before .pre in (p .0, p .1, c .add .ensures .below, p .4)
+multiply-requires c κs = let p = c .before .before .before .before .before .pre in (p .0, p .1, c .add .ensures .below, p .4)
 
 add-e : tie.Need-add-e Inv-loop μ-loop
 add-e c = omega arith
@@ -43,14 +43,14 @@ loop-less c = omega arith
 
 loop-again : tie.Need-loop-again Inv-loop μ-loop
 loop-again c =
-    let p = c .before .before .before .before .before .pre in
+    let p = c .before .before .before .before .before .before .pre in
     let l = c .before .before .before .before .loop in
     (omega arith, falling-more _ (p .0) _ _ (l .e) (l .sum) _ _ (l .inv .1) (c .before .add .ensures) (c .multiply .ensures))
 
 returns : tie.Need-returns Inv-loop μ-loop
 returns c =
     let l = c .before .loop in
-    let done : l .e ≡ c .before .before .args .k = omega arith in
+    let done : l .e ≡ c .before .before .before .args .k = omega arith in
     rw done at (l .inv .1)
 
 pub falling-spec : {M : Type 1} → statement M
@@ -61,7 +61,7 @@ falling-spec =
     μ-loop
     loop-holds
     add-add
-    element-copy-out-add
+    shared-slice-read-add
     add-requires
     multiply-requires
     add-e

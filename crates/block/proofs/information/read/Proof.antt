@@ -1,34 +1,43 @@
 -- `block::information::read` meets its contract. The loop's invariant is the promise for b blocks.
-use Prim.Native.Nat.{_≤_, _+_, _-_, _*_}
-use mathlib.Core.Path.{_≡_}
+use Prim.Native.Nat.{_≤_, _+_, _-_}
+use mathlib.Core.Path.{_≡_, refl, sym, subst, _∙_}
 use native.Mathlib.Nat.{mul-le-mul-right}
 use native.Mathlib.Omega.{arith}
+use borrow.Author.Needs.{needs}
+use denote.Ref.{now}
+use lib.ListN.{length}
 use Rattle.block.specs.Information.{Read}
 use Rattle.block.proofs.Reading.{read-none, read-more}
 use Rattle.block.proofs.information.read.Statement.{statement}
 use Rattle.block.proofs.information.read.Tie as tie
 
 abbrev Inv-loop : tie.InvT-loop
-Inv-loop p products rows blocks values k information₀ b₀ information b = (b ≤ blocks) × Read p b values information
+Inv-loop p products rows blocks values information₀ k b₀ information b = (b ≤ blocks) × (length information ≡ length information₀) × Read p b values information
 
 abbrev μ-loop : tie.MeasureT-loop
-μ-loop p products rows blocks values k information₀ b₀ information b = blocks - b
+μ-loop p products rows blocks values information₀ k b₀ information b = blocks - b
+
+clear-requires : tie.Need-clear-requires Inv-loop μ-loop
+clear-requires c κs = search needs
 
 loop-holds : tie.Need-loop-holds Inv-loop μ-loop
-loop-holds c = (omega arith, read-none _ (c .pre .0 .sound) _ (c .pre .2))
+loop-holds c =
+    let entry = c .before .before .before .before .before .before .before in
+    (omega arith, refl, subst (Read (entry .args .p) 0 (now (entry .args .values))) (sym (c .before .before .clear .ensures)) (read-none _ (entry .pre .0 .sound) _ (entry .pre .1) (length (now (entry .args .information)))))
 
 mul-read-block : tie.Need-mul-read-block Inv-loop μ-loop
 mul-read-block c =
-    let a = c .before .before .args in
-    let next : c .before .loop .b + 1 ≤ a .blocks = omega arith in
-    omega (arith, mul-le-mul-right (a .p .k) next, c .before .before .pre .1)
+    let entry = c .before .before .before .before .before .before .before .before .before in
+    let next : c .before .loop .b + 1 ≤ entry .args .blocks = omega arith in
+    omega (arith, mul-le-mul-right (entry .args .p .k) next, entry .pre .2)
 
 read-block-requires : tie.Need-read-block-requires Inv-loop μ-loop
 read-block-requires c κs =
-    let p = c .before .before .before .pre in
-    let a = c .before .before .before .args in
-    let next : c .before .before .loop .b + 1 ≤ a .blocks = omega arith in
-    (p .0, p .2, c .before .before .loop .inv .1 .area, omega (arith, mul-le-mul-right (a .p .k) next, p .1))
+    let entry = c .before .before .before .before .before .before .before .before .before .before in
+    let l = c .before .before .loop in
+    let next : l .b + 1 ≤ entry .args .blocks = omega arith in
+    let last = mul-le-mul-right (entry .args .p .k) next in
+    (entry .pre .0, entry .pre .1, omega (arith, last, entry .pre .2), l .inv .2 .below, omega (arith, last, entry .pre .3, l .inv .1, c .before .before .before .before .before .clear .kept .0))
 
 add-b : tie.Need-add-b Inv-loop μ-loop
 add-b c = omega arith
@@ -38,15 +47,18 @@ loop-less c = omega arith
 
 loop-again : tie.Need-loop-again Inv-loop μ-loop
 loop-again c =
-    let p = c .before .before .before .before .pre in
-    let l = c .before .before .before .loop in
-    (omega arith, read-more _ (p .0 .sound) _ (p .2) (l .b) _ _ (l .inv .1) (c .read-block .ensures))
+    let p = c .before .before .before .before .before .before .before .before .before .before .before .before .before .pre in
+    let l = c .before .before .before .before .before .loop in
+    (omega arith, c .before .before .read-block .kept .1 .1 .1 .1 .1 .0 ∙ l .inv .1, read-more _ (p .0 .sound) _ (p .1) (l .b) _ _ (l .inv .2) (c .before .before .read-block .ensures))
+
+same-length : tie.Need-same-length Inv-loop μ-loop
+same-length c = c .before .loop .inv .1 ∙ c .before .before .before .before .clear .kept .0
 
 returns : tie.Need-returns Inv-loop μ-loop
 returns c =
     let l = c .before .loop in
-    let done : l .b ≡ c .before .before .args .blocks = omega arith in
-    rw done at (l .inv .1)
+    let done : l .b ≡ c .before .before .before .before .before .before .before .before .before .args .blocks = omega arith in
+    rw done at (l .inv .2)
 
 pub read-spec : {M : Type 1} → statement M
 read-spec =
@@ -54,10 +66,12 @@ read-spec =
     (tie.spec
     Inv-loop
     μ-loop
+    clear-requires
     loop-holds
     mul-read-block
     read-block-requires
     add-b
     loop-less
     loop-again
+    same-length
     returns)

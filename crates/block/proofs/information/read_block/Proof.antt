@@ -1,7 +1,8 @@
 -- `block::information::read_block` meets its contract. The loop's invariant is the promise for the last j symbols, and the point is (1/α)^j.
-use Prim.Native.Nat.{_+_, _-_, _≤_}
-use mathlib.Core.Path.{_≡_}
+use Prim.Native.Nat.{_-_, _≤_}
+use mathlib.Core.Path.{_≡_, refl}
 use native.Mathlib.Omega.{arith}
+use lib.ListN.{length, length-set}
 use Rattle.algebra.specs.Sum.{power}
 use Rattle.field.specs.Fields.{opsOf, alpha}
 use Rattle.field.specs.Symbols.{Is}
@@ -13,29 +14,30 @@ use Rattle.block.proofs.information.read_block.Tie as tie
 
 abbrev Inv-loop : tie.InvT-loop
 Inv-loop p products rows values from information₀ q k back point₀ j₀ information point j =
-    (j ≤ k) × Is q point (power (opsOf q) (opsOf q .inv alpha) j) × BlockRead p from j values information₀ information
+    (j ≤ k) × (length information ≡ length information₀) × Is q point (power (opsOf q) (opsOf q .inv alpha) j) × BlockRead p from j values information₀ information
 
 abbrev μ-loop : tie.MeasureT-loop
 μ-loop p products rows values from information₀ q k back point₀ j₀ information point j = k - j
 
 inverse-requires : tie.Need-inverse-requires Inv-loop μ-loop
-inverse-requires c κs = let p = c .pre in (p .0 .sound .good, p .0 .products, alpha-below _ (p .0 .sound .good))
+inverse-requires c κs = let p = c .before .before .before .pre in (p .0 .sound .good, p .0 .products, alpha-below _ (p .0 .sound .good))
 
 loop-holds : tie.Need-loop-holds Inv-loop μ-loop
-loop-holds c = let p = c .before .pre in (omega arith, back-none _ (p .0 .sound .good), block-none _ (p .0 .sound) _ (p .1) _ _ (p .2))
+loop-holds c = let p = c .before .before .before .before .pre in (omega arith, refl, back-none _ (p .0 .sound .good), block-none _ (p .0 .sound) _ (p .1) _ _ (p .3))
 
 add-j : tie.Need-add-j Inv-loop μ-loop
 add-j c = omega arith
 
 multiply-requires : tie.Need-multiply-requires Inv-loop μ-loop
 multiply-requires c κs =
-    let p = c .before .before .before .pre in
-    (p .0 .sound .good, p .0 .products, c .before .before .inverse .ensures .below, c .before .loop .inv .1 .below)
+    let p = c .before .before .before .before .before .before .pre in
+    (p .0 .sound .good, p .0 .products, c .before .before .inverse .ensures .below, c .before .loop .inv .2 .below)
 
 symbol-requires : tie.Need-symbol-requires Inv-loop μ-loop
 symbol-requires c κs =
-    let p = c .before .before .before .before .before .pre in
-    (p .0, p .1, c .before .before .before .loop .inv .2 .area, p .3, c .before .multiply .ensures .below, omega arith, omega arith)
+    let p = c .before .before .before .before .before .before .before .before .pre in
+    let l = c .before .before .before .loop in
+    (p .0, p .1, p .2, l .inv .3 .below, omega (arith, l .inv .1, p .4), c .before .multiply .ensures .below, omega arith, omega arith)
 
 sub-information : tie.Need-sub-information Inv-loop μ-loop
 sub-information c = omega arith
@@ -43,24 +45,27 @@ sub-information c = omega arith
 add-information : tie.Need-add-information Inv-loop μ-loop
 add-information c = omega arith
 
-element-write-information : tie.Need-element-write-information Inv-loop μ-loop
-element-write-information c = omega (arith, c .before .before .before .before .loop .inv .2 .area .size)
+slice-write-information : tie.Need-slice-write-information Inv-loop μ-loop
+slice-write-information c = omega (arith, c .before .before .before .before .loop .inv .1)
 
 loop-less : tie.Need-loop-less Inv-loop μ-loop
 loop-less c = omega arith
 
 loop-again : tie.Need-loop-again Inv-loop μ-loop
 loop-again c =
-    let p = c .before .before .before .before .before .before .pre in
+    let p = c .before .before .before .before .before .before .before .before .before .pre in
     let l = c .before .before .before .before .loop in
-    let point = back-more _ (p .0 .sound .good) (l .j) _ _ _ (c .before .before .before .before .before .inverse .ensures) (l .inv .1) (c .before .before .multiply .ensures) in
-    (omega arith, point, block-more _ (p .0 .sound) _ (p .1) _ (l .j) _ _ _ _ (p .3) (omega arith) (l .inv .2) point (c .symbol .ensures))
+    let point = back-more _ (p .0 .sound .good) (l .j) _ _ _ (c .before .before .before .before .before .inverse .ensures) (l .inv .2) (c .before .before .multiply .ensures) in
+    (omega arith, simp length-set (l .inv .1), point, block-more _ (p .0 .sound) _ (p .1) _ (l .j) _ _ _ _ (omega (arith, l .inv .1, p .4)) (omega arith) (l .inv .3) point (c .symbol .ensures))
+
+same-length : tie.Need-same-length Inv-loop μ-loop
+same-length c = c .before .loop .inv .1
 
 returns : tie.Need-returns Inv-loop μ-loop
 returns c =
     let l = c .before .loop in
-    let done : l .j ≡ c .before .before .before .args .p .k = omega arith in
-    rw done at (l .inv .2)
+    let done : l .j ≡ c .before .before .before .before .before .before .args .p .k = omega arith in
+    rw done at (l .inv .3)
 
 pub read-block-spec : {M : Type 1} → statement M
 read-block-spec =
@@ -75,7 +80,8 @@ read-block-spec =
     symbol-requires
     sub-information
     add-information
-    element-write-information
+    slice-write-information
     loop-less
     loop-again
+    same-length
     returns)

@@ -1,26 +1,36 @@
 -- `block::locator::advance` meets its contract: the locator is kept, corrected, or corrected and lengthened.
-use mathlib.Core.Path.{_≡_}
-use Prim.Native.Nat.{suc, _-_}
+use mathlib.Core.Path.{_≡_, sym, subst}
+use Prim.Native.Nat.{suc, _+_, _-_, _≤_}
 use native.Mathlib.Omega.{arith}
-use Rattle.block.proofs.Placing.{placed-kept, placed-corrected, placed-lengthened}
 use borrow.Author.Needs.{needs}
+use denote.Ref.{now}
+use lib.ListN.{length}
+use Rattle.block.specs.Progress.{Placed}
+use Rattle.block.proofs.Placing.{placed-kept, placed-corrected, placed-lengthened}
 use Rattle.block.proofs.locator.advance.Statement.{statement}
 use Rattle.block.proofs.locator.advance.Tie as tie
 
 tail-requires : tie.Need-tail-requires
-tail-requires c κs = search needs
+tail-requires c κs =
+    let entry = c .before .before .before .before .before in
+    let located = entry .pre .8 .located in
+    let up-to : entry .args .progress .degree ≤ entry .args .next - 1 = omega (arith, located .grown, located .placed) in
+    (entry .pre .0, entry .pre .1, entry .pre .8 .locator-below, omega (arith, entry .pre .5), entry .pre .2, omega arith, entry .pre .4)
 
-element-copy-out-add : tie.Need-element-copy-out-add
-element-copy-out-add c = search needs
+shared-slice-read-add : tie.Need-shared-slice-read-add
+shared-slice-read-add c = search needs
 
 add-requires : tie.Need-add-requires
-add-requires c κs = let p = c .before .before .before .pre in (p .0, p .2 .below (c .before .before .before .args .next), c .before .tail .ensures .below)
+add-requires c κs = let entry = c .before .before .before .before .before .before .before in (entry .pre .0, entry .pre .2 (entry .args .next), c .before .tail .ensures .below)
+
+same-length : tie.Need-same-length
+same-length c = search needs
 
 returns : tie.Need-returns
 returns c =
-    let p = c .before .before .before .before .before .pre in
-    let step : suc (c .before .before .before .before .before .args .next - 1) ≡ c .before .before .before .before .before .args .next = omega arith in
-    placed-kept _ (p .0) _ _ _ _ _ _ _ _ _ _ step (p .2) (p .5) (c .before .before .before .tail .ensures) (c .before .add .ensures) (c .if1 .taken)
+    let entry = c .before .before .before .before .before .before .before .before .before in
+    let step : suc (entry .args .next - 1) ≡ entry .args .next = omega arith in
+    placed-kept _ (entry .pre .0) _ _ _ _ _ _ _ _ _ _ step (entry .pre .2) (entry .pre .8) (c .before .before .before .tail .ensures) (c .before .add .ensures) (c .if1 .taken)
 
 multiply-requires : tie.Need-multiply-requires
 multiply-requires c κs = search needs
@@ -37,18 +47,41 @@ add-count c = search needs
 add-if2 : tie.Need-add-if2
 add-if2 c = search needs
 
+-- The former locator, moved up to the place, lies within the locator.
+room : (c : tie.After-multiply) → c .before .before .before .before .before .before .before .before .before .before .args .next - c .before .before .before .before .before .before .before .before .before .before .args .progress .place + (c .before .before .before .before .before .before .before .before .before .before .args .progress .place - c .before .before .before .before .before .before .before .before .before .before .args .progress .degree + 1) ≤ length (now (c .before .before .before .before .before .before .before .before .before .before .args .series))
+room c = let entry = c .before .before .before .before .before .before .before .before .before .before in omega (arith, entry .pre .8 .located .grown, entry .pre .8 .located .placed, entry .pre .4)
+
 subtract-multiple-requires : tie.Need-subtract-multiple-requires
-subtract-multiple-requires c κs = search needs
+subtract-multiple-requires c κs =
+    let entry = c .before .before .before .before .before .before .before .before .before .before .before .before .before in
+    let inside = room (c .before .before .before) in
+    (entry .pre .0, entry .pre .1, c .before .before .before .multiply .ensures .below, entry .pre .8 .former-below, omega (arith, inside, entry .pre .6), entry .pre .8 .locator-below, omega (arith, inside, entry .pre .5))
+
+same-length-2 : tie.Need-same-length-2
+same-length-2 c = search needs
+
+same-length-3 : tie.Need-same-length-3
+same-length-3 c = search needs
 
 returns-2 : tie.Need-returns-2
 returns-2 c =
-    let p = c .before .before .before .before .before .before .before .before .before .before .pre in
-    let step : suc (c .before .before .before .before .before .before .before .before .before .before .args .next - 1) ≡ c .before .before .before .before .before .before .before .before .before .before .args .next = omega arith in
-    placed-corrected _ (p .0) _ _ _ _ _ _ _ _ _ _ step (p .2) (p .5) (c .before .before .before .before .before .before .before .before .tail .ensures) (c .before .before .before .before .before .before .add .ensures)
-    _ _ (c .before .before .before .before .multiply .ensures) (c .subtract-multiple .ensures) (c .before .before .before .if2 .taken)
+    let entry = c .before .before .before .before .before .before .before .before .before .before .before .before .before .before .before .before in
+    let step : suc (entry .args .next - 1) ≡ entry .args .next = omega arith in
+    placed-corrected _ (entry .pre .0) _ _ _ _ _ _ _ _ _ _ step (entry .pre .2) (entry .pre .8) (c .before .before .before .before .before .before .before .before .before .before .tail .ensures) (c .before .before .before .before .before .before .before .before .add .ensures)
+    _ _ (c .before .before .before .before .before .before .multiply .ensures) (c .before .before .subtract-multiple .ensures) (c .before .before .before .before .before .if2 .taken)
 
-subtract-multiple-requires-2 : tie.Need-subtract-multiple-requires-2
-subtract-multiple-requires-2 c κs = search needs
+exchange-requires : tie.Need-exchange-requires
+exchange-requires c κs =
+    let entry = c .before .before .before .before .before .before .before .before .before .before .before .before .before .before in (
+      entry .pre .0,
+      entry .pre .1,
+      c .before .before .before .before .multiply .ensures .below,
+      entry .pre .8 .locator-below,
+      entry .pre .8 .former-below,
+      omega (arith, room (c .before .before .before .before), entry .pre .5),
+      omega (arith, entry .pre .5, entry .pre .6),
+      omega (arith, entry .pre .5, entry .pre .7),
+    )
 
 sub-t21 : tie.Need-sub-t21
 sub-t21 c = search needs
@@ -56,20 +89,31 @@ sub-t21 c = search needs
 inverse-requires : tie.Need-inverse-requires
 inverse-requires c κs = search needs
 
+same-length-4 : tie.Need-same-length-4
+same-length-4 c = search needs
+
+same-length-5 : tie.Need-same-length-5
+same-length-5 c = search needs
+
+same-length-6 : tie.Need-same-length-6
+same-length-6 c = search needs
+
 returns-3 : tie.Need-returns-3
 returns-3 c =
-    let p = c .before .before .before .before .before .before .before .before .before .before .before .before .pre in
-    let step : suc (c .before .before .before .before .before .before .before .before .before .before .before .before .args .next - 1) ≡ c .before .before .before .before .before .before .before .before .before .before .before .before .args .next = omega arith in
-    placed-lengthened _ (p .0) _ _ _ _ _ _ _ _ _ _ step (p .2) (p .5) (c .before .before .before .before .before .before .before .before .before .before .tail .ensures) (c .before .before .before .before .before .before .before .before .add .ensures)
-    _ _ (c .before .before .before .before .before .before .multiply .ensures) (c .before .subtract-multiple2 .ensures) _ (c .before .before .before .before .before .if2 .left) (c .before .before .before .before .before .before .before .if1 .left) (c .inverse .ensures)
+    let entry = c .before .before .before .before .before .before .before .before .before .before .before .before .before .before .before .before .before .before .before .before .before .before in
+    let step : suc (entry .args .next - 1) ≡ entry .args .next = omega arith in
+    subst (Placed _ _ _ _ _ _ _) (sym (c .before .before .before .before .before .before .before .exchange .ensures .1))
+    (placed-lengthened _ (entry .pre .0) _ _ _ _ _ _ _ _ _ _ step (entry .pre .2) (entry .pre .8) (c .before .before .before .before .before .before .before .before .before .before .before .before .before .before .before .before .tail .ensures) (c .before .before .before .before .before .before .before .before .before .before .before .before .before .before .add .ensures)
+    _ _ (c .before .before .before .before .before .before .before .before .before .before .before .before .multiply .ensures) (c .before .before .before .before .before .before .before .exchange .ensures .0) _ (c .before .before .before .before .before .before .before .before .before .before .before .if2 .left) (c .before .before .before .before .before .before .before .before .before .before .before .before .before .if1 .left) (c .inverse .ensures))
 
 pub advance-spec : {M : Type 1} → statement M
 advance-spec =
     tie.close
     (tie.spec
     tail-requires
-    element-copy-out-add
+    shared-slice-read-add
     add-requires
+    same-length
     returns
     multiply-requires
     sub-shift
@@ -77,8 +121,13 @@ advance-spec =
     add-count
     add-if2
     subtract-multiple-requires
+    same-length-2
+    same-length-3
     returns-2
-    subtract-multiple-requires-2
+    exchange-requires
     sub-t21
     inverse-requires
+    same-length-4
+    same-length-5
+    same-length-6
     returns-3)

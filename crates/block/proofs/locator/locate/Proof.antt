@@ -1,27 +1,43 @@
 -- `block::locator::locate` meets its contract. The loop's invariant: the locator is that of the terms before place `next`.
-use mathlib.Core.Path.{_≡_}
+use mathlib.Core.Path.{_≡_, _∙_}
 use Prim.Native.Nat.{_≤_, _<_, _+_, _-_}
 use native.Mathlib.Omega.{arith}
-use borrow.Author.Needs.{needs}
+use lib.ListN.{length}
 use Rattle.block.specs.Progress.{Placed}
 use Rattle.block.proofs.Placing.{placed-start}
 use Rattle.block.proofs.locator.locate.Statement.{statement}
 use Rattle.block.proofs.locator.locate.Tie as tie
 
 abbrev Inv-loop : tie.InvT-loop
-Inv-loop q tables series known locator₀ former₀ progress₀ next₀ locator former progress next = (0 < next) × (next ≤ known) × Placed q series (next - 1) (progress .length) (progress .place) (progress .scale) locator former
+Inv-loop q products series known locator₀ former₀ spare₀ progress₀ next₀ locator former spare progress next =
+    (0 < next) × (next ≤ known) × (length locator ≡ length series) × (length former ≡ length series) × (length spare ≡ length series)
+    × Placed q series (next - 1) (progress .degree) (progress .place) (progress .scale) locator former
 
 abbrev μ-loop : tie.MeasureT-loop
-μ-loop q tables series known locator₀ former₀ progress₀ next₀ locator former progress next = known - next
+μ-loop q products series known locator₀ former₀ spare₀ progress₀ next₀ locator former spare progress next = known - next
 
 unit-requires : tie.Need-unit-requires Inv-loop μ-loop
-unit-requires c κs = search needs
+unit-requires c κs = let p = c .before .before .before .before .before .pre in omega (arith, p .4, p .5, p .6)
+
+unit-requires-2 : tie.Need-unit-requires-2 Inv-loop μ-loop
+unit-requires-2 c κs = let p = c .before .before .before .before .before .before .before .before .before .pre in omega (arith, p .4, p .5, p .7)
 
 loop-holds : tie.Need-loop-holds Inv-loop μ-loop
-loop-holds c = (omega arith, omega arith, placed-start _ (c .before .pre .0) _ _ (c .before .pre .2) (c .before .pre .3) (c .unit .ensures))
+loop-holds c =
+    let p = c .before .before .before .before .before .before .before .before .before .before .before .before .pre in (
+      omega arith,
+      omega arith,
+      c .before .before .before .before .before .before .unit .kept .0 ∙ p .6,
+      c .before .before .unit2 .kept .0 ∙ p .7,
+      p .8,
+      placed-start _ (p .0) _ _ _ (p .2) (p .3) (c .before .before .before .before .before .before .unit .ensures) (c .before .before .unit2 .ensures),
+    )
 
 advance-requires : tie.Need-advance-requires Inv-loop μ-loop
-advance-requires c κs = let p = c .before .before .before .before .before .pre in let l = c .before .before .before .loop in (p .0, p .1, p .2, l .inv .0, omega arith, l .inv .2)
+advance-requires c κs =
+    let p = c .before .before .before .before .before .before .before .before .before .before .before .before .before .before .before .before .before .pre in
+    let l = c .before .before .before .before .loop in
+    (p .0, p .1, p .2, l .inv .0, omega (arith, p .5), l .inv .2, l .inv .3, l .inv .4, l .inv .5)
 
 add-next : tie.Need-add-next Inv-loop μ-loop
 add-next c = omega arith
@@ -31,15 +47,31 @@ loop-less c = omega arith
 
 loop-again : tie.Need-loop-again Inv-loop μ-loop
 loop-again c =
-    let l = c .before .before .before .before .loop in
-    let back : l .next + 1 - 1 ≡ l .next = omega arith in
-    (omega arith, omega arith, rw back (c .advance .ensures))
+    let l = c .before .before .before .before .before .before .before .before .before .before .before .loop in
+    let advance = c .before .before .before .before .before .before .advance in
+    let back : l .next + 1 - 1 ≡ l .next = omega arith in (
+      omega arith,
+      omega arith,
+      advance .kept .1 .1 .1 .1 .1 .0 ∙ l .inv .2,
+      advance .kept .1 .1 .1 .1 .1 .1 .0 ∙ l .inv .3,
+      advance .kept .1 .1 .1 .1 .1 .1 .1 .0 ∙ l .inv .4,
+      rw back (advance .ensures),
+    )
+
+same-length : tie.Need-same-length Inv-loop μ-loop
+same-length c = omega (arith, c .before .loop .inv .2, c .before .before .before .before .before .before .before .before .before .before .before .before .before .before .pre .6)
+
+same-length-2 : tie.Need-same-length-2 Inv-loop μ-loop
+same-length-2 c = omega (arith, c .before .loop .inv .3, c .before .before .before .before .before .before .before .before .before .before .before .before .before .before .pre .7)
+
+same-length-3 : tie.Need-same-length-3 Inv-loop μ-loop
+same-length-3 c = omega (arith, c .before .loop .inv .4, c .before .before .before .before .before .before .before .before .before .before .before .before .before .before .pre .8)
 
 returns : tie.Need-returns Inv-loop μ-loop
 returns c =
     let l = c .before .loop in
-    let done : l .next ≡ c .before .before .before .args .known = omega arith in
-    record { place = _; scale = _; former = _; placed = rw done at (l .inv .2) }
+    let done : l .next ≡ c .before .before .before .before .before .before .before .before .before .before .before .before .before .before .args .known = omega arith in
+    record { place = _; scale = _; placed = rw done at (l .inv .5) }
 
 pub locate-spec : {M : Type 1} → statement M
 locate-spec =
@@ -48,9 +80,13 @@ locate-spec =
     Inv-loop
     μ-loop
     unit-requires
+    unit-requires-2
     loop-holds
     advance-requires
     add-next
     loop-less
     loop-again
+    same-length
+    same-length-2
+    same-length-3
     returns)

@@ -1,41 +1,42 @@
 -- `block::locator::subtract_multiple` meets its contract. The loop's invariant is the promise at count i.
-use mathlib.Core.Path.{_≡_}
+use mathlib.Core.Path.{_≡_, refl}
 use Prim.Native.Nat.{_≤_, _-_, _+_}
 use native.Mathlib.Omega.{arith}
+use lib.ListN.{length, length-set}
 use Rattle.block.specs.Progress.{Multiple}
 use Rattle.block.proofs.Multiples.{multiple-none, multiple-more}
 use Rattle.block.proofs.locator.subtract_multiple.Statement.{statement}
 use Rattle.block.proofs.locator.subtract_multiple.Tie as tie
 
 abbrev Inv-loop : tie.InvT-loop
-Inv-loop q tables factor shift count source target₀ i₀ target i = (i ≤ count) × Multiple q factor shift i source target₀ target
+Inv-loop q products factor shift count source target₀ i₀ target i = (i ≤ count) × (length target ≡ length target₀) × Multiple q factor shift i source target₀ target
 
 abbrev μ-loop : tie.MeasureT-loop
-μ-loop q tables factor shift count source target₀ i₀ target i = count - i
+μ-loop q products factor shift count source target₀ i₀ target i = count - i
 
 loop-holds : tie.Need-loop-holds Inv-loop μ-loop
-loop-holds c = (omega arith, multiple-none _ _ _ _ _ (c .pre .4))
+loop-holds c = (omega arith, refl, multiple-none _ _ _ _ _ (c .before .before .pre .5))
 
 add-place : tie.Need-add-place Inv-loop μ-loop
 add-place c = omega arith
 
-element-copy-out-multiply : tie.Need-element-copy-out-multiply Inv-loop μ-loop
-element-copy-out-multiply c = omega arith
+shared-slice-read-multiply : tie.Need-shared-slice-read-multiply Inv-loop μ-loop
+shared-slice-read-multiply c = omega arith
 
 multiply-requires : tie.Need-multiply-requires Inv-loop μ-loop
-multiply-requires c κs = let p = c .before .before .before .pre in (p .0, p .1, p .2, p .3 .below (c .before .before .loop .i))
+multiply-requires c κs = let p = c .before .before .before .before .before .pre in (p .0, p .1, p .2, p .3 (c .before .before .loop .i))
 
-element-copy-out-subtract : tie.Need-element-copy-out-subtract Inv-loop μ-loop
-element-copy-out-subtract c = omega arith
+slice-read-subtract : tie.Need-slice-read-subtract Inv-loop μ-loop
+slice-read-subtract c = omega (arith, c .before .before .before .before .loop .inv .1)
 
 subtract-requires : tie.Need-subtract-requires Inv-loop μ-loop
 subtract-requires c κs =
-    let p = c .before .before .before .before .before .pre in
+    let p = c .before .before .before .before .before .before .before .pre in
     let l = c .before .before .before .before .loop in
-    (p .0, l .inv .1 .area .below (c .before .before .before .before .before .args .shift + l .i), c .before .multiply .ensures .below)
+    (p .0, l .inv .2 .below (c .before .before .before .before .before .before .before .args .shift + l .i), c .before .multiply .ensures .below)
 
-element-write-target : tie.Need-element-write-target Inv-loop μ-loop
-element-write-target c = omega arith
+slice-write-target : tie.Need-slice-write-target Inv-loop μ-loop
+slice-write-target c = omega (arith, c .before .before .before .before .before .loop .inv .1)
 
 add-i : tie.Need-add-i Inv-loop μ-loop
 add-i c = omega arith
@@ -46,13 +47,16 @@ loop-less c = omega arith
 loop-again : tie.Need-loop-again Inv-loop μ-loop
 loop-again c =
     let l = c .before .before .before .before .before .loop in
-    (omega arith, multiple-more _ _ _ _ _ (l .i) (l .target) _ _ (l .inv .1) (omega arith) (c .before .before .multiply .ensures) (c .subtract .ensures))
+    (omega arith, simp length-set (l .inv .1), multiple-more _ _ _ _ _ (l .i) (l .target) _ _ (l .inv .2) (omega (arith, l .inv .1)) (c .before .before .multiply .ensures) (c .subtract .ensures))
+
+same-length : tie.Need-same-length Inv-loop μ-loop
+same-length c = c .before .loop .inv .1
 
 returns : tie.Need-returns Inv-loop μ-loop
 returns c =
     let l = c .before .loop in
-    let done : l .i ≡ c .before .before .args .count = omega arith in
-    rw done at (l .inv .1)
+    let done : l .i ≡ c .before .before .before .before .args .count = omega arith in
+    rw done at (l .inv .2)
 
 pub subtract-multiple-spec : {M : Type 1} → statement M
 subtract-multiple-spec =
@@ -62,12 +66,13 @@ subtract-multiple-spec =
     μ-loop
     loop-holds
     add-place
-    element-copy-out-multiply
+    shared-slice-read-multiply
     multiply-requires
-    element-copy-out-subtract
+    slice-read-subtract
     subtract-requires
-    element-write-target
+    slice-write-target
     add-i
     loop-less
     loop-again
+    same-length
     returns)

@@ -12,32 +12,32 @@ use Rattle.block.proofs.locator.tail.Statement.{statement}
 use Rattle.block.proofs.locator.tail.Tie as tie
 
 abbrev Inv-loop : tie.InvT-loop
-Inv-loop q tables length locator series j sum₀ a₀ sum a = (a ≤ length) × Is q sum (tail (opsOf q) a (at locator) (at series) j)
+Inv-loop q products degree locator series j sum₀ a₀ sum a = (a ≤ degree) × Is q sum (tail (opsOf q) a (at locator) (at series) j)
 
 abbrev μ-loop : tie.MeasureT-loop
-μ-loop q tables length locator series j sum₀ a₀ sum a = length - a
+μ-loop q products degree locator series j sum₀ a₀ sum a = degree - a
 
 loop-holds : tie.Need-loop-holds Inv-loop μ-loop
 unfolding tail
-loop-holds c = (search needs, sum-none _ _ (c .pre .0))
+loop-holds c = (search needs, sum-none _ _ (c .before .before .pre .0))
 
 add-next : tie.Need-add-next Inv-loop μ-loop
 add-next c = omega arith
 
-element-copy-out-add-product : tie.Need-element-copy-out-add-product Inv-loop μ-loop
-element-copy-out-add-product c = omega arith
+shared-slice-read-add-product : tie.Need-shared-slice-read-add-product Inv-loop μ-loop
+shared-slice-read-add-product c = omega arith
 
 sub-add-product : tie.Need-sub-add-product Inv-loop μ-loop
 sub-add-product c = omega arith
 
-element-copy-out-add-product-2 : tie.Need-element-copy-out-add-product-2 Inv-loop μ-loop
-element-copy-out-add-product-2 c = omega arith
+shared-slice-read-add-product-2 : tie.Need-shared-slice-read-add-product-2 Inv-loop μ-loop
+shared-slice-read-add-product-2 c = omega arith
 
 add-product-requires : tie.Need-add-product-requires Inv-loop μ-loop
 add-product-requires c κs =
-    let p = c .before .before .before .before .pre in
+    let p = c .before .before .before .before .before .before .pre in
     let l = c .before .before .before .loop in
-    (p .0, p .1, l .inv .1 .below, p .2 .below (l .a + 1), p .3 .below (c .before .before .before .before .args .j - (l .a + 1)))
+    (p .0, p .1, l .inv .1 .below, p .2 (l .a + 1), p .4 (c .before .before .before .before .before .before .args .j - (l .a + 1)))
 
 loop-less : tie.Need-loop-less Inv-loop μ-loop
 loop-less c = omega arith
@@ -51,7 +51,7 @@ loop-again c =
 returns : tie.Need-returns Inv-loop μ-loop
 returns c =
     let l = c .before .loop in
-    let done : l .a ≡ c .before .before .args .length = omega arith in
+    let done : l .a ≡ c .before .before .before .before .args .degree = omega arith in
     rw done at (l .inv .1)
 
 pub tail-spec : {M : Type 1} → statement M
@@ -62,9 +62,9 @@ tail-spec =
     μ-loop
     loop-holds
     add-next
-    element-copy-out-add-product
+    shared-slice-read-add-product
     sub-add-product
-    element-copy-out-add-product-2
+    shared-slice-read-add-product-2
     add-product-requires
     loop-less
     loop-again

@@ -1,19 +1,36 @@
 -- `block::locator::unit` meets its contract.
-use mathlib.Core.Path.{refl, _∙_}
+use mathlib.Core.Path.{_≡_, sym, subst, _∙_}
+use mathlib.Core.List.{List}
+use Prim.Native.Nat.{ℕ, _<_}
 use native.Mathlib.Omega.{arith}
-use lib.ListN.{replicate}
-use lib.Seq.{getD-set-other}
+use lib.ListN.{set, replicate, length-replicate}
+use lib.Seq.{getD-set-same, getD-set-other}
 use Rattle.code.proofs.Lists.{getD-zeros}
-use Rattle.block.specs.Area.{capacity}
+use Rattle.block.specs.Progress.{Unit}
 use borrow.Author.Needs.{needs}
 use Rattle.block.proofs.locator.unit.Statement.{statement}
 use Rattle.block.proofs.locator.unit.Tie as tie
 
-array-write-series : tie.Need-array-write-series
-array-write-series c = search needs
+-- Zeros with a 1 in the first place.
+unit-of : (w : ℕ) (l : List ℕ) → 0 < w → l ≡ replicate w 0 → Unit (set l 0 1)
+unit-of w l h e =
+    subst (λ (t : List ℕ). Unit (set t 0 1)) (sym e)
+    (record {
+      first = getD-set-same (replicate w 0) 0 1 0 (subst (λ (t : ℕ). 0 < t) (sym (length-replicate w 0)) h);
+      rest = λ i l. getD-set-other (replicate w 0) 0 i 1 0 (omega arith) ∙ getD-zeros w i;
+    })
+
+clear-requires : tie.Need-clear-requires
+clear-requires c κs = search needs
+
+slice-write-series : tie.Need-slice-write-series
+slice-write-series c = search needs
+
+same-length : tie.Need-same-length
+same-length c = search needs
 
 returns : tie.Need-returns
-returns c = record { size = refl; first = refl; rest = λ i l. getD-set-other (replicate capacity 0) 0 i 1 0 (omega arith) ∙ getD-zeros capacity i }
+returns c = unit-of _ _ (c .before .before .before .before .before .pre) (c .before .before .clear .ensures)
 
 pub unit-spec : {M : Type 1} → statement M
-unit-spec = tie.close (tie.spec array-write-series returns)
+unit-spec = tie.close (tie.spec clear-requires slice-write-series same-length returns)

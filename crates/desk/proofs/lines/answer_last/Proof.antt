@@ -1,5 +1,4 @@
 -- `desk::lines::answer_last`: an empty line is none.
-use Prim.Native.Nat.{_-_}
 use native.Mathlib.Omega.{arith}
 use borrow.Author.Needs.{needs}
 use denote.Ref.{now}
@@ -9,8 +8,8 @@ use Rattle.desk.proofs.lines.answer_last.Tie as tie
 
 returns : tie.Need-returns
 returns c =
-    let a = c .before .before .before .args in
-    (omega arith, λ begun H. last-none begun (now (a .line)) (a .held) (now (a .output)) (c .before .before .before .pre .1 .characters) (c .if1 .taken) H)
+    let a = c .before .before .before .before .before .before .args in
+    (omega arith, λ begun H. last-none begun (now (a .line)) (a .held) (now (a .output)) (c .before .before .before .before .before .before .pre .1 .characters) (c .if1 .taken) H)
 
 sub-put : tie.Need-sub-put
 sub-put c = search needs
@@ -22,16 +21,38 @@ part-put-end : tie.Need-part-put-end
 part-put-end c = search needs
 
 put-requires : tie.Need-put-requires
-put-requires c κs = search needs
+put-requires c κs = (c .before .before .before .before .before .before .before .before .before .before .before .pre .1 .answer, c .before .before .before .before .before .before .before .before .before .before .before .pre .1 .frame)
 
 same-length : tie.Need-same-length
 same-length c = search needs
 
+same-length-2 : tie.Need-same-length-2
+same-length-2 c = search needs
+
+same-length-3 : tie.Need-same-length-3
+same-length-3 c = search needs
+
+same-length-4 : tie.Need-same-length-4
+same-length-4 c = search needs
+
 returns-2 : tie.Need-returns-2
 returns-2 c =
-    let a = c .before .before .before .before .before .before .before .before .args in
-    let done = c .before .before .put in
-    (done .ensures .room, λ begun H. last-answered begun (now (a .line)) (a .held) (now (a .output)) (done .last .1 .0) (done .result) (c .before .before .before .before .before .before .before .before .pre .1 .characters) (c .before .before .before .before .before .if1 .left) H (done .ensures))
+    let entry = c .before .before .before .before .before .before .before .before .before .before .before .before .before .before .before .before .before .before .before .before in
+    let a = entry .args in
+    let done = c .before .before .before .before .before .before .before .before .put in
+    (done .ensures .room, λ begun H. last-answered begun (now (a .line)) (a .held) (now (a .output)) (done .last .1 .1 .1 .1 .0) (done .result) (entry .pre .1 .characters) (c .before .before .before .before .before .before .before .before .before .before .before .before .before .before .if1 .left) H (done .ensures))
 
 pub answer-last-spec : {M : Type 1} → statement M
-answer-last-spec = tie.close (tie.spec returns sub-put part-put-start part-put-end put-requires same-length returns-2)
+answer-last-spec =
+    tie.close
+    (tie.spec
+    returns
+    sub-put
+    part-put-start
+    part-put-end
+    put-requires
+    same-length
+    same-length-2
+    same-length-3
+    same-length-4
+    returns-2)

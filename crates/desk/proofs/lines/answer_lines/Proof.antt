@@ -11,16 +11,20 @@ use Rattle.desk.proofs.lines.answer_lines.Statement.{statement}
 use Rattle.desk.proofs.lines.answer_lines.Tie as tie
 
 abbrev Inv-loop : tie.InvT-loop
-Inv-loop buffer line₀ held output₀ progress₀ line output progress =
-    (length line ≡ length line₀) × (length output ≡ length output₀) × Within (length buffer) (length line₀) (length output₀) progress
+Inv-loop buffer line₀ held reception₀ message₀ transmission₀ output₀ progress₀ line reception message transmission output progress =
+    (length line ≡ length line₀) × (length reception ≡ length reception₀) × (length message ≡ length message₀) × (length transmission ≡ length transmission₀)
+    × (length output ≡ length output₀) × Within (length buffer) (length line₀) (length output₀) progress
     × (0 < progress .filled → 0 < progress .from) × ((begun : List ℕ) → Holds begun line₀ held → Reached begun (take (progress .from) buffer) line (progress .held) output (progress .filled))
 
 abbrev μ-loop : tie.MeasureT-loop
-μ-loop buffer line₀ held output₀ progress₀ line output progress = length buffer - progress .from
+μ-loop buffer line₀ held reception₀ message₀ transmission₀ output₀ progress₀ line reception message transmission output progress = length buffer - progress .from
 
 loop-holds : tie.Need-loop-holds Inv-loop μ-loop
 loop-holds c =
-    let a = c .before .before .before .args in (
+    let a = c .before .before .before .before .before .before .args in (
+      omega arith,
+      omega arith,
+      omega arith,
       omega arith,
       omega arith,
       record { place = omega arith; characters = omega arith; waiting = omega arith },
@@ -37,40 +41,69 @@ same-length c = omega arith
 same-length-2 : tie.Need-same-length-2 Inv-loop μ-loop
 same-length-2 c = omega arith
 
--- The output is full, so something was answered.
-returns : tie.Need-returns Inv-loop μ-loop
-returns c =
-    let l = c .before .before .before .before .loop in
-    record { within = l .inv .2; on = λ h. l .inv .3 (omega arith); reached = l .inv .4 }
-
-step-requires : tie.Need-step-requires Inv-loop μ-loop
-step-requires c κs =
-    (record { place = omega arith; characters = omega arith; waiting = omega arith }, record { characters = omega arith; answer = omega arith }, omega arith, omega arith)
-
-loop-less : tie.Need-loop-less Inv-loop μ-loop
-loop-less c = omega arith
-
-loop-again : tie.Need-loop-again Inv-loop μ-loop
-loop-again c =
-    let l = c .before .before .before .before .before .before .before .before .before .before .before .loop in
-    let done = c .before .before .before .before .step in (
-      omega arith,
-      omega arith,
-      record { place = omega arith; characters = omega arith; waiting = omega arith },
-      λ h. omega arith,
-      λ begun H. done .ensures .reached begun (l .inv .4 begun H),
-    )
-
 same-length-3 : tie.Need-same-length-3 Inv-loop μ-loop
 same-length-3 c = omega arith
 
 same-length-4 : tie.Need-same-length-4 Inv-loop μ-loop
 same-length-4 c = omega arith
 
+same-length-5 : tie.Need-same-length-5 Inv-loop μ-loop
+same-length-5 c = omega arith
+
+-- The output is full, so something was answered.
+returns : tie.Need-returns Inv-loop μ-loop
+returns c =
+    let l = c .before .before .before .before .loop in
+    record { within = l .inv .5; on = λ h. l .inv .6 (omega arith); reached = l .inv .7 }
+
+step-requires : tie.Need-step-requires Inv-loop μ-loop
+step-requires c κs = (
+  record { place = omega arith; characters = omega arith; waiting = omega arith },
+  record {
+    characters = omega arith;
+    frame = record { reception = omega arith; message = omega arith; transmission = omega arith };
+    answer = omega arith;
+  },
+  omega arith,
+  omega arith,
+)
+
+loop-less : tie.Need-loop-less Inv-loop μ-loop
+loop-less c = omega arith
+
+loop-again : tie.Need-loop-again Inv-loop μ-loop
+loop-again c =
+    let l = c .before .before .before .before .before .before .before .before .before .before .before .before .before .before .before .before .before .before .before .before .loop in
+    let done = c .before .before .before .before .before .before .before .before .before .before .step in (
+      omega arith,
+      omega arith,
+      omega arith,
+      omega arith,
+      omega arith,
+      record { place = omega arith; characters = omega arith; waiting = omega arith },
+      λ h. omega arith,
+      λ begun H. done .ensures .reached begun (l .inv .7 begun H),
+    )
+
+same-length-6 : tie.Need-same-length-6 Inv-loop μ-loop
+same-length-6 c = omega arith
+
+same-length-7 : tie.Need-same-length-7 Inv-loop μ-loop
+same-length-7 c = omega arith
+
+same-length-8 : tie.Need-same-length-8 Inv-loop μ-loop
+same-length-8 c = omega arith
+
+same-length-9 : tie.Need-same-length-9 Inv-loop μ-loop
+same-length-9 c = omega arith
+
+same-length-10 : tie.Need-same-length-10 Inv-loop μ-loop
+same-length-10 c = omega arith
+
 returns-2 : tie.Need-returns-2 Inv-loop μ-loop
 returns-2 c =
     let l = c .before .before .loop in
-    record { within = l .inv .2; on = λ h. omega arith; reached = l .inv .4 }
+    record { within = l .inv .5; on = λ h. omega arith; reached = l .inv .7 }
 
 pub answer-lines-spec : {M : Type 1} → statement M
 answer-lines-spec =
@@ -82,10 +115,16 @@ answer-lines-spec =
     sub-if2
     same-length
     same-length-2
+    same-length-3
+    same-length-4
+    same-length-5
     returns
     step-requires
     loop-less
     loop-again
-    same-length-3
-    same-length-4
+    same-length-6
+    same-length-7
+    same-length-8
+    same-length-9
+    same-length-10
     returns-2)

@@ -1,11 +1,12 @@
--- `desk::lines::put`: an answer has at most 1,546 characters, and its newline comes behind it.
+-- `desk::lines::put`: an answer has room, and its newline comes behind it.
 use Prim.Native.Nat.{_≤_, _-_}
 use native.Mathlib.Omega.{arith}
 use borrow.Author.Needs.{needs}
 use denote.Ref.{now}
 use lib.ListN.{length, drop, length-drop}
 use lib.Seq.{length-take-le}
-use Rattle.line.proofs.Frames.{answered-most}
+use Rattle.line.specs.Answering.{mostAnswer}
+use Rattle.line.proofs.Frames.{answer-most, answered-shown}
 use Rattle.desk.proofs.Texts.{put-behind}
 use Rattle.desk.proofs.lines.put.Statement.{statement}
 use Rattle.desk.proofs.lines.put.Tie as tie
@@ -22,28 +23,38 @@ part-answer-line-end c = search needs
 answer-line-requires : tie.Need-answer-line-requires
 answer-line-requires c κs = search needs
 
-most : (c : tie.After-answer-line) → c .answer-line .result ≤ 1546
-most c = answered-most _ _ _ _ (c .answer-line .ensures)
+most : (c : tie.After-answer-line) → c .answer-line .result ≤ mostAnswer
+most c = answer-most _ _ _ _ (answered-shown _ _ _ _ _ _ (c .before .before .before .before .before .before .before .before .before .before .pre .1) (c .answer-line .ensures))
 
 add-end : tie.Need-add-end
-add-end c = omega (arith, most (c .before .before), c .before .before .before .before .before .before .pre)
+add-end c = omega (arith, most (c .before .before .before .before .before .before .before .before), c .before .before .before .before .before .before .before .before .before .before .before .before .before .before .before .before .before .before .pre .0)
 
 slice-write-output : tie.Need-slice-write-output
-slice-write-output c = omega (arith, most (c .before .before), c .before .before .before .before .before .before .pre)
+slice-write-output c = omega (arith, most (c .before .before .before .before .before .before .before .before), c .before .before .before .before .before .before .before .before .before .before .before .before .before .before .before .before .before .before .pre .0)
 
 add-result : tie.Need-add-result
-add-result c = omega (arith, most (c .before .before), c .before .before .before .before .before .before .pre)
+add-result c = omega (arith, most (c .before .before .before .before .before .before .before .before), c .before .before .before .before .before .before .before .before .before .before .before .before .before .before .before .before .before .before .pre .0)
 
 same-length : tie.Need-same-length
 same-length c = search needs
 
+same-length-2 : tie.Need-same-length-2
+same-length-2 c = search needs
+
+same-length-3 : tie.Need-same-length-3
+same-length-3 c = search needs
+
+same-length-4 : tie.Need-same-length-4
+same-length-4 c = search needs
+
 returns : tie.Need-returns
 returns c =
-    let entry = c .before .before .before .before .before .before in
+    let entry = c .before .before .before .before .before .before .before .before .before .before .before .before .before .before .before .before .before .before in
     let a = entry .args in
-    put-behind (now (a .line)) (now (a .output)) _ (c .before .before .answer-line .last .1 .0) (a .filled) (length (now (a .output)) - a .filled) (c .before .before .answer-line .result) (entry .pre)
-    (length-take-le (length (now (a .output)) - a .filled) (drop (a .filled) (now (a .output))) (omega (arith, length-drop (a .filled) (now (a .output))))) (c .before .before .answer-line .ensures)
-    (omega (arith, most (c .before .before), entry .pre))
+    let done = c .before .before .before .before .before .before .before .before .answer-line in
+    put-behind (now (a .line)) (now (a .output)) _ (done .last .1 .1 .1 .1 .0) (a .filled) (length (now (a .output)) - a .filled) (done .result) (entry .pre .0)
+    (length-take-le (length (now (a .output)) - a .filled) (drop (a .filled) (now (a .output))) (omega (arith, length-drop (a .filled) (now (a .output))))) (answered-shown _ _ _ _ _ _ (entry .pre .1) (done .ensures))
+    (omega (arith, most (c .before .before .before .before .before .before .before .before), entry .pre .0))
 
 pub put-spec : {M : Type 1} → statement M
 put-spec =
@@ -57,4 +68,7 @@ put-spec =
     slice-write-output
     add-result
     same-length
+    same-length-2
+    same-length-3
+    same-length-4
     returns)

@@ -1,5 +1,4 @@
 -- `desk::lines::step`: up to the next newline, or to the end of the buffer.
-use Prim.Native.Nat.{_-_}
 use native.Mathlib.Omega.{arith}
 use borrow.Author.Needs.{needs}
 use denote.Ref.{now}
@@ -27,7 +26,7 @@ same-length c = search needs
 
 returns : tie.Need-returns
 returns c =
-    let a = c .before .before .before .before .before .before .before .before .before .before .args in
+    let a = c .before .before .before .before .before .before .before .before .before .before .before .before .before .args in
     let found = c .before .before .before .before .before .before .find in
     let kept = c .before .before .before .keep in
     record {
@@ -47,10 +46,10 @@ part-put-end : tie.Need-part-put-end
 part-put-end c = search needs
 
 put-requires : tie.Need-put-requires
-put-requires c κs = search needs
+put-requires c κs = (omega (arith, c .before .before .before .before .before .before .before .before .before .before .before .before .before .before .before .before .before .before .before .pre .3), c .before .before .before .before .before .before .before .before .before .before .before .before .before .before .before .before .before .before .before .pre .1 .frame)
 
-add-t9 : tie.Need-add-t9
-add-t9 c = search needs
+add-t12 : tie.Need-add-t12
+add-t12 c = search needs
 
 same-length-2 : tie.Need-same-length-2
 same-length-2 c = search needs
@@ -58,17 +57,27 @@ same-length-2 c = search needs
 same-length-3 : tie.Need-same-length-3
 same-length-3 c = search needs
 
+same-length-4 : tie.Need-same-length-4
+same-length-4 c = search needs
+
+same-length-5 : tie.Need-same-length-5
+same-length-5 c = search needs
+
+same-length-6 : tie.Need-same-length-6
+same-length-6 c = search needs
+
 returns-2 : tie.Need-returns-2
 returns-2 c =
-    let a = c .before .before .before .before .before .before .before .before .before .before .before .before .before .before .before .before .args in
-    let found = c .before .before .before .before .before .before .before .before .before .before .before .before .find in
-    let kept = c .before .before .before .before .before .before .before .before .before .keep in
-    let put = c .before .before .put in
+    let entry = c .before .before .before .before .before .before .before .before .before .before .before .before .before .before .before .before .before .before .before .before .before .before .before .before .before .before .before .before in
+    let a = entry .args in
+    let found = c .before .before .before .before .before .before .before .before .before .before .before .before .before .before .before .before .before .before .before .before .before .find in
+    let kept = c .before .before .before .before .before .before .before .before .before .before .before .before .before .before .before .before .before .before .keep in
+    let put = c .before .before .before .before .before .before .before .before .put in
     record {
-      within = record { place = omega arith; characters = omega arith; waiting = put .ensures .room };
+      within = record { place = omega (arith, c .before .before .before .before .before .before .before .before .before .before .before .before .before .before .before .if1 .left); characters = omega arith; waiting = put .ensures .room };
       on = omega arith;
       reached = λ begun R. reached-ended begun (now (a .buffer)) (a .progress .from) (now (a .line)) (a .progress .held) (now (a .output)) (a .progress .filled) R
-          (found .result) (found .ensures .0) (kept .last .1 .0) (kept .result) (kept .ensures .1 _ (R .kept)) (put .last .1 .0) (put .result) (omega arith) (omega arith) (put .ensures);
+          (found .result) (found .ensures .0) (kept .last .1 .0) (kept .result) (kept .ensures .1 _ (R .kept)) (put .last .1 .1 .1 .1 .0) (put .result) (omega arith) (omega (arith, c .before .before .before .before .before .before .before .before .before .before .before .before .before .before .before .if1 .left)) (put .ensures);
     }
 
 pub step-spec : {M : Type 1} → statement M
@@ -86,7 +95,10 @@ step-spec =
     part-put-start
     part-put-end
     put-requires
-    add-t9
+    add-t12
     same-length-2
     same-length-3
+    same-length-4
+    same-length-5
+    same-length-6
     returns-2)

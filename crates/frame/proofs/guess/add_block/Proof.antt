@@ -6,6 +6,7 @@ use denote.Ref.{now}
 use lib.ListN.{getD}
 use Rattle.field.proofs.Symbols.{symbol-below}
 use Rattle.code.proofs.Numbers.{positive}
+use Rattle.code.proofs.Settings.{sizes}
 use Rattle.frame.proofs.Guesses.{Adding, adding-none, adding-zero, adding-more, adding-all, added-past, revised-lengths}
 use Rattle.frame.proofs.guess.add_block.Statement.{statement}
 use Rattle.frame.proofs.guess.add_block.Tie as tie
@@ -19,31 +20,31 @@ abbrev μ-loop : tie.MeasureT-loop
 
 returns : tie.Need-returns Inv-loop μ-loop
 returns c =
-    let entry = c .before .before .before .before in
+    let entry = c .before .before .before .before .before in
     let a = entry .args in
     added-past (a .p) (a .blocks) (a .i) (λ r. getD (now (a .information)) (a .from + r) 0) (now (a .message)) (now (a .left)) (entry .pre .3) (c .if1 .taken)
 
 loop-holds : tie.Need-loop-holds Inv-loop μ-loop
 loop-holds c =
-    let entry = c .before .before .before .before in
+    let entry = c .before .before .before .before .before in
     let a = entry .args in
     (omega arith, adding-none (a .p) (a .blocks) (a .i) (λ r. getD (now (a .information)) (a .from + r) 0) (now (a .message)) (now (a .left)) (entry .pre .3))
 
 add-v : tie.Need-add-v Inv-loop μ-loop
-add-v c = omega (arith, c .before .before .before .before .before .before .pre .2)
+add-v c = omega (arith, c .before .before .before .before .before .before .before .pre .2)
 
 shared-slice-read-v : tie.Need-shared-slice-read-v Inv-loop μ-loop
-shared-slice-read-v c = omega (arith, c .before .before .before .before .before .before .before .pre .2)
+shared-slice-read-v c = omega (arith, c .before .before .before .before .before .before .before .before .pre .2)
 
 add-next : tie.Need-add-next Inv-loop μ-loop
-add-next c = omega (arith, c .before .before .before .before .before .before .before .pre .0 .small .information)
+add-next c = omega (arith, sizes (c .before .before .before .before .before .before .before .before .args .p) (c .before .before .before .before .before .before .before .before .pre .0 .sound) .information-most)
 
 loop-less : tie.Need-loop-less Inv-loop μ-loop
 loop-less c = omega arith
 
 loop-again : tie.Need-loop-again Inv-loop μ-loop
 loop-again c =
-    let entry = c .before .before .before .before .before .before .before .before in
+    let entry = c .before .before .before .before .before .before .before .before .before in
     let a = entry .args in
     let l = c .before .before .before .loop in (
       omega arith,
@@ -53,7 +54,7 @@ loop-again c =
 
 adjust-requires : tie.Need-adjust-requires Inv-loop μ-loop
 adjust-requires c κs =
-    let entry = c .before .before .before .before .before .before .before .before .before .before in
+    let entry = c .before .before .before .before .before .before .before .before .before .before .before in
     let a = entry .args in
     let l = c .before .before .before .before .before .loop in (
       entry .pre .0,
@@ -68,7 +69,7 @@ loop-less-2 c = omega arith
 
 loop-again-2 : tie.Need-loop-again-2 Inv-loop μ-loop
 loop-again-2 c =
-    let entry = c .before .before .before .before .before .before .before .before .before .before .before .before .before .before .before in
+    let entry = c .before .before .before .before .before .before .before .before .before .before .before .before .before .before .before .before in
     let a = entry .args in
     let l = c .before .before .before .before .before .before .before .before .before .before .loop in
     let some : a .i < a .blocks = omega (arith, c .before .before .before .before .before .before .before .before .before .before .before .if1 .left) in (
@@ -80,17 +81,17 @@ loop-again-2 c =
 
 same-length : tie.Need-same-length Inv-loop μ-loop
 same-length c =
-    let entry = c .before .before .before .before .before .before in
+    let entry = c .before .before .before .before .before .before .before in
     revised-lengths (entry .args .p) (entry .args .blocks) (now (entry .args .message)) (now (entry .args .left)) (c .before .loop .message) (c .before .loop .left) (entry .pre .3) (c .before .loop .inv .1 .revised .areas) .0
 
 same-length-2 : tie.Need-same-length-2 Inv-loop μ-loop
 same-length-2 c =
-    let entry = c .before .before .before .before .before .before in
+    let entry = c .before .before .before .before .before .before .before in
     revised-lengths (entry .args .p) (entry .args .blocks) (now (entry .args .message)) (now (entry .args .left)) (c .before .loop .message) (c .before .loop .left) (entry .pre .3) (c .before .loop .inv .1 .revised .areas) .1
 
 returns-2 : tie.Need-returns-2 Inv-loop μ-loop
 returns-2 c =
-    let entry = c .before .before .before .before .before .before in
+    let entry = c .before .before .before .before .before .before .before in
     let a = entry .args in
     let l = c .before .loop in
     adding-all (a .p) (a .blocks) (a .i) (λ r. getD (now (a .information)) (a .from + r) 0) (now (a .message)) (now (a .left)) (l .next) (l .message) (l .left) (omega arith) (l .inv .1)

@@ -5,6 +5,7 @@ use native.Mathlib.Nat.{mul-le-mul, mul-le-mul-right, zero-add}
 use native.Mathlib.Omega.{arith}
 use denote.Ref.{now}
 use lib.ListN.{getD}
+use Rattle.code.proofs.Settings.{sizes}
 use Rattle.frame.specs.Frame.{Revised, Added}
 use Rattle.frame.proofs.Guesses.{revised-none, revised-then, revised-lengths, added-then, blocks-few}
 use Rattle.frame.proofs.guess.add_found.Statement.{statement}
@@ -18,42 +19,42 @@ abbrev μ-loop : tie.MeasureT-loop
 
 add-block-requires : tie.Need-add-block-requires Inv-loop μ-loop
 add-block-requires c κs =
-    let entry = c .before .before .before .before .before in
+    let entry = c .before .before .before .before .before .before in
     let one : 1 ≤ entry .args .p .m + 1 = omega arith in
     (entry .pre .0, entry .pre .1, omega (arith, mul-le-mul-right (entry .args .p .k) one, entry .pre .3), entry .pre .5)
 
 loop-holds : tie.Need-loop-holds Inv-loop μ-loop
 loop-holds c =
-    let a = c .before .before .before .before .before .before .before .before .before .before .args in
+    let a = c .before .before .before .before .before .before .before .before .before .before .before .args in
     (omega arith, revised-none (a .p) (a .blocks) (a .j + 1) (c .before .before .before .before .add-block .last .1 .1 .1 .1 .1 .1 .1 .0) (c .before .before .before .before .add-block .last .1 .1 .1 .1 .1 .1 .1 .1 .0) (c .before .before .before .before .add-block .ensures .revised .areas))
 
 add-add-block : tie.Need-add-add-block Inv-loop μ-loop
 add-add-block c =
-    let entry = c .before .before .before .before .before .before .before .before .before .before .before .before in
+    let entry = c .before .before .before .before .before .before .before .before .before .before .before .before .before in
     let a = entry .args in
     omega (arith, blocks-few (a .p) (entry .pre .0 .sound) (a .blocks) (now (a .message)) (now (a .left)) (entry .pre .5), entry .pre .2, entry .pre .4)
 
 mul-add-block : tie.Need-mul-add-block Inv-loop μ-loop
 mul-add-block c =
-    let entry = c .before .before .before .before .before .before .before .before .before .before .before .before in
-    let few : c .before .loop .a ≤ 3 = omega (arith, entry .pre .2, entry .pre .0 .small .memory) in
-    omega (arith, mul-le-mul few (entry .pre .0 .small .information))
+    let entry = c .before .before .before .before .before .before .before .before .before .before .before .before .before in
+    let few : c .before .loop .a ≤ 256 = omega (arith, entry .pre .2, sizes (entry .args .p) (entry .pre .0 .sound) .memory-most) in
+    omega (arith, mul-le-mul few (sizes (entry .args .p) (entry .pre .0 .sound) .information-most))
 
 add-block-requires-2 : tie.Need-add-block-requires-2 Inv-loop μ-loop
 add-block-requires-2 c κs =
-    let entry = c .before .before .before .before .before .before .before .before .before .before .before .before .before .before in
+    let entry = c .before .before .before .before .before .before .before .before .before .before .before .before .before .before .before in
     let top : c .before .before .before .loop .a + 1 ≤ entry .args .p .m + 1 = omega (arith, entry .pre .2) in
     (entry .pre .0, entry .pre .1, omega (arith, mul-le-mul-right (entry .args .p .k) top, entry .pre .3), c .before .before .before .loop .inv .1 .areas)
 
 add-a : tie.Need-add-a Inv-loop μ-loop
-add-a c = omega (arith, c .before .before .before .before .before .before .before .before .before .before .before .before .before .before .before .before .before .before .before .pre .2, c .before .before .before .before .before .before .before .before .before .before .before .before .before .before .before .before .before .before .before .pre .0 .small .memory)
+add-a c = omega (arith, c .before .before .before .before .before .before .before .before .before .before .before .before .before .before .before .before .before .before .before .before .pre .2, sizes (c .before .before .before .before .before .before .before .before .before .before .before .before .before .before .before .before .before .before .before .before .args .p) (c .before .before .before .before .before .before .before .before .before .before .before .before .before .before .before .before .before .before .before .before .pre .0 .sound) .memory-most)
 
 loop-less : tie.Need-loop-less Inv-loop μ-loop
 loop-less c = omega arith
 
 loop-again : tie.Need-loop-again Inv-loop μ-loop
 loop-again c =
-    let a = c .before .before .before .before .before .before .before .before .before .before .before .before .before .before .before .before .before .before .before .args in
+    let a = c .before .before .before .before .before .before .before .before .before .before .before .before .before .before .before .before .before .before .before .before .args in
     let l = c .before .before .before .before .before .before .before .before .loop in (
       omega arith,
       revised-then (a .p) (a .blocks) (a .j + 1) (a .j + l .a) (c .before .before .before .before .before .before .before .before .before .before .before .before .before .add-block .last .1 .1 .1 .1 .1 .1 .1 .0) (c .before .before .before .before .before .before .before .before .before .before .before .before .before .add-block .last .1 .1 .1 .1 .1 .1 .1 .1 .0) (l .message) (l .left) (c .before .before .before .before .add-block2 .last .1 .1 .1 .1 .1 .1 .1 .0) (c .before .before .before .before .add-block2 .last .1 .1 .1 .1 .1 .1 .1 .1 .0)
@@ -62,17 +63,17 @@ loop-again c =
 
 same-length : tie.Need-same-length Inv-loop μ-loop
 same-length c =
-    let entry = c .before .before .before .before .before .before .before .before .before .before .before .before in
+    let entry = c .before .before .before .before .before .before .before .before .before .before .before .before .before in
     revised-lengths (entry .args .p) (entry .args .blocks) (now (entry .args .message)) (now (entry .args .left)) (c .before .loop .message) (c .before .loop .left) (entry .pre .5) (c .before .loop .inv .1 .areas) .0
 
 same-length-2 : tie.Need-same-length-2 Inv-loop μ-loop
 same-length-2 c =
-    let entry = c .before .before .before .before .before .before .before .before .before .before .before .before in
+    let entry = c .before .before .before .before .before .before .before .before .before .before .before .before .before in
     revised-lengths (entry .args .p) (entry .args .blocks) (now (entry .args .message)) (now (entry .args .left)) (c .before .loop .message) (c .before .loop .left) (entry .pre .5) (c .before .loop .inv .1 .areas) .1
 
 returns : tie.Need-returns Inv-loop μ-loop
 returns c =
-    let a = c .before .before .before .before .before .before .before .before .before .before .before .before .args in
+    let a = c .before .before .before .before .before .before .before .before .before .before .before .before .before .args in
     let from-start = fun-ext (λ (r : ℕ). ap (λ (t : ℕ). getD (now (a .information)) t 0) (zero-add r)) in
     added-then (a .p) (a .blocks) (a .j) (λ r. getD (now (a .information)) r 0) (now (a .message)) (now (a .left)) (a .j + 1)
     (c .before .before .before .before .before .before .add-block .last .1 .1 .1 .1 .1 .1 .1 .0) (c .before .before .before .before .before .before .add-block .last .1 .1 .1 .1 .1 .1 .1 .1 .0) (c .before .loop .message) (c .before .loop .left) (omega arith)

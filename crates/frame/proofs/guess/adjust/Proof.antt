@@ -5,6 +5,7 @@ use native.Mathlib.Omega.{arith}
 use borrow.Author.Needs.{needs}
 use denote.Ref.{now}
 use lib.ListN.{length}
+use Rattle.code.proofs.Settings.{sizes}
 use Rattle.field.specs.Fields.{opsOf}
 use Rattle.field.proofs.Symbols.{symbol-below, symbols-part}
 use Rattle.code.specs.Windows.{windowLength}
@@ -25,37 +26,37 @@ inside c =
     symbol-room (a .p) (a .blocks) (a .i) (a .r) (now (a .message)) (now (a .left)) (c .pre .4) (c .pre .1) (c .pre .2)
 
 mul-place : tie.Need-mul-place
-mul-place c = omega (arith, inside (c .before .before .before))
+mul-place c = omega (arith, inside (c .before .before .before .before))
 
 add-place : tie.Need-add-place
-add-place c = omega (arith, inside (c .before .before .before))
+add-place c = omega (arith, inside (c .before .before .before .before))
 
 add-size : tie.Need-add-size
-add-size c = search needs
+add-size c = let entry = c .before .before .before .before .before in omega (arith, sizes (entry .args .p) (entry .pre .0 .sound) .memory-most)
 
 mul-size : tie.Need-mul-size
-mul-size c = omega (arith, room (c .before .before .before .before))
+mul-size c = omega (arith, room (c .before .before .before .before .before))
 
 mul-start : tie.Need-mul-start
-mul-start c = omega (arith, room (c .before .before .before .before))
+mul-start c = omega (arith, room (c .before .before .before .before .before))
 
 add-end : tie.Need-add-end
-add-end c = omega (arith, room (c .before .before .before .before))
+add-end c = omega (arith, room (c .before .before .before .before .before))
 
 slice-read-add : tie.Need-slice-read-add
-slice-read-add c = inside (c .before .before .before .before .before)
+slice-read-add c = inside (c .before .before .before .before .before .before)
 
 add-requires : tie.Need-add-requires
 add-requires c κs =
-    let entry = c .before .before .before .before .before in
+    let entry = c .before .before .before .before .before .before in
     let a = entry .args in
     (entry .pre .0 .sound .good, symbol-below (a .p .q) (now (a .message)) (entry .pre .4 .message-symbols) (positive (a .p) (entry .pre .0 .sound)) (a .i * a .p .k + a .r), entry .pre .3)
 
 slice-write-message : tie.Need-slice-write-message
-slice-write-message c = inside (c .before .before .before .before .before .before)
+slice-write-message c = inside (c .before .before .before .before .before .before .before)
 
 negate-requires : tie.Need-negate-requires
-negate-requires c κs = let entry = c .before .before .before .before .before .before in (entry .pre .0 .sound .good, entry .pre .3)
+negate-requires c κs = let entry = c .before .before .before .before .before .before .before in (entry .pre .0 .sound .good, entry .pre .3)
 
 sub-add-rows : tie.Need-sub-add-rows
 sub-add-rows c = search needs
@@ -64,11 +65,11 @@ part-add-rows-start : tie.Need-part-add-rows-start
 part-add-rows-start c = search needs
 
 part-add-rows-end : tie.Need-part-add-rows-end
-part-add-rows-end c = room (c .before .before .before .before .before .before .before)
+part-add-rows-end c = room (c .before .before .before .before .before .before .before .before)
 
 add-rows-requires : tie.Need-add-rows-requires
 add-rows-requires c κs =
-    let entry = c .before .before .before .before .before .before .before .before in
+    let entry = c .before .before .before .before .before .before .before .before .before in
     let a = entry .args in (
       entry .pre .0,
       entry .pre .2,
@@ -85,7 +86,7 @@ same-length-2 c = search needs
 
 returns : tie.Need-returns
 returns c =
-    let entry = c .before .before .before .before .before .before .before .before .before .before .before in
+    let entry = c .before .before .before .before .before .before .before .before .before .before .before .before in
     let a = entry .args in
     let less = c .before .before .before .before .negate in
     adjusted (a .p) (entry .pre .0 .sound) (a .blocks) (a .i) (a .r) (a .v) (now (a .message)) (now (a .left)) (entry .pre .4) (entry .pre .1) (entry .pre .2) (entry .pre .3)

@@ -12,10 +12,10 @@ returns c = search needs
 
 is-light-requires : tie.Need-is-light-requires
 is-light-requires c κs =
-    let entry = c .before .before .before .before in
+    let entry = c .before .before .before .before .before in
     let a = entry .args in
     let some : a .i < a .blocks = omega (arith, c .before .if1 .left) in
-    (entry .pre .0 .sound, entry .pre .0 .small, block-room (a .p) (a .blocks) (a .i) (now (a .message)) (now (a .left)) (entry .pre .2) some)
+    (entry .pre .0 .sound, block-room (a .p) (a .blocks) (a .i) (now (a .message)) (now (a .left)) (entry .pre .2) some)
 
 same-length : tie.Need-same-length
 same-length c = search needs
@@ -28,11 +28,10 @@ guess-from-start-requires c κs = search needs
 
 is-light-requires-2 : tie.Need-is-light-requires-2
 is-light-requires-2 c κs =
-    let entry = c .before .before .before .before .before .before .before .before .before .before .before .before .before .before in
+    let entry = c .before .before .before .before .before .before .before .before .before .before .before .before .before .before .before in
     let a = entry .args in
     let some : a .i < a .blocks = omega (arith, c .before .before .before .before .before .before .before .before .before .before .before .if1 .left) in (
       entry .pre .0 .sound,
-      entry .pre .0 .small,
       block-room (a .p) (a .blocks) (a .i) (c .before .before .before .before .before .guess-from-start .last .1 .1 .1 .1 .1 .1 .0) (c .before .before .before .before .before .guess-from-start .last .1 .1 .1 .1 .1 .1 .1 .0) (c .before .before .before .before .before .guess-from-start .ensures .areas) some,
     )
 
@@ -56,7 +55,7 @@ same-length-5 c = search needs
 
 returns-4 : tie.Need-returns-4
 returns-4 c =
-    let a = c .before .before .before .before .before .before .before .before .before .before .before .before .before .before .before .before .before .before .before .before .before .before .before .args in
+    let a = c .before .before .before .before .before .before .before .before .before .before .before .before .before .before .before .before .before .before .before .before .before .before .before .before .args in
     revised-then (a .p) (a .blocks) (a .i) (a .i) (now (a .message)) (now (a .left)) (c .before .before .before .before .before .before .before .before .before .before .before .before .before .before .guess-from-start .last .1 .1 .1 .1 .1 .1 .0) (c .before .before .before .before .before .before .before .before .before .before .before .before .before .before .guess-from-start .last .1 .1 .1 .1 .1 .1 .1 .0)
     (c .before .before .before .before .guess-from-end .last .1 .1 .1 .1 .1 .0) (c .before .before .before .before .guess-from-end .last .1 .1 .1 .1 .1 .1 .0) (omega arith) (c .before .before .before .before .before .before .before .before .before .before .before .before .before .before .guess-from-start .ensures) (c .before .before .before .before .guess-from-end .ensures)
 

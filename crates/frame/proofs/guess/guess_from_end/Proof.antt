@@ -22,26 +22,26 @@ room c =
     block-room (a .p) (a .blocks) (a .i) (now (a .message)) (now (a .left)) (c .pre .2) (c .pre .1)
 
 mul-last : tie.Need-mul-last Inv-loop μ-loop
-mul-last c = omega (arith, room (c .before .before .before))
+mul-last c = omega (arith, room (c .before .before .before .before))
 
 sub-last : tie.Need-sub-last Inv-loop μ-loop
-sub-last c = information-short (c .before .before .before .before .args .p) (c .before .before .before .before .pre .0 .sound)
+sub-last c = information-short (c .before .before .before .before .before .args .p) (c .before .before .before .before .before .pre .0 .sound)
 
 add-last : tie.Need-add-last Inv-loop μ-loop
-add-last c = omega (arith, room (c .before .before .before .before))
+add-last c = omega (arith, room (c .before .before .before .before .before))
 
 loop-holds : tie.Need-loop-holds Inv-loop μ-loop
 loop-holds c =
-    let a = c .before .before .before .before .args in
-    (omega arith, revised-none (a .p) (a .blocks) (a .i) (now (a .message)) (now (a .left)) (c .before .before .before .before .pre .2))
+    let a = c .before .before .before .before .before .args in
+    (omega arith, revised-none (a .p) (a .blocks) (a .i) (now (a .message)) (now (a .left)) (c .before .before .before .before .before .pre .2))
 
 sub-r : tie.Need-sub-r Inv-loop μ-loop
 sub-r c = omega arith
 
 -- The last k symbols of block i are there.
-inside : (c : tie.In-loop Inv-loop μ-loop) → c .before .before .before .before .before .before .args .i * c .before .before .before .before .before .before .args .p .n + (c .before .before .before .before .before .before .args .p .n - c .before .before .before .before .before .before .args .p .k) + (c .before .loop .r - 1) < length (c .before .loop .left)
+inside : (c : tie.In-loop Inv-loop μ-loop) → c .before .before .before .before .before .before .before .args .i * c .before .before .before .before .before .before .before .args .p .n + (c .before .before .before .before .before .before .before .args .p .n - c .before .before .before .before .before .before .before .args .p .k) + (c .before .loop .r - 1) < length (c .before .loop .left)
 inside c =
-    let entry = c .before .before .before .before .before .before in
+    let entry = c .before .before .before .before .before .before .before in
     let a = entry .args in
     omega (
       arith,
@@ -53,7 +53,7 @@ inside c =
 
 add-v : tie.Need-add-v Inv-loop μ-loop
 add-v c =
-    let entry = c .before .before .before .before .before .before in
+    let entry = c .before .before .before .before .before .before .before in
     omega (arith, inside c, revised-lengths (entry .args .p) (entry .args .blocks) (now (entry .args .message)) (now (entry .args .left)) (c .before .loop .message) (c .before .loop .left) (entry .pre .2) (c .before .loop .inv .1 .areas) .1)
 
 slice-read-v : tie.Need-slice-read-v Inv-loop μ-loop
@@ -61,7 +61,7 @@ slice-read-v c = inside (c .before)
 
 adjust-requires : tie.Need-adjust-requires Inv-loop μ-loop
 adjust-requires c κs =
-    let entry = c .before .before .before .before .before .before .before .before .before in
+    let entry = c .before .before .before .before .before .before .before .before .before .before in
     let a = entry .args in
     let l = c .before .before .before .before .loop in (
       entry .pre .0,
@@ -76,7 +76,7 @@ loop-less c = omega arith
 
 loop-again : tie.Need-loop-again Inv-loop μ-loop
 loop-again c =
-    let a = c .before .before .before .before .before .before .before .before .before .before .before .before .before .before .args in
+    let a = c .before .before .before .before .before .before .before .before .before .before .before .before .before .before .before .args in
     let l = c .before .before .before .before .before .before .before .before .before .loop in (
       omega arith,
       revised-then (a .p) (a .blocks) (a .i) (a .i) (now (a .message)) (now (a .left)) (l .message) (l .left) (c .before .before .before .before .adjust .last .1 .1 .1 .1 .1 .1 .1 .0) (c .before .before .before .before .adjust .last .1 .1 .1 .1 .1 .1 .1 .1 .0)
@@ -85,12 +85,12 @@ loop-again c =
 
 same-length : tie.Need-same-length Inv-loop μ-loop
 same-length c =
-    let entry = c .before .before .before .before .before .before in
+    let entry = c .before .before .before .before .before .before .before in
     revised-lengths (entry .args .p) (entry .args .blocks) (now (entry .args .message)) (now (entry .args .left)) (c .before .loop .message) (c .before .loop .left) (entry .pre .2) (c .before .loop .inv .1 .areas) .0
 
 same-length-2 : tie.Need-same-length-2 Inv-loop μ-loop
 same-length-2 c =
-    let entry = c .before .before .before .before .before .before in
+    let entry = c .before .before .before .before .before .before .before in
     revised-lengths (entry .args .p) (entry .args .blocks) (now (entry .args .message)) (now (entry .args .left)) (c .before .loop .message) (c .before .loop .left) (entry .pre .2) (c .before .loop .inv .1 .areas) .1
 
 returns : tie.Need-returns Inv-loop μ-loop

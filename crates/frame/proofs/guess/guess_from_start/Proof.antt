@@ -5,6 +5,7 @@ use denote.Ref.{now}
 use lib.ListN.{length}
 use Rattle.field.proofs.Symbols.{symbol-below}
 use Rattle.code.proofs.Numbers.{positive}
+use Rattle.code.proofs.Settings.{sizes}
 use Rattle.frame.specs.Frame.{Revised}
 use Rattle.frame.proofs.Guesses.{revised-none, revised-then, revised-lengths, block-room, information-short}
 use Rattle.frame.proofs.guess.guess_from_start.Statement.{statement}
@@ -18,18 +19,18 @@ abbrev μ-loop : tie.MeasureT-loop
 
 mul-start : tie.Need-mul-start Inv-loop μ-loop
 mul-start c =
-    let a = c .before .before .before .args in
-    omega (arith, block-room (a .p) (a .blocks) (a .i) (now (a .message)) (now (a .left)) (c .before .before .before .pre .3) (c .before .before .before .pre .2))
+    let a = c .before .before .before .before .args in
+    omega (arith, block-room (a .p) (a .blocks) (a .i) (now (a .message)) (now (a .left)) (c .before .before .before .before .pre .3) (c .before .before .before .before .pre .2))
 
 loop-holds : tie.Need-loop-holds Inv-loop μ-loop
 loop-holds c =
-    let a = c .before .before .before .args in
-    (omega arith, revised-none (a .p) (a .blocks) (a .i) (now (a .message)) (now (a .left)) (c .before .before .before .pre .3))
+    let a = c .before .before .before .before .args in
+    (omega arith, revised-none (a .p) (a .blocks) (a .i) (now (a .message)) (now (a .left)) (c .before .before .before .before .pre .3))
 
 -- The first k symbols of block i are there.
-inside : (c : tie.In-loop Inv-loop μ-loop) → c .before .before .before .before .before .args .i * c .before .before .before .before .before .args .p .n + c .before .loop .r < length (c .before .loop .left)
+inside : (c : tie.In-loop Inv-loop μ-loop) → c .before .before .before .before .before .before .args .i * c .before .before .before .before .before .before .args .p .n + c .before .loop .r < length (c .before .loop .left)
 inside c =
-    let entry = c .before .before .before .before .before in
+    let entry = c .before .before .before .before .before .before in
     let a = entry .args in
     omega (
       arith,
@@ -40,7 +41,7 @@ inside c =
 
 add-multiply : tie.Need-add-multiply Inv-loop μ-loop
 add-multiply c =
-    let entry = c .before .before .before .before .before in
+    let entry = c .before .before .before .before .before .before in
     omega (arith, inside c, revised-lengths (entry .args .p) (entry .args .blocks) (now (entry .args .message)) (now (entry .args .left)) (c .before .loop .message) (c .before .loop .left) (entry .pre .3) (c .before .loop .inv .1 .areas) .1)
 
 slice-read-multiply : tie.Need-slice-read-multiply Inv-loop μ-loop
@@ -48,7 +49,7 @@ slice-read-multiply c = inside (c .before)
 
 multiply-requires : tie.Need-multiply-requires Inv-loop μ-loop
 multiply-requires c κs =
-    let entry = c .before .before .before .before .before .before in
+    let entry = c .before .before .before .before .before .before .before in
     let a = entry .args in
     let l = c .before .before .loop in (
       entry .pre .0 .sound .good,
@@ -59,18 +60,18 @@ multiply-requires c κs =
 
 adjust-requires : tie.Need-adjust-requires Inv-loop μ-loop
 adjust-requires c κs =
-    let entry = c .before .before .before .before .before .before .before .before .before in
+    let entry = c .before .before .before .before .before .before .before .before .before .before in
     (entry .pre .0, entry .pre .2, c .before .before .before .before .loop-test .taken, c .before .before .multiply .ensures .below, c .before .before .before .before .before .loop .inv .1 .areas)
 
 add-r : tie.Need-add-r Inv-loop μ-loop
-add-r c = omega (arith, c .before .before .before .before .before .before .before .before .before .before .before .before .before .before .pre .0 .small .information)
+add-r c = omega (arith, sizes (c .before .before .before .before .before .before .before .before .before .before .before .before .before .before .before .args .p) (c .before .before .before .before .before .before .before .before .before .before .before .before .before .before .before .pre .0 .sound) .information-most)
 
 loop-less : tie.Need-loop-less Inv-loop μ-loop
 loop-less c = omega arith
 
 loop-again : tie.Need-loop-again Inv-loop μ-loop
 loop-again c =
-    let a = c .before .before .before .before .before .before .before .before .before .before .before .before .before .before .args in
+    let a = c .before .before .before .before .before .before .before .before .before .before .before .before .before .before .before .args in
     let l = c .before .before .before .before .before .before .before .before .before .before .loop in (
       omega arith,
       revised-then (a .p) (a .blocks) (a .i) (a .i) (now (a .message)) (now (a .left)) (l .message) (l .left) (c .before .before .before .before .adjust .last .1 .1 .1 .1 .1 .1 .1 .0) (c .before .before .before .before .adjust .last .1 .1 .1 .1 .1 .1 .1 .1 .0)
@@ -79,12 +80,12 @@ loop-again c =
 
 same-length : tie.Need-same-length Inv-loop μ-loop
 same-length c =
-    let entry = c .before .before .before .before .before in
+    let entry = c .before .before .before .before .before .before in
     revised-lengths (entry .args .p) (entry .args .blocks) (now (entry .args .message)) (now (entry .args .left)) (c .before .loop .message) (c .before .loop .left) (entry .pre .3) (c .before .loop .inv .1 .areas) .0
 
 same-length-2 : tie.Need-same-length-2 Inv-loop μ-loop
 same-length-2 c =
-    let entry = c .before .before .before .before .before in
+    let entry = c .before .before .before .before .before .before in
     revised-lengths (entry .args .p) (entry .args .blocks) (now (entry .args .message)) (now (entry .args .left)) (c .before .loop .message) (c .before .loop .left) (entry .pre .3) (c .before .loop .inv .1 .areas) .1
 
 returns : tie.Need-returns Inv-loop μ-loop

@@ -2,6 +2,7 @@
 use Prim.Native.Nat.{_+_, _-_}
 use native.Mathlib.Omega.{arith}
 use denote.Ref.{now}
+use Rattle.code.proofs.Settings.{sizes}
 use Rattle.frame.specs.Frame.{Revised}
 use Rattle.frame.proofs.Guesses.{revised-none, revised-then, revised-lengths, blocks-few}
 use Rattle.frame.proofs.guess.guess_window.Statement.{statement}
@@ -15,39 +16,39 @@ abbrev μ-loop : tie.MeasureT-loop
 
 loop-holds : tie.Need-loop-holds Inv-loop μ-loop
 loop-holds c =
-    let a = c .before .before .args in
-    revised-none (a .p) (a .blocks) (a .j) (now (a .message)) (now (a .left)) (c .before .before .pre .3)
+    let a = c .before .before .before .args in
+    revised-none (a .p) (a .blocks) (a .j) (now (a .message)) (now (a .left)) (c .before .before .before .pre .3)
 
 add-guess-block : tie.Need-add-guess-block Inv-loop μ-loop
 add-guess-block c =
-    let entry = c .before .before .before .before in
+    let entry = c .before .before .before .before .before in
     let a = entry .args in
     omega (arith, blocks-few (a .p) (entry .pre .0 .sound) (a .blocks) (now (a .message)) (now (a .left)) (entry .pre .3), entry .pre .2)
 
 guess-block-requires : tie.Need-guess-block-requires Inv-loop μ-loop
-guess-block-requires c κs = (c .before .before .before .before .before .before .pre .0, c .before .before .before .before .before .before .pre .1, c .before .before .before .loop .inv .areas)
+guess-block-requires c κs = (c .before .before .before .before .before .before .before .pre .0, c .before .before .before .before .before .before .before .pre .1, c .before .before .before .loop .inv .areas)
 
 add-s : tie.Need-add-s Inv-loop μ-loop
-add-s c = omega (arith, c .before .before .before .before .before .before .before .before .before .before .before .pre .0 .small .memory)
+add-s c = omega (arith, sizes (c .before .before .before .before .before .before .before .before .before .before .before .before .args .p) (c .before .before .before .before .before .before .before .before .before .before .before .before .pre .0 .sound) .memory-most)
 
 loop-less : tie.Need-loop-less Inv-loop μ-loop
 loop-less c = omega arith
 
 loop-again : tie.Need-loop-again Inv-loop μ-loop
 loop-again c =
-    let a = c .before .before .before .before .before .before .before .before .before .before .before .args in
+    let a = c .before .before .before .before .before .before .before .before .before .before .before .before .args in
     let l = c .before .before .before .before .before .before .before .before .loop in
     revised-then (a .p) (a .blocks) (a .j) (a .j + l .s) (now (a .message)) (now (a .left)) (l .message) (l .left) (c .before .before .before .before .guess-block .last .1 .1 .1 .1 .1 .1 .0) (c .before .before .before .before .guess-block .last .1 .1 .1 .1 .1 .1 .1 .0)
     (omega arith) (l .inv) (c .before .before .before .before .guess-block .ensures)
 
 same-length : tie.Need-same-length Inv-loop μ-loop
 same-length c =
-    let entry = c .before .before .before .before in
+    let entry = c .before .before .before .before .before in
     revised-lengths (entry .args .p) (entry .args .blocks) (now (entry .args .message)) (now (entry .args .left)) (c .before .loop .message) (c .before .loop .left) (entry .pre .3) (c .before .loop .inv .areas) .0
 
 same-length-2 : tie.Need-same-length-2 Inv-loop μ-loop
 same-length-2 c =
-    let entry = c .before .before .before .before in
+    let entry = c .before .before .before .before .before in
     revised-lengths (entry .args .p) (entry .args .blocks) (now (entry .args .message)) (now (entry .args .left)) (c .before .loop .message) (c .before .loop .left) (entry .pre .3) (c .before .loop .inv .areas) .1
 
 returns : tie.Need-returns Inv-loop μ-loop

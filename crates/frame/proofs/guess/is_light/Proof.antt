@@ -1,12 +1,5 @@
 -- `frame::guess::is_light`: bounds only; nothing rests on its answer.
-use Prim.Native.Nat.{_+_, _-_, _*_}
-use native.Mathlib.Omega.{arith}
 use borrow.Author.Needs.{needs}
-use denote.Ref.{now}
-use lib.ListN.{length, take, drop}
-use Rattle.tables.proofs.Parts.{part-length}
-use Rattle.block.specs.Area.{at}
-use Rattle.frame.proofs.Levels.{few}
 use Rattle.frame.proofs.guess.is_light.Statement.{statement}
 use Rattle.frame.proofs.guess.is_light.Tie as tie
 
@@ -22,24 +15,17 @@ sub-distance c = search needs
 add-distance : tie.Need-add-distance
 add-distance c = search needs
 
-sub-weight : tie.Need-sub-weight
-sub-weight c = search needs
+sub-cost : tie.Need-sub-cost
+sub-cost c = search needs
 
-part-weight-start : tie.Need-part-weight-start
-part-weight-start c = search needs
+part-cost-start : tie.Need-part-cost-start
+part-cost-start c = search needs
 
-part-weight-end : tie.Need-part-weight-end
-part-weight-end c = search needs
+part-cost-end : tie.Need-part-cost-end
+part-cost-end c = search needs
 
-weight-requires : tie.Need-weight-requires
-weight-requires c κs = search needs
-
-mul-result : tie.Need-mul-result
-mul-result c =
-    let entry = c .before .before .before .before .before .before in
-    let a = entry .args in
-    let part = take (a .i * a .p .n + a .p .n - a .i * a .p .n) (drop (a .i * a .p .n) (now (a .left))) in
-    omega (arith, few (length part) (at part) (λ _. 0) (c .weight .ensures), part-length (a .p .n) (a .i * a .p .n) (now (a .left)) (entry .pre .2), entry .pre .0 .block, entry .pre .1 .elements)
+cost-requires : tie.Need-cost-requires
+cost-requires c κs = search needs
 
 returns : tie.Need-returns
 returns c = search needs
@@ -52,9 +38,8 @@ is-light-spec =
     add-end
     sub-distance
     add-distance
-    sub-weight
-    part-weight-start
-    part-weight-end
-    weight-requires
-    mul-result
+    sub-cost
+    part-cost-start
+    part-cost-end
+    cost-requires
     returns)

@@ -1,30 +1,29 @@
 -- `frame::reading::compare_windows`: the windows before j are near.
 use mathlib.Core.Path.{_≡_, refl, ap, subst, _∙_}
-use mathlib.Core.Bool.{not}
 use mathlib.Core.List.{List}
 use Prim.Native.Nat.{ℕ, _+_, _-_, _*_, _≤_, _<_}
 use native.Mathlib.Nat.{mul-le-mul, mul-le-mul-right}
 use native.Mathlib.Omega.{arith}
 use native.Mathlib.Decide.{decLt}
 use denote.Ref.{now}
-use lib.Dec.{eqb}
-use lib.ListN.{length, getD, take, drop}
-use Rattle.algebra.specs.Weight.{countOf}
+use lib.ListN.{length, take, drop}
+use Rattle.code.proofs.Settings.{sizes}
 use Rattle.code.specs.Windows.{windowLength}
+use Rattle.code.specs.Reading.{zeroCost}
+use Rattle.tables.proofs.Parts.{part-size}
 use Rattle.frame.specs.Frame.{all-near, one-far}
-use Rattle.frame.proofs.Levels.{part-weight}
 use Rattle.frame.proofs.reading.compare_windows.Statement.{statement}
 use Rattle.frame.proofs.reading.compare_windows.Tie as tie
 
--- How many symbols of the window of this size from block j on are not zero.
-abbrev weightAt : ℕ → ℕ → List ℕ → ℕ → ℕ
-weightAt n size left j = countOf size (λ i. not (eqb (getD (take size (drop (j * n) left)) i 0) 0))
+-- What the window of this size from block j on costs against zeros.
+abbrev costAt : ℕ → ℕ → ℕ → List ℕ → ℕ → ℕ
+costAt q n size left j = zeroCost q (take size (drop (j * n) left))
 
 abbrev Inv-loop : tie.InvT-loop
-Inv-loop blocks left limit n size start₀ j₀ start j = (j ≤ blocks) × (start ≡ j * n) × ((i : ℕ) → i < j → weightAt n size left i ≤ limit)
+Inv-loop blocks left bound n size start₀ j₀ start j = (j ≤ blocks) × (start ≡ j * n) × ((q i : ℕ) → i < j → costAt q n size left i < bound)
 
 abbrev μ-loop : tie.MeasureT-loop
-μ-loop blocks left limit n size start₀ j₀ start j = blocks - j
+μ-loop blocks left bound n size start₀ j₀ start j = blocks - j
 
 -- A window of an information block lies within what is left.
 inside : (T m n size long j : ℕ) → size ≡ (m + 1) * n → long ≡ (T + m) * n → j < T → j * n + size ≤ long
@@ -35,49 +34,49 @@ inside T m n size long j e f l =
 window-room : (c : tie.In-loop Inv-loop μ-loop) → c .before .loop .start + windowLength (c .before .before .before .before .args .p) ≤ length (now (c .before .before .before .before .args .left))
 window-room c =
     let a = c .before .before .before .before .args in
-    omega (arith, inside (a .blocks) (a .p .m) (a .p .n) (windowLength (a .p)) (length (now (a .left))) (c .before .loop .j) refl (c .before .before .before .before .pre .3) (c .loop-test .taken), c .before .loop .inv .1)
+    omega (arith, inside (a .blocks) (a .p .m) (a .p .n) (windowLength (a .p)) (length (now (a .left))) (c .before .loop .j) refl (c .before .before .before .before .pre .2) (c .loop-test .taken), c .before .loop .inv .1)
 
 add-size : tie.Need-add-size Inv-loop μ-loop
-add-size c = omega (arith, c .before .before .pre .1 .memory)
+add-size c = let entry = c .before .before in omega (arith, sizes (entry .args .p) (entry .pre .0) .memory-most)
 
 mul-size : tie.Need-mul-size Inv-loop μ-loop
 mul-size c =
     let entry = c .before .before in
-    let few : entry .args .p .m + 1 ≤ 3 = omega (arith, entry .pre .1 .memory) in
-    let short : entry .args .p .n ≤ 8 = omega (arith, entry .pre .0 .block, entry .pre .1 .elements) in
-    omega (arith, mul-le-mul few short)
+    let most = sizes (entry .args .p) (entry .pre .0) in
+    let few : entry .args .p .m + 1 ≤ 256 = omega (arith, most .memory-most) in
+    omega (arith, mul-le-mul few (most .symbols-most))
 
 loop-holds : tie.Need-loop-holds Inv-loop μ-loop
-loop-holds c = (omega arith, omega arith, λ i l. absurd (omega arith))
+loop-holds c = (omega arith, omega arith, λ q i l. absurd (omega arith))
 
 add-end : tie.Need-add-end Inv-loop μ-loop
 add-end c = omega (arith, window-room c)
 
-sub-weight : tie.Need-sub-weight Inv-loop μ-loop
-sub-weight c = omega arith
+sub-cost : tie.Need-sub-cost Inv-loop μ-loop
+sub-cost c = omega arith
 
-part-weight-start : tie.Need-part-weight-start Inv-loop μ-loop
-part-weight-start c = omega arith
+part-cost-start : tie.Need-part-cost-start Inv-loop μ-loop
+part-cost-start c = omega arith
 
-part-weight-end : tie.Need-part-weight-end Inv-loop μ-loop
-part-weight-end c = window-room c
+part-cost-end : tie.Need-part-cost-end Inv-loop μ-loop
+part-cost-end c = window-room c
 
-weight-requires : tie.Need-weight-requires Inv-loop μ-loop
-weight-requires c κs = tt
+cost-requires : tie.Need-cost-requires Inv-loop μ-loop
+cost-requires c κs = tt
 
--- The weight that was counted is the window's.
-counted : (c : tie.After-weight Inv-loop μ-loop) → c .weight .result ≡ weightAt (c .before .before .before .before .before .before .args .p .n) (windowLength (c .before .before .before .before .before .before .args .p)) (now (c .before .before .before .before .before .before .args .left)) (c .before .before .before .loop .j)
-counted c =
+-- The cost that was counted is the window's.
+counted : (q : ℕ) (c : tie.After-cost Inv-loop μ-loop) → c .cost .result ≡ costAt q (c .before .before .before .before .before .before .args .p .n) (windowLength (c .before .before .before .before .before .before .args .p)) (now (c .before .before .before .before .before .before .args .left)) (c .before .before .before .loop .j)
+counted q c =
     let a = c .before .before .before .before .before .before .args in
-    c .weight .ensures
-    ∙ (part-weight (windowLength (a .p)) (c .before .before .before .loop .start) (now (a .left)) (window-room (c .before .before))
-    ∙ ap (λ (t : ℕ). countOf (windowLength (a .p)) (λ i. not (eqb (getD (take (windowLength (a .p)) (drop t (now (a .left)))) i 0) 0))) (c .before .before .before .loop .inv .1))
+    c .cost .ensures q
+    ∙ ap (λ (t : ℕ). zeroCost q (take t (drop (c .before .before .before .loop .start) (now (a .left))))) (part-size (windowLength (a .p)) (c .before .before .before .loop .start) (now (a .left)))
+    ∙ ap (λ (t : ℕ). zeroCost q (take (windowLength (a .p)) (drop t (now (a .left))))) (c .before .before .before .loop .inv .1)
 
 returns : tie.Need-returns Inv-loop μ-loop
 returns c =
     let entry = c .before .before .before .before .before .before .before in
     let a = entry .args in
-    one-far (c .before .before .before .before .loop .j) (c .before .before .before .loop-test .taken) (omega (arith, c .if1 .taken, counted (c .before), entry .pre .2))
+    one-far (c .before .before .before .before .loop .j) (c .before .before .before .loop-test .taken) (omega (arith, c .if1 .taken, counted (a .p .q) (c .before), entry .pre .1))
 
 add-start : tie.Need-add-start Inv-loop μ-loop
 add-start c = omega (arith, window-room (c .before .before .before))
@@ -92,19 +91,19 @@ loop-again : tie.Need-loop-again Inv-loop μ-loop
 loop-again c =
     let a = c .before .before .before .before .before .before .before .args in
     let l = c .before .before .before .before .loop in
-    (omega arith, omega (arith, l .inv .1), λ i u. more i u (decLt i (l .j)))
+    (omega arith, omega (arith, l .inv .1), λ q i u. more q i u (decLt i (l .j)))
   where
-    more : (i : ℕ) → i < c .before .before .before .before .loop .j + 1 → Dec (i < c .before .before .before .before .loop .j) → weightAt (c .before .before .before .before .before .before .before .args .p .n) (windowLength (c .before .before .before .before .before .before .before .args .p)) (now (c .before .before .before .before .before .before .before .args .left)) i ≤ c .before .before .before .before .before .before .before .args .limit
-    more i u (yes h) = c .before .before .before .before .loop .inv .2 i h
-    more i u (no d) =
+    more : (q i : ℕ) → i < c .before .before .before .before .loop .j + 1 → Dec (i < c .before .before .before .before .loop .j) → costAt q (c .before .before .before .before .before .before .before .args .p .n) (windowLength (c .before .before .before .before .before .before .before .args .p)) (now (c .before .before .before .before .before .before .before .args .left)) i < c .before .before .before .before .before .before .before .args .bound
+    more q i u (yes h) = c .before .before .before .before .loop .inv .2 q i h
+    more q i u (no d) =
         let here : c .before .before .before .before .loop .j ≡ i = omega arith in
-        subst (λ (t : ℕ). weightAt (c .before .before .before .before .before .before .before .args .p .n) (windowLength (c .before .before .before .before .before .before .before .args .p)) (now (c .before .before .before .before .before .before .before .args .left)) t ≤ c .before .before .before .before .before .before .before .args .limit) here
-        (omega (arith, c .if1 .left, counted (c .before)))
+        subst (λ (t : ℕ). costAt q (c .before .before .before .before .before .before .before .args .p .n) (windowLength (c .before .before .before .before .before .before .before .args .p)) (now (c .before .before .before .before .before .before .before .args .left)) t < c .before .before .before .before .before .before .before .args .bound) here
+        (omega (arith, c .if1 .left, counted q (c .before)))
 
 returns-2 : tie.Need-returns-2 Inv-loop μ-loop
 returns-2 c =
     let entry = c .before .before .before .before in
-    all-near (λ j l. subst (λ (t : ℕ). weightAt (entry .args .p .n) (windowLength (entry .args .p)) (now (entry .args .left)) j ≤ t) (entry .pre .2) (c .before .loop .inv .2 j (omega arith)))
+    all-near (λ j l. rw (entry .pre .1) at (c .before .loop .inv .2 (entry .args .p .q) j (omega arith)))
 
 pub compare-windows-spec : {M : Type 1} → statement M
 compare-windows-spec =
@@ -116,10 +115,10 @@ compare-windows-spec =
     mul-size
     loop-holds
     add-end
-    sub-weight
-    part-weight-start
-    part-weight-end
-    weight-requires
+    sub-cost
+    part-cost-start
+    part-cost-end
+    cost-requires
     returns
     add-start
     add-j

@@ -1,17 +1,14 @@
 -- `frame::window::try_level`: the block step's answer, and then the rebuilt blocks' cost.
-use Prim.Native.Nat.{_+_, _-_, _*_, _≤_, _<_}
+use Prim.Native.Nat.{_+_, _*_, _≤_}
 use native.Mathlib.Nat.{mul-le-mul-right}
 use native.Mathlib.Omega.{arith}
-use borrow.Author.Needs.{needs}
 use denote.Ref.{now}
 use lib.ListN.{length}
 use Rattle.field.proofs.Symbols.{symbols-part}
-use Rattle.code.specs.Code.{distancesTo}
-use Rattle.code.specs.Transmission.{view}
-use Rattle.code.specs.Reading.{rebuiltDistance}
+use Rattle.code.proofs.Settings.{level-fits}
 use Rattle.tables.proofs.Parts.{part-length}
-use Rattle.frame.proofs.Levels.{rebuilt-few}
-use Rattle.frame.proofs.Tried.{step-area, tried-far, tried-refused, tried-serves}
+use Rattle.frame.proofs.Tried.{step-below, tried-far, tried-refused, tried-serves}
+use borrow.Author.Needs.{needs}
 use Rattle.frame.proofs.window.try_level.Statement.{statement}
 use Rattle.frame.proofs.window.try_level.Tie as tie
 
@@ -22,10 +19,10 @@ inside c =
     omega (arith, mul-le-mul-right (c .before .args .p .n) top, c .before .pre .1)
 
 mul-start : tie.Need-mul-start
-mul-start c = omega (arith, inside c)
+mul-start c = omega (arith, inside (c .before .before .before .before .before))
 
 add-end : tie.Need-add-end
-add-end c = omega (arith, inside c)
+add-end c = omega (arith, inside (c .before .before .before .before .before))
 
 sub-repair : tie.Need-sub-repair
 sub-repair c = search needs
@@ -34,71 +31,88 @@ part-repair-start : tie.Need-part-repair-start
 part-repair-start c = search needs
 
 part-repair-end : tie.Need-part-repair-end
-part-repair-end c = inside c
+part-repair-end c = inside (c .before .before .before .before .before)
 
 repair-requires : tie.Need-repair-requires
 repair-requires c κs =
-    let entry = c .before .before .before in
+    let entry = c .before .before .before .before .before .before .before .before .before .before .before in
     let a = entry .args in (
       entry .pre .0,
-      part-length (a .p .n) (a .l * a .p .n) (now (a .window)) (inside (c .before .before)),
+      part-length (a .p .n) (a .l * a .p .n) (now (a .window)) (inside (c .before .before .before .before .before .before .before .before .before .before)),
       symbols-part (a .p .q) (a .l * a .p .n) (a .l * a .p .n + a .p .n) (now (a .window)) (entry .pre .2),
       entry .pre .3,
+      entry .pre .4,
     )
+
+same-length : tie.Need-same-length
+same-length c = search needs
+
+same-length-2 : tie.Need-same-length-2
+same-length-2 c = search needs
+
+same-length-3 : tie.Need-same-length-3
+same-length-3 c = search needs
+
+same-length-4 : tie.Need-same-length-4
+same-length-4 c = search needs
 
 returns : tie.Need-returns
 returns c =
-    let entry = c .before .before .before .before .before in
+    let entry = c .before .before .before .before .before .before .before .before .before .before .before .before .before .before .before .before .before .before .before .before .before in
     let a = entry .args in
-    tried-far (a .p) (entry .pre .0 .sound) (now (a .window)) (entry .pre .2) (a .l) (entry .pre .3) (c .before .repair .last .1 .1 .1 .1 .1 .0) (c .before .repair .ensures) (c .if1 .taken)
+    tried-far (a .p) (entry .pre .0 .sound) (now (a .window)) (a .l) (entry .pre .3) (c .before .before .before .before .before .before .before .before .before .repair .last .1 .1 .1 .1 .1 .1 .1 .1 .0) (c .before .before .before .before .before .before .before .before .before .repair .ensures) (c .if1 .taken)
 
-rebuilt-distance-requires : tie.Need-rebuilt-distance-requires
-rebuilt-distance-requires c κs =
-    let entry = c .before .before .before .before .before .before in
+rebuilt-cost-requires : tie.Need-rebuilt-cost-requires
+rebuilt-cost-requires c κs =
+    let entry = c .before .before .before .before .before .before .before .before .before .before .before .before .before .before .before .before .before .before .before .before .before .before in
     let a = entry .args in (
       entry .pre .0,
-      step-area (a .p) (a .l) _ (c .before .before .repair .last .1 .1 .1 .1 .1 .0) (c .before .before .repair .ensures) (c .before .if1 .left),
+      step-below (a .p) (a .l) _ (c .before .before .before .before .before .before .before .before .before .before .repair .last .1 .1 .1 .1 .1 .1 .1 .1 .0) (c .before .before .before .before .before .before .before .before .before .before .repair .ensures) (c .before .if1 .left),
+      omega (arith, level-fits (a .p) (entry .pre .0 .sound) (a .l) (entry .pre .3), c .before .before .before .before .before .before .before .before .before .before .repair .kept .1 .1 .1 .1 .1 .1 .1 .1 .0, entry .pre .4 .information-long),
       entry .pre .3,
       entry .pre .1,
     )
 
 distances-to-requires : tie.Need-distances-to-requires
-distances-to-requires c κs =
-    let entry = c .before .before .before .before .before .before .before in
-    let top : entry .args .l + 1 ≤ entry .args .p .m + 1 = omega (arith, entry .pre .3) in
-    (entry .pre .0 .sound, entry .pre .0 .small, omega (arith, mul-le-mul-right (entry .args .p .k) top, entry .pre .0 .sound .room), entry .pre .3)
+distances-to-requires c κs = search needs
 
-mul-if2 : tie.Need-mul-if2
-mul-if2 c =
-    let entry = c .before .before .before .before .before .before .before .before in
-    let a = entry .args in
-    omega (
-      arith,
-      c .before .rebuilt-distance .ensures,
-      inside (c .before .before .before .before .before .before .before),
-      rebuilt-few (a .p) (now (a .window)) (view (a .p .k) (c .before .before .before .before .repair .last .1 .1 .1 .1 .1 .0)) (a .l),
-      entry .good .1 .1 .1 .1 .0 .1,
-    )
+same-length-5 : tie.Need-same-length-5
+same-length-5 c = search needs
+
+same-length-6 : tie.Need-same-length-6
+same-length-6 c = search needs
+
+same-length-7 : tie.Need-same-length-7
+same-length-7 c = search needs
+
+same-length-8 : tie.Need-same-length-8
+same-length-8 c = search needs
 
 returns-2 : tie.Need-returns-2
 returns-2 c =
-    let entry = c .before .before .before .before .before .before .before .before .before in
+    let entry = c .before .before .before .before .before .before .before .before .before .before .before .before .before .before .before .before .before .before .before .before .before .before .before .before .before in
     let a = entry .args in
-    let information = c .before .before .before .before .before .repair .last .1 .1 .1 .1 .1 .0 in
-    let good : 2 * rebuiltDistance (a .p) (now (a .window)) (a .l) (view (a .p .k) information) < distancesTo (a .p .n) (a .p .k) (a .l) =
-    omega (arith, c .if2 .taken, c .before .before .rebuilt-distance .ensures, c .before .distances-to .ensures) in
-    tried-serves (a .p) (entry .pre .0 .sound) (now (a .window)) (entry .pre .2) (a .l) (entry .pre .3) information
-    (c .before .before .before .before .before .repair .ensures) (c .before .before .before .before .if1 .left) good
+    tried-serves (a .p) (entry .pre .0 .sound) (now (a .window)) (a .l) (entry .pre .3) (c .before .before .before .before .before .before .before .before .before .before .before .before .before .repair .last .1 .1 .1 .1 .1 .1 .1 .1 .0) (c .before .before .before .before .before .before .before .before .before .before .before .before .before .repair .ensures) (c .before .before .before .before .if1 .left)
+    (omega (arith, c .if2 .taken, c .before .before .rebuilt-cost .ensures, c .before .distances-to .ensures))
+
+same-length-9 : tie.Need-same-length-9
+same-length-9 c = search needs
+
+same-length-10 : tie.Need-same-length-10
+same-length-10 c = search needs
+
+same-length-11 : tie.Need-same-length-11
+same-length-11 c = search needs
+
+same-length-12 : tie.Need-same-length-12
+same-length-12 c = search needs
 
 returns-3 : tie.Need-returns-3
 returns-3 c =
-    let entry = c .before .before .before .before .before .before .before .before .before in
+    let entry = c .before .before .before .before .before .before .before .before .before .before .before .before .before .before .before .before .before .before .before .before .before .before .before .before .before in
     let a = entry .args in
-    let information = c .before .before .before .before .before .repair .last .1 .1 .1 .1 .1 .0 in
-    let bad : distancesTo (a .p .n) (a .p .k) (a .l) ≤ 2 * rebuiltDistance (a .p) (now (a .window)) (a .l) (view (a .p .k) information) =
-    omega (arith, c .if2 .left, c .before .before .rebuilt-distance .ensures, c .before .distances-to .ensures) in
-    tried-refused (a .p) (entry .pre .0 .sound) (now (a .window)) (entry .pre .2) (a .l) (entry .pre .3) information
-    (c .before .before .before .before .before .repair .ensures) (c .before .before .before .before .if1 .left) bad
+    tried-refused (a .p) (entry .pre .0 .sound) (now (a .window)) (a .l) (entry .pre .3) (c .before .before .before .before .before .before .before .before .before .before .before .before .before .repair .last .1 .1 .1 .1 .1 .1 .1 .1 .0) (c .before .before .before .before .before .before .before .before .before .before .before .before .before .repair .ensures) (c .before .before .before .before .if1 .left)
+    (omega (arith, c .if2 .left, c .before .before .rebuilt-cost .ensures, c .before .distances-to .ensures))
 
 pub try-level-spec : {M : Type 1} → statement M
 try-level-spec =
@@ -110,9 +124,20 @@ try-level-spec =
     part-repair-start
     part-repair-end
     repair-requires
+    same-length
+    same-length-2
+    same-length-3
+    same-length-4
     returns
-    rebuilt-distance-requires
+    rebuilt-cost-requires
     distances-to-requires
-    mul-if2
+    same-length-5
+    same-length-6
+    same-length-7
+    same-length-8
     returns-2
+    same-length-9
+    same-length-10
+    same-length-11
+    same-length-12
     returns-3)

@@ -1,10 +1,11 @@
 -- `line::characters::read_digits`: the first i characters are read.
-use mathlib.Core.Path.{_≡_, _∙_}
+use mathlib.Core.Path.{_≡_, sym, _∙_}
 use mathlib.Core.List.{map}
 use Prim.Native.Nat.{_-_, _≤_, _<_}
 use native.Mathlib.Omega.{arith}
 use denote.Ref.{now}
 use lib.ListN.{length, take, length-set}
+use lib.Seq.{take-all}
 use Rattle.line.specs.Characters.{digitOf}
 use Rattle.line.proofs.Digits.{mapped-none, mapped-more, mapped-all}
 use Rattle.line.proofs.characters.read_digits.Statement.{statement}
@@ -50,9 +51,12 @@ same-length c = c .before .loop .inv .1
 
 returns : tie.Need-returns Inv-loop μ-loop
 returns c =
-    let characters = now (c .before .before .before .before .args .characters) in
+    let entry = c .before .before .before .before in
+    let characters = now (entry .args .characters) in
     let all : c .before .loop .i ≡ length characters = omega arith in
-    mapped-all digitOf characters (c .before .loop .area) (c .before .loop .i) all (c .before .loop .inv .2)
+    let whole : length (c .before .loop .area) ≤ length characters = omega (arith, entry .pre, c .before .loop .inv .1) in
+    sym (take-all (length characters) (c .before .loop .area) whole)
+    ∙ mapped-all digitOf characters (c .before .loop .area) (c .before .loop .i) all (c .before .loop .inv .2)
 
 pub read-digits-spec : {M : Type 1} → statement M
 read-digits-spec =

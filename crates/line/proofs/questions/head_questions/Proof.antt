@@ -10,9 +10,9 @@ use lib.Dec.{T}
 use lib.ListN.{length}
 use Rattle.code.specs.declared.Setting.{Setting}
 use Rattle.code.specs.Settings.{isSetting, settingOf}
-use Rattle.tables.proofs.Small.{Sizes, sizesOf}
+use Rattle.code.proofs.Settings.{Sizes, sizesOf}
 use Rattle.link.specs.Questions.{ask, firstNo}
-use Rattle.link.proofs.Answers.{first-no, transmission-small}
+use Rattle.link.proofs.Answers.{first-no, transmission-most}
 use Rattle.line.specs.Questions.{blocksIn, headQuestions}
 use Rattle.line.proofs.Asked.{headLater, head-of, after-setting}
 use Rattle.line.proofs.questions.head_questions.Statement.{statement}
@@ -38,6 +38,9 @@ returns c =
 
 blocks-in-requires : tie.Need-blocks-in-requires
 blocks-in-requires c κs = search needs
+
+cast-blocks : tie.Need-cast-blocks
+cast-blocks c = search needs
 
 no-requires-2 : tie.Need-no-requires-2
 no-requires-2 c κs = search needs
@@ -74,14 +77,11 @@ sizes c =
 sub-if4 : tie.Need-sub-if4
 sub-if4 c = search needs
 
-cast-if4 : tie.Need-cast-if4
-cast-if4 c = search needs
-
 add-if4 : tie.Need-add-if4
 add-if4 c = omega (arith, c .before .before .if2 .left, sizes c .memory-most)
 
 mul-if4 : tie.Need-mul-if4
-mul-if4 c = omega (arith, transmission-small (c .setting .result) (c .before .before .before .blocks-in .result) (sizes c) (c .before .before .if2 .left))
+mul-if4 c = omega (arith, transmission-most (c .before .before .before .before .before .before .setting-in .result) (c .setting .result) (c .before .before .before .blocks-in .result) (subst T (sym (known (c .before .before .before .before))) tt) (c .setting .ensures) (c .before .before .if2 .left))
 
 no-requires-4 : tie.Need-no-requires-4
 no-requires-4 c κs = search needs
@@ -110,13 +110,13 @@ head-questions-spec =
     no-requires
     returns
     blocks-in-requires
+    cast-blocks
     no-requires-2
     returns-2
     no-requires-3
     returns-3
     setting-requires
     sub-if4
-    cast-if4
     add-if4
     mul-if4
     no-requires-4

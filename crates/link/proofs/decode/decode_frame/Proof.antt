@@ -1,18 +1,14 @@
--- `link::decode::decode_frame`: the frame is read; then its transmission restored, or zeros.
-use mathlib.Core.Path.{sym, ap, subst, _∙_}
-use Prim.Native.Nat.{ℕ, _-_}
+-- `link::decode::decode_frame` meets its contract: the tables are the setting's, and the working areas have room for its blocks.
+use mathlib.Core.Path.{sym, subst}
+use Prim.Native.Nat.{_+_, _≤_}
 use native.Mathlib.Omega.{arith}
-use borrow.Author.Needs.{needs}
-use denote.Ref.{now}
-use lib.ListN.{length, replicate}
-use Rattle.block.specs.Area.{at}
-use Rattle.frame.proofs.Levels.{few}
+use lib.Seq.{length-take-le}
 use Rattle.code.specs.declared.Setting.{Setting}
 use Rattle.code.specs.Settings.{Sound}
-use Rattle.code.proofs.Settings.{soundOf}
-use Rattle.tables.proofs.Small.{sizes, readyOf}
-use Rattle.link.proofs.Answers.{transmission-small}
-use Rattle.link.proofs.Decoding.{left-symbols, left-long, frame-decoded-none, frame-decoded-found}
+use Rattle.code.proofs.Settings.{soundOf, sizes, largestOf}
+use Rattle.tables.specs.Tables.{rowsLength, mostBlock}
+use Rattle.tables.proofs.Lending.{readyOf}
+use borrow.Author.Needs.{needs}
 use Rattle.link.proofs.decode.decode_frame.Statement.{statement}
 use Rattle.link.proofs.decode.decode_frame.Tie as tie
 
@@ -20,32 +16,64 @@ use Rattle.link.proofs.decode.decode_frame.Tie as tie
 sound : (c : tie.Start) → Sound (c .args .p)
 sound c = subst Sound (sym (c .pre .1)) (soundOf (c .args .setting) (c .pre .0))
 
+room : (c : tie.Start) → c .args .p .n + 1 ≤ mostBlock + 1
+room c =
+    let short : c .args .p .n ≤ mostBlock = subst (λ (p : Setting). p .n ≤ mostBlock) (sym (c .pre .1)) (largestOf (λ p. p .n) (c .args .setting) (c .pre .0)) in
+    omega arith
+
 tables-requires : tie.Need-tables-requires
 tables-requires c κs = sound (c .before .before .before) .good
 
-rows-requires : tie.Need-rows-requires
-rows-requires c κs = c .before .before .before .before .pre .0
+slice-aggregate-rows : tie.Need-slice-aggregate-rows
+slice-aggregate-rows c = search needs
 
-read-requires : tie.Need-read-requires
-read-requires c κs =
-    let entry = c .before .before .before .before .before .before .before .before .before in
-    let a = entry .args in (
-      readyOf (a .setting) (a .p) (entry .pre .0) (entry .pre .1) (c .before .before .before .before .before .tables .result) (c .before .before .before .before .rows .result) (c .before .before .before .before .before .tables .ensures) (c .before .before .before .before .rows .ensures),
+rows-requires : tie.Need-rows-requires
+rows-requires c κs = let known = c .before .before .before .before .before .pre .0 in (known, largestOf rowsLength (c .before .before .before .before .before .args .setting) known)
+
+add-room : tie.Need-add-room
+add-room c = let entry = c .before .before .before .before .before .before .before .before in omega (arith, sizes (entry .args .p) (sound entry) .symbols-most)
+
+slice-aggregate-decode-lent : tie.Need-slice-aggregate-decode-lent
+slice-aggregate-decode-lent c = search needs
+
+array-borrow-prefix-series : tie.Need-array-borrow-prefix-series
+array-borrow-prefix-series c = room (c .before .before .before .before .before .before .before .before .before .before .before .before)
+
+slice-aggregate-decode-lent-2 : tie.Need-slice-aggregate-decode-lent-2
+slice-aggregate-decode-lent-2 c = sym (length-take-le _ _ (room (c .before .before .before .before .before .before .before .before .before .before .before .before .before)))
+
+array-borrow-prefix-locator : tie.Need-array-borrow-prefix-locator
+array-borrow-prefix-locator c = room (c .before .before .before .before .before .before .before .before .before .before .before .before .before)
+
+slice-aggregate-decode-lent-3 : tie.Need-slice-aggregate-decode-lent-3
+slice-aggregate-decode-lent-3 c = sym (length-take-le _ _ (room (c .before .before .before .before .before .before .before .before .before .before .before .before .before .before)))
+
+array-borrow-prefix-values : tie.Need-array-borrow-prefix-values
+array-borrow-prefix-values c = room (c .before .before .before .before .before .before .before .before .before .before .before .before .before .before)
+
+slice-aggregate-decode-lent-4 : tie.Need-slice-aggregate-decode-lent-4
+slice-aggregate-decode-lent-4 c = sym (length-take-le _ _ (room (c .before .before .before .before .before .before .before .before .before .before .before .before .before .before .before)))
+
+array-borrow-prefix-information : tie.Need-array-borrow-prefix-information
+array-borrow-prefix-information c = room (c .before .before .before .before .before .before .before .before .before .before .before .before .before .before .before)
+
+slice-aggregate-decode-lent-5 : tie.Need-slice-aggregate-decode-lent-5
+slice-aggregate-decode-lent-5 c = sym (length-take-le _ _ (room (c .before .before .before .before .before .before .before .before .before .before .before .before .before .before .before .before)))
+
+decode-lent-requires : tie.Need-decode-lent-requires
+decode-lent-requires c κs =
+    let entry = c .before .before .before .before .before .before .before .before .before .before .before .before .before .before .before .before in
+    let a = entry .args in
+    let fits = room entry in (
+      readyOf (a .setting) (a .p) (entry .pre .0) (entry .pre .1) (c .before .before .before .before .before .before .before .before .before .before .before .before .tables .result) (c .before .before .before .before .before .before .before .before .before .before .rows2 .last .1 .0) (c .before .before .before .before .before .before .before .before .before .before .before .before .tables .ensures) (c .before .before .before .before .before .before .before .before .before .before .rows2 .ensures),
       entry .pre .2,
+      entry .pre .3,
       entry .pre .4,
       entry .pre .5,
       entry .pre .6,
       entry .pre .7,
+      record { series-long = length-take-le _ _ fits; locator-long = length-take-le _ _ fits; values-long = length-take-le _ _ fits; information-long = length-take-le _ _ fits },
     )
-
-clear-requires : tie.Need-clear-requires
-clear-requires c κs = search needs
-
-clear-requires-2 : tie.Need-clear-requires-2
-clear-requires-2 c κs = search needs
-
-no-requires : tie.Need-no-requires
-no-requires c κs = search needs
 
 same-length : tie.Need-same-length
 same-length c = search needs
@@ -54,75 +82,26 @@ same-length-2 : tie.Need-same-length-2
 same-length-2 c = search needs
 
 returns : tie.Need-returns
-returns c =
-    let entry = c .before .before .before .before .before .before .before .before .before .before .before .before .before .before .before .before .before .before .before .before .before .before .before .before in
-    let a = entry .args in
-    let read = c .before .before .before .before .before .before .before .before .before .before .before .before .before .before .read in
-    frame-decoded-none (a .p) (a .blocks) (now (a .reception)) (read .last .1 .1 .1 .1 .1 .0) (read .last .1 .1 .1 .1 .1 .1 .0) (c .no .result) (c .before .before .before .before .before .before .before .clear .last .0) (c .before .before .before .clear2 .last .0)
-    (read .ensures) (c .before .before .before .before .before .before .before .before .before .if1 .taken) (c .no .ensures)
-    (c .before .before .before .before .before .before .before .clear .ensures ∙ ap (λ (t : ℕ). replicate t 0) (read .kept .1 .1 .1 .1 .1 .0 ∙ entry .pre .6))
-    (c .before .before .before .clear2 .ensures ∙ ap (λ (t : ℕ). replicate t 0) (read .kept .1 .1 .1 .1 .1 .1 .0 ∙ (entry .pre .7 ∙ entry .pre .4)))
-
-weight-requires : tie.Need-weight-requires
-weight-requires c κs = search needs
-
-restore-requires : tie.Need-restore-requires
-restore-requires c κs =
-    let entry = c .before .before .before .before .before .before .before .before .before .before .before .before .before .before .before .before .before .before in
-    let a = entry .args in
-    let read = c .before .before .before .before .before .before .before .before .read in (
-      sound entry .good,
-      entry .pre .5,
-      left-symbols (a .p) (a .blocks) (now (a .reception)) (read .last .1 .1 .1 .1 .1 .0) (read .last .1 .1 .1 .1 .1 .1 .0) (read .ensures) (c .before .before .before .if1 .left),
-      left-long (a .p) (a .blocks) (now (a .reception)) (read .last .1 .1 .1 .1 .1 .0) (read .last .1 .1 .1 .1 .1 .1 .0) (read .ensures) (c .before .before .before .if1 .left),
-    )
-
-cast-t31 : tie.Need-cast-t31
-cast-t31 c =
-    let entry = c .before .before .before .before .before .before .before .before .before .before .before .before .before .before .before .before .before .before .before .before .before in
-    let a = entry .args in
-    let read = c .before .before .before .before .before .before .before .before .before .before .before .read in
-    omega (
-      arith,
-      few (length (read .last .1 .1 .1 .1 .1 .1 .0)) (at (read .last .1 .1 .1 .1 .1 .1 .0)) (λ _. 0) (c .before .before .before .before .weight .ensures),
-      read .kept .1 .1 .1 .1 .1 .1 .0,
-      entry .pre .7,
-      entry .pre .4,
-      transmission-small (a .p) (a .blocks)
-          (sizes (a .p) (sound entry) (readyOf (a .setting) (a .p) (entry .pre .0) (entry .pre .1) (c .before .before .before .before .before .before .before .before .before .before .before .before .before .before .before .before .before .tables .result) (c .before .before .before .before .before .before .before .before .before .before .before .before .before .before .before .before .rows .result) (c .before .before .before .before .before .before .before .before .before .before .before .before .before .before .before .before .before .tables .ensures) (c .before .before .before .before .before .before .before .before .before .before .before .before .before .before .before .before .rows .ensures) .small))
-          (entry .pre .3),
-    )
-
-same-length-3 : tie.Need-same-length-3
-same-length-3 c = search needs
-
-same-length-4 : tie.Need-same-length-4
-same-length-4 c = search needs
-
-returns-2 : tie.Need-returns-2
-returns-2 c =
-    let entry = c .before .before .before .before .before .before .before .before .before .before .before .before .before .before .before .before .before .before .before .before .before in
-    let a = entry .args in
-    let read = c .before .before .before .before .before .before .before .before .before .before .before .read in
-    frame-decoded-found (a .p) (a .blocks) (now (a .reception)) (read .last .1 .1 .1 .1 .1 .0) (read .last .1 .1 .1 .1 .1 .1 .0) (sound entry) (c .before .before .restore .last .1 .1 .0) (c .before .before .before .before .weight .result)
-    (entry .pre .5) (entry .pre .4) (read .ensures) (c .before .before .before .before .before .before .if1 .left) (c .before .before .before .before .weight .ensures) (c .before .before .restore .ensures)
+returns c = search needs
 
 pub decode-frame-spec : {M : Type 1} → statement M
 decode-frame-spec =
     tie.close
     (tie.spec
     tables-requires
+    slice-aggregate-rows
     rows-requires
-    read-requires
-    clear-requires
-    clear-requires-2
-    no-requires
+    add-room
+    slice-aggregate-decode-lent
+    array-borrow-prefix-series
+    slice-aggregate-decode-lent-2
+    array-borrow-prefix-locator
+    slice-aggregate-decode-lent-3
+    array-borrow-prefix-values
+    slice-aggregate-decode-lent-4
+    array-borrow-prefix-information
+    slice-aggregate-decode-lent-5
+    decode-lent-requires
     same-length
     same-length-2
-    returns
-    weight-requires
-    restore-requires
-    cast-t31
-    same-length-3
-    same-length-4
-    returns-2)
+    returns)

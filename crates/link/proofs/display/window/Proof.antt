@@ -39,7 +39,7 @@ add-to : tie.Need-add-to
 add-to c = omega (arith, inside c .sizes .memory-most)
 
 mul-to : tie.Need-mul-to
-mul-to c = omega (arith, inside c .small)
+mul-to c = omega (arith, inside c .short)
 
 add-to-2 : tie.Need-add-to-2
 add-to-2 c = omega (arith, inside c .within)
@@ -51,7 +51,7 @@ part-result-start : tie.Need-part-result-start
 part-result-start c = search needs
 
 part-result-end : tie.Need-part-result-end
-part-result-end c = inside c .within
+part-result-end c = omega (arith, inside c .within)
 
 returns-2 : tie.Need-returns-2
 returns-2 c = window-shown (c .before .before .before .before .before .before .args .setting) (now (c .before .before .before .before .before .before .args .reception)) (c .before .before .before .before .before .before .args .j) (c .before .setting .result) (c .before .setting .ensures) (asked (c .before .before))

@@ -1,70 +1,81 @@
 -- `link::encode::encode`: refused by the first "no", or the transmission in front of what the area held.
-use mathlib.Core.Path.{_≡_, sym, ap, subst, _∙_}
+use mathlib.Core.Path.{sym, ap, subst, _∙_}
+use Prim.Native.Nat.{_+_, _*_, _/_, _≤_}
 use native.Mathlib.Omega.{arith}
 use denote.Ref.{now}
 use lib.ListN.{length}
 use lib.Seq.{length-take-le}
-use Rattle.code.specs.Settings.{Sound}
-use Rattle.code.proofs.Settings.{soundOf}
-use Rattle.link.specs.Questions.{firstNo, encodingQuestions}
+use Rattle.code.specs.declared.Setting.{Setting}
+use Rattle.code.specs.Windows.{Message}
+use Rattle.code.proofs.Settings.{sizesOf}
+use Rattle.link.specs.Questions.{mostBlocks}
 use Rattle.link.proofs.Answers.{EncodingYes, encoding-yes}
-use Rattle.link.proofs.Encoding.{Sent, sent-ready, encoded-refused, encoded-sent}
+use Rattle.link.proofs.Encoding.{encoded-refused, encoded-sent}
 use borrow.Author.Needs.{needs}
 use Rattle.link.proofs.encode.encode.Statement.{statement}
 use Rattle.link.proofs.encode.encode.Tie as tie
 
+-- Every question got "yes".
+known : (c : tie.Else1) → EncodingYes (c .before .before .before .before .before .args .setting) (now (c .before .before .before .before .before .args .message)) (length (now (c .before .before .before .before .before .args .transmission)))
+known c =
+    let entry = c .before .before .before .before .before in
+    encoding-yes (entry .args .setting) (now (entry .args .message)) (length (now (entry .args .transmission))) (ap (λ a. a .number) (sym (c .before .before .encoding-questions .ensures)) ∙ c .if1 .left)
+
+-- Of the setting in hand.
+information : (c : tie.After-setting) → 1 ≤ c .setting .result .k
+information c = subst (λ (p : Setting). 1 ≤ p .k) (sym (c .setting .ensures)) (sizesOf (c .before .before .before .before .before .before .args .setting) (known (c .before) .setting) .information)
+
+room : (c : tie.After-setting) → (length (now (c .before .before .before .before .before .before .args .message)) / c .setting .result .k + c .setting .result .m) * c .setting .result .n ≤ length (now (c .before .before .before .before .before .before .args .transmission))
+room c =
+    subst (λ (p : Setting). (length (now (c .before .before .before .before .before .before .args .message)) / p .k + p .m) * p .n ≤ length (now (c .before .before .before .before .before .before .args .transmission))) (sym (c .setting .ensures)) (known (c .before) .room)
+
+few : (c : tie.After-setting) → length (now (c .before .before .before .before .before .before .args .message)) / c .setting .result .k + c .setting .result .m ≤ mostBlocks + 255
+few c =
+    subst (λ (p : Setting). length (now (c .before .before .before .before .before .before .args .message)) / p .k + p .m ≤ mostBlocks + 255) (sym (c .setting .ensures))
+    (omega (arith, known (c .before) .most, sizesOf (c .before .before .before .before .before .before .args .setting) (known (c .before) .setting) .memory-most))
+
 encoding-questions-requires : tie.Need-encoding-questions-requires
-encoding-questions-requires c κs = tt
+encoding-questions-requires c κs = search needs
 
 returns : tie.Need-returns
-returns c = encoded-refused (c .before .before .before .before .before .args .setting) (now (c .before .before .before .before .before .args .message)) (now (c .before .before .before .before .before .args .transmission)) (c .before .before .encoding-questions .result) (c .before .before .encoding-questions .ensures) (c .if1 .taken)
-
--- Every question got "yes".
-asked : (c : tie.Else1) → firstNo (encodingQuestions (c .before .before .before .before .before .args .setting) (now (c .before .before .before .before .before .args .message)) (length (now (c .before .before .before .before .before .args .transmission)))) .number ≡ 0
-asked c = ap (λ a. a .number) (sym (c .before .before .encoding-questions .ensures)) ∙ c .if1 .left
-
-known : (c : tie.Else1) → EncodingYes (c .before .before .before .before .before .args .setting) (now (c .before .before .before .before .before .args .message)) (length (now (c .before .before .before .before .before .args .transmission)))
-known c = encoding-yes (c .before .before .before .before .before .args .setting) (now (c .before .before .before .before .before .args .message)) (length (now (c .before .before .before .before .before .args .transmission))) (asked c)
+returns c = let entry = c .before .before .before .before .before in encoded-refused (entry .args .setting) (now (entry .args .message)) (now (entry .args .transmission)) (c .before .before .encoding-questions .result) (c .before .before .encoding-questions .ensures) (c .if1 .taken)
 
 setting-requires : tie.Need-setting-requires
 setting-requires c κs = known c .setting
 
-tables-requires : tie.Need-tables-requires
-tables-requires c κs = subst Sound (sym (c .setting .ensures)) (soundOf (c .before .before .before .before .before .before .args .setting) (known (c .before) .setting)) .good
-
-rows-requires : tie.Need-rows-requires
-rows-requires c κs = known (c .before .before) .setting
-
-sent : (c : tie.After-rows) → Sent (c .before .before .setting .result) (c .before .tables .result) (c .rows .result) (now (c .before .before .before .before .before .before .before .before .args .message)) (length (now (c .before .before .before .before .before .before .before .before .args .transmission)))
-sent c =
-    sent-ready (c .before .before .before .before .before .before .before .before .args .setting) (now (c .before .before .before .before .before .before .before .before .args .message)) (now (c .before .before .before .before .before .before .before .before .args .transmission)) (c .before .before .setting .result) (c .before .tables .result) (c .rows .result)
-    (c .before .before .setting .ensures) (asked (c .before .before .before)) (c .before .tables .ensures) (c .rows .ensures)
-
 div-blocks : tie.Need-div-blocks
-div-blocks c = sent c .sending .ready .sound .information
+div-blocks c = information (c .before)
 
 add-long : tie.Need-add-long
-add-long c = omega (arith, sent c .sending .most, sent c .sending .ready .small .memory)
+add-long c = omega (arith, few (c .before .before))
 
 mul-long : tie.Need-mul-long
-mul-long c = omega (arith, sent c .room-is)
+mul-long c = omega (arith, room (c .before .before .before))
 
-slice-relend-prefix-send : tie.Need-slice-relend-prefix-send
-slice-relend-prefix-send c = sent (c .before .before) .room-is
+slice-relend-prefix-encode-frame : tie.Need-slice-relend-prefix-encode-frame
+slice-relend-prefix-encode-frame c = room (c .before .before .before)
 
-slice-aggregate-send : tie.Need-slice-aggregate-send
-slice-aggregate-send c = sym (length-take-le _ _ (sent (c .before .before .before) .room-is))
+slice-aggregate-encode-frame : tie.Need-slice-aggregate-encode-frame
+slice-aggregate-encode-frame c = sym (length-take-le _ _ (room (c .before .before .before .before)))
 
-send-requires : tie.Need-send-requires
-send-requires c κs = (sent (c .before .before .before) .sending, length-take-le _ _ (sent (c .before .before .before) .room-is))
+encode-frame-requires : tie.Need-encode-frame-requires
+encode-frame-requires c κs =
+    let at = c .before .before .before .before in
+    let is = at .setting .ensures in (
+      known (at .before) .setting,
+      is,
+      subst (λ (p : Setting). Message p (length (now (c .before .before .before .before .before .before .before .before .before .before .args .message)) / p .k) (now (c .before .before .before .before .before .before .before .before .before .before .args .message))) (sym is) (known (at .before) .message-of),
+      subst (λ (p : Setting). length (now (c .before .before .before .before .before .before .before .before .before .before .args .message)) / p .k ≤ mostBlocks) (sym is) (known (at .before) .most),
+      length-take-le _ _ (room at),
+    )
 
 same-length : tie.Need-same-length
 same-length c = search needs
 
 returns-2 : tie.Need-returns-2
 returns-2 c =
-    encoded-sent (c .before .before .before .before .before .before .before .before .before .before .before .before .before .before .args .setting) (now (c .before .before .before .before .before .before .before .before .before .before .before .before .before .before .args .message)) (now (c .before .before .before .before .before .before .before .before .before .before .before .before .before .before .args .transmission))
-    (c .before .before .before .before .before .before .before .before .before .before .before .encoding-questions .result) (c .before .before .before .before .before .before .before .before .setting .result) (c .before .before .before .before .before .before .before .before .before .before .before .encoding-questions .ensures) (c .before .before .before .before .before .before .before .before .before .if1 .left) (c .before .before .before .before .before .before .before .before .setting .ensures) (c .before .before .send .ensures)
+    let entry = c .before .before .before .before .before .before .before .before .before .before .before .before .before in
+    encoded-sent (entry .args .setting) (now (entry .args .message)) (now (entry .args .transmission)) (c .before .before .before .before .before .before .before .before .before .before .encoding-questions .result) (c .before .before .before .before .before .before .before .setting .result) (c .before .before .before .before .before .before .before .before .before .before .encoding-questions .ensures) (c .before .before .before .before .before .before .before .before .if1 .left) (c .before .before .before .before .before .before .before .setting .ensures) (c .before .before .encode-frame .ensures)
 
 pub encode-spec : {M : Type 1} → statement M
 encode-spec =
@@ -73,13 +84,11 @@ encode-spec =
     encoding-questions-requires
     returns
     setting-requires
-    tables-requires
-    rows-requires
     div-blocks
     add-long
     mul-long
-    slice-relend-prefix-send
-    slice-aggregate-send
-    send-requires
+    slice-relend-prefix-encode-frame
+    slice-aggregate-encode-frame
+    encode-frame-requires
     same-length
     returns-2)

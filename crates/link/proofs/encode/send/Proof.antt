@@ -20,7 +20,7 @@ clear-requires c κs = tt
 
 loop-holds : tie.Need-loop-holds Inv-loop μ-loop
 loop-holds c =
-    let entry = c .before .before .before .before .before .before in
+    let entry = c .before .before .before .before .before .before .before in
     let a = entry .args in
     let cleared = c .before .before .clear in
     let none : 0 ≡ 0 * a .p .k = omega arith in (
@@ -31,17 +31,17 @@ loop-holds c =
     )
 
 send-block-requires : tie.Need-send-block-requires Inv-loop μ-loop
-send-block-requires c κs = (c .before .before .before .before .before .before .before .before .before .pre .0, c .before .loop-test .taken, c .before .before .loop .inv .1)
+send-block-requires c κs = (c .before .before .before .before .before .before .before .before .before .before .pre .0, c .before .loop-test .taken, c .before .before .loop .inv .1)
 
 add-i : tie.Need-add-i Inv-loop μ-loop
-add-i c = omega (arith, c .before .before .before .before .before .before .before .before .before .before .before .before .pre .0 .most)
+add-i c = omega (arith, c .before .before .before .before .before .before .before .before .before .before .before .before .before .pre .0 .most)
 
 loop-less : tie.Need-loop-less Inv-loop μ-loop
 loop-less c = omega arith
 
 loop-again : tie.Need-loop-again Inv-loop μ-loop
 loop-again c =
-    let a = c .before .before .before .before .before .before .before .before .before .before .before .before .args in
+    let a = c .before .before .before .before .before .before .before .before .before .before .before .before .before .args in
     let i = c .before .before .before .before .before .loop .i in
     let next : i * a .p .k + a .p .k ≡ (i + 1) * a .p .k = omega arith in (
       omega arith,
@@ -49,11 +49,11 @@ loop-again c =
     )
 
 same-length : tie.Need-same-length Inv-loop μ-loop
-same-length c = c .before .loop .inv .1 .areas .left-long ∙ sym (c .before .before .before .before .before .before .before .before .pre .1)
+same-length c = c .before .loop .inv .1 .areas .left-long ∙ sym (c .before .before .before .before .before .before .before .before .before .pre .1)
 
 returns : tie.Need-returns Inv-loop μ-loop
 returns c =
-    let entry = c .before .before .before .before .before .before .before .before in
+    let entry = c .before .before .before .before .before .before .before .before .before in
     let a = entry .args in
     let all : c .before .loop .i ≡ a .blocks = omega arith in
     sent-all (a .p) (entry .pre .0 .ready .sound) (a .blocks) (now (a .message)) (entry .pre .0 .message-of) (c .before .loop .area)

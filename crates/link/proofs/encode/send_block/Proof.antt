@@ -5,6 +5,7 @@ use native.Mathlib.Nat.{mul-le-mul-right}
 use native.Mathlib.Omega.{arith}
 use denote.Ref.{now}
 use lib.ListN.{length}
+use Rattle.code.proofs.Settings.{sizes}
 use Rattle.field.proofs.Symbols.{symbols-part}
 use Rattle.code.specs.Windows.{windowLength}
 use Rattle.code.proofs.Numbers.{message-below}
@@ -31,39 +32,38 @@ window : (c : tie.Start Inv-loop μ-loop) → c .args .i * c .args .p .n + windo
 window c = window-room (c .args .p) (c .args .blocks) (c .args .i) (c .pre .2 .rest) (now (c .args .area)) (c .pre .2 .areas) (c .pre .1)
 
 mul-first : tie.Need-mul-first Inv-loop μ-loop
-mul-first c = omega (arith, block (c .before .before))
+mul-first c = omega (arith, block (c .before .before .before))
 
 mul-start : tie.Need-mul-start Inv-loop μ-loop
-mul-start c = omega (arith, window (c .before .before))
+mul-start c = omega (arith, window (c .before .before .before))
 
 add-end : tie.Need-add-end Inv-loop μ-loop
-add-end c = omega (arith, c .before .before .before .pre .0 .ready .small .memory)
+add-end c = let entry = c .before .before .before .before in omega (arith, sizes (entry .args .p) (entry .pre .0 .ready .sound) .memory-most)
 
 mul-end : tie.Need-mul-end Inv-loop μ-loop
-mul-end c = omega (arith, window (c .before .before .before))
+mul-end c = omega (arith, window (c .before .before .before .before))
 
 add-end-2 : tie.Need-add-end-2 Inv-loop μ-loop
-add-end-2 c = omega (arith, window (c .before .before .before))
+add-end-2 c = omega (arith, window (c .before .before .before .before))
 
 loop-holds : tie.Need-loop-holds Inv-loop μ-loop
 loop-holds c =
-    let a = c .before .before .before .args in
+    let a = c .before .before .before .before .args in
     let begin : a .i * a .p .k ≡ a .i * a .p .k + 0 = omega arith in
-    (omega arith, subst (λ (t : ℕ). SentTo (a .p) (a .blocks) (now (a .message)) t (now (a .area))) begin (c .before .before .before .pre .2))
+    (omega arith, subst (λ (t : ℕ). SentTo (a .p) (a .blocks) (now (a .message)) t (now (a .area))) begin (c .before .before .before .before .pre .2))
 
 add-symbol : tie.Need-add-symbol Inv-loop μ-loop
-add-symbol c = omega (arith, block (c .before .before .before .before .before))
+add-symbol c = omega (arith, block (c .before .before .before .before .before .before))
 
 shared-slice-read-symbol : tie.Need-shared-slice-read-symbol Inv-loop μ-loop
-shared-slice-read-symbol c = omega (arith, block (c .before .before .before .before .before .before))
+shared-slice-read-symbol c = omega (arith, block (c .before .before .before .before .before .before .before))
 
 -- The window lies within the area in every turn.
-room : (c : tie.After-shared-slice-known2 Inv-loop μ-loop)
-    → c .before .before .before .before .before .before .args .i * c .before .before .before .before .before .before .args .p .n + windowLength (c .before .before .before .before .before .before .args .p) ≤ length (c .before .before .loop .area)
+room : (c : tie.In-loop Inv-loop μ-loop) → c .before .before .before .before .before .before .args .i * c .before .before .before .before .before .before .args .p .n + windowLength (c .before .before .before .before .before .before .args .p) ≤ length (c .before .loop .area)
 room c =
-    let a = c .before .before .before .before .before .before .args in
-    let l = c .before .before .loop in
-    window-room (a .p) (a .blocks) (a .i) (l .inv .1 .rest) (l .area) (l .inv .1 .areas) (c .before .before .before .before .before .before .pre .1)
+    let entry = c .before .before .before .before .before .before in
+    let l = c .before .loop in
+    window-room (entry .args .p) (entry .args .blocks) (entry .args .i) (l .inv .1 .rest) (l .area) (l .inv .1 .areas) (entry .pre .1)
 
 sub-add-rows : tie.Need-sub-add-rows Inv-loop μ-loop
 sub-add-rows c = omega arith
@@ -72,30 +72,30 @@ part-add-rows-start : tie.Need-part-add-rows-start Inv-loop μ-loop
 part-add-rows-start c = omega arith
 
 part-add-rows-end : tie.Need-part-add-rows-end Inv-loop μ-loop
-part-add-rows-end c = room c
+part-add-rows-end c = room (c .before)
 
 add-rows-requires : tie.Need-add-rows-requires Inv-loop μ-loop
 add-rows-requires c κs =
-    let entry = c .before .before .before .before .before .before .before in
+    let entry = c .before .before .before .before .before .before .before .before in
     let a = entry .args in
     let l = c .before .before .before .loop in
     let sound = entry .pre .0 .ready .sound in (
       entry .pre .0 .ready,
       c .before .before .loop-test .taken,
       message-below (a .p) sound (a .blocks) (now (a .message)) (entry .pre .0 .message-of) (a .i) (l .r),
-      part-length (windowLength (a .p)) (a .i * a .p .n) (l .area) (room (c .before)),
+      part-length (windowLength (a .p)) (a .i * a .p .n) (l .area) (room (c .before .before)),
       symbols-part (a .p .q) (a .i * a .p .n) (a .i * a .p .n + windowLength (a .p)) (l .area) (l .inv .1 .areas .left-symbols),
     )
 
 add-r : tie.Need-add-r Inv-loop μ-loop
-add-r c = omega (arith, c .before .before .before .before .before .before .before .before .before .before .pre .0 .ready .small .information)
+add-r c = let entry = c .before .before .before .before .before .before .before .before .before .before .before in omega (arith, sizes (entry .args .p) (entry .pre .0 .ready .sound) .information-most)
 
 loop-less : tie.Need-loop-less Inv-loop μ-loop
 loop-less c = omega arith
 
 loop-again : tie.Need-loop-again Inv-loop μ-loop
 loop-again c =
-    let entry = c .before .before .before .before .before .before .before .before .before .before in
+    let entry = c .before .before .before .before .before .before .before .before .before .before .before in
     let a = entry .args in
     let l = c .before .before .before .before .before .before .loop in (
       omega arith,
@@ -104,11 +104,11 @@ loop-again c =
     )
 
 same-length : tie.Need-same-length Inv-loop μ-loop
-same-length c = c .before .loop .inv .1 .areas .left-long ∙ sym (c .before .before .before .before .before .pre .2 .areas .left-long)
+same-length c = c .before .loop .inv .1 .areas .left-long ∙ sym (c .before .before .before .before .before .before .pre .2 .areas .left-long)
 
 returns : tie.Need-returns Inv-loop μ-loop
 returns c =
-    let a = c .before .before .before .before .before .args in
+    let a = c .before .before .before .before .before .before .args in
     let all : c .before .loop .r ≡ a .p .k = omega arith in
     subst (λ (t : ℕ). SentTo (a .p) (a .blocks) (now (a .message)) (a .i * a .p .k + t) (c .before .loop .area)) all (c .before .loop .inv .1)
 

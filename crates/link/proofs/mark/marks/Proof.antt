@@ -33,10 +33,10 @@ add-differences : tie.Need-add-differences
 add-differences c = omega (arith, inside c .sizes .memory-most)
 
 mul-differences : tie.Need-mul-differences
-mul-differences c = omega (arith, inside c .small)
+mul-differences c = omega (arith, inside c .short)
 
 differences-requires : tie.Need-differences-requires
-differences-requires c κs = (omega (arith, inside c .small), inside c .within, omega (arith, inside c .within, known (c .before) .1))
+differences-requires c κs = (omega (arith, inside c .short), inside c .within, omega (arith, inside c .within, known (c .before) .1))
 
 returns-2 : tie.Need-returns-2
 returns-2 c =

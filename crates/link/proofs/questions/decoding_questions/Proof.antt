@@ -8,7 +8,7 @@ use borrow.Author.Tests.{eq-eqb, ne-eqb, le-leb, lt-leb}
 use Rattle.code.specs.declared.Setting.{Setting}
 use Rattle.code.specs.Settings.{settingOf}
 use Rattle.link.specs.Questions.{firstNo, frameQuestions}
-use Rattle.link.proofs.Answers.{append-no, after-frame, decodingLater, FrameYes, frame-yes, Frame, message-small, transmission-small}
+use Rattle.link.proofs.Answers.{append-no, after-frame, decodingLater, FrameYes, frame-yes, Frame, message-most, transmission-most}
 use Rattle.link.proofs.questions.decoding_questions.Statement.{statement}
 use Rattle.link.proofs.questions.decoding_questions.Tie as tie
 
@@ -61,7 +61,7 @@ sub-blocks : tie.Need-sub-blocks
 sub-blocks c = omega (arith, frame (c .before .before) .blocks)
 
 mul-if3 : tie.Need-mul-if3
-mul-if3 c = omega (arith, message-small (c .before .before .setting .result) _ (frame (c .before .before) .sizes) (frame (c .before .before) .most))
+mul-if3 c = omega (arith, message-most (c .before .before .before .before .before .before .before .args .number) (c .before .before .setting .result) _ (asked (c .before .before .before) .setting) (c .before .before .setting .ensures) (frame (c .before .before) .most))
 
 no-requires-2 : tie.Need-no-requires-2
 no-requires-2 c κs = tt
@@ -75,7 +75,7 @@ add-if4 : tie.Need-add-if4
 add-if4 c = omega (arith, frame (c .before .before .before) .most, frame (c .before .before .before) .sizes .memory-most)
 
 mul-if4 : tie.Need-mul-if4
-mul-if4 c = omega (arith, transmission-small (c .before .before .before .setting .result) _ (frame (c .before .before .before) .sizes) (frame (c .before .before .before) .most))
+mul-if4 c = omega (arith, transmission-most (c .before .before .before .before .before .before .before .before .args .number) (c .before .before .before .setting .result) _ (asked (c .before .before .before .before) .setting) (c .before .before .before .setting .ensures) (frame (c .before .before .before) .most))
 
 no-requires-3 : tie.Need-no-requires-3
 no-requires-3 c κs = tt

@@ -7,9 +7,9 @@ use denote.Ref.{now}
 use lib.Dec.{T}
 use borrow.Author.Tests.{eq-eqb, ne-eqb, le-leb, lt-leb, not-true, not-false}
 use Rattle.code.specs.Settings.{isSetting, settingOf}
-use Rattle.tables.proofs.Small.{Sizes, sizesOf}
+use Rattle.code.proofs.Settings.{Sizes, sizesOf}
 use Rattle.link.specs.Questions.{ask, firstNo}
-use Rattle.link.proofs.Answers.{first-no, after-first, encodingLater, transmission-small}
+use Rattle.link.proofs.Answers.{first-no, after-first, encodingLater, transmission-most}
 use Rattle.link.proofs.questions.encoding_questions.Statement.{statement}
 use Rattle.link.proofs.questions.encoding_questions.Tie as tie
 
@@ -90,7 +90,7 @@ add-if6 : tie.Need-add-if6
 add-if6 c = omega (arith, c .before .before .if4 .left, sizes (c .before .before .before .before .before) .memory-most)
 
 mul-if6 : tie.Need-mul-if6
-mul-if6 c = omega (arith, transmission-small (c .before .before .before .before .before .setting .result) _ (sizes (c .before .before .before .before .before)) (c .before .before .if4 .left))
+mul-if6 c = omega (arith, transmission-most (c .before .before .before .before .before .before .before .before .before .args .number) (c .before .before .before .before .before .setting .result) _ (subst T (sym (known (c .before .before .before .before .before .before))) tt) (c .before .before .before .before .before .setting .ensures) (c .before .before .if4 .left))
 
 no-requires-6 : tie.Need-no-requires-6
 no-requires-6 c κs = tt

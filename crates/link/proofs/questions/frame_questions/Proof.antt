@@ -8,7 +8,7 @@ use native.Mathlib.Omega.{arith}
 use lib.Dec.{T}
 use borrow.Author.Tests.{eq-eqb, ne-eqb, le-leb, lt-leb, not-true, not-false}
 use Rattle.code.specs.Settings.{isSetting, settingOf}
-use Rattle.tables.proofs.Small.{Sizes, sizesOf}
+use Rattle.code.proofs.Settings.{Sizes, sizesOf}
 use Rattle.link.specs.Questions.{firstNo, ask}
 use Rattle.link.proofs.Answers.{first-no, after-first, frameLater, window-small}
 use Rattle.link.proofs.questions.frame_questions.Statement.{statement}

@@ -1,115 +1,78 @@
--- `tables::product::add_row`: the multiple of the row was added to the first i symbols.
-use mathlib.Core.Path.{_≡_, ap, subst, _∙_}
-use Prim.Native.Nat.{ℕ, _+_, _-_, _*_, _≤_}
+-- `tables::product::add_row`: the row is that part of the rows.
+use mathlib.Core.Path.{sym, _∙_}
+use Prim.Native.Nat.{_+_, _*_, _≤_}
+use native.Mathlib.Nat.{mul-le-mul-left}
 use native.Mathlib.Omega.{arith}
+use borrow.Author.Needs.{needs}
 use denote.Ref.{now}
-use lib.ListN.{getD}
-use Rattle.field.specs.Fields.{opsOf}
-use Rattle.field.proofs.Symbols.{symbol-below}
-use Rattle.code.proofs.Numbers.{positive}
-use Rattle.tables.specs.Adding.{RowAdded}
-use Rattle.tables.proofs.Places.{Place, place-of}
-use Rattle.tables.proofs.Adding.{row-none, row-more}
+use lib.ListN.{length}
+use Rattle.code.proofs.Settings.{block-positive}
+use Rattle.tables.proofs.Parts.{part-length}
+use Rattle.tables.proofs.Adding.{row-room, row-symbols, row-added}
 use Rattle.tables.proofs.product.add_row.Statement.{statement}
 use Rattle.tables.proofs.product.add_row.Tie as tie
 
-abbrev Inv-loop : tie.InvT-loop
-Inv-loop p products rows r v j block₀ q n i₀ block i = (i ≤ p .n) × RowAdded p r v j i block₀ block
+-- The row lies within the rows.
+room : (c : tie.Start) → (c .args .j * c .args .p .k + c .args .r) * c .args .p .n + c .args .p .n ≤ length (now (c .args .rows))
+room c = let a = c .args in row-room (a .p) (c .pre .0 .sound) (now (a .rows)) (c .pre .0 .rows) (a .j) (a .r) (c .pre .3) (c .pre .1)
 
-abbrev μ-loop : tie.MeasureT-loop
-μ-loop p products rows r v j block₀ q n i₀ block i = p .n - i
+-- So do the steps to its place.
+wide : (c : tie.Start) → c .args .j * c .args .p .k + c .args .r ≤ (c .args .j * c .args .p .k + c .args .r) * c .args .p .n
+wide c = let a = c .args in omega (arith, mul-le-mul-left (a .j * a .p .k + a .r) (block-positive (a .p) (c .pre .0 .sound)))
 
-loop-holds : tie.Need-loop-holds Inv-loop μ-loop
-loop-holds c =
-    let a = c .before .args in
-    (omega arith, row-none (a .p) (a .r) (a .v) (a .j) (now (a .block)) (c .before .pre .5))
+mul-start : tie.Need-mul-start
+mul-start c = omega (arith, room (c .before .before .before), wide (c .before .before .before))
 
-slice-read-add-product : tie.Need-slice-read-add-product Inv-loop μ-loop
-slice-read-add-product c = omega (arith, c .before .before .loop .inv .1 .long, c .before .before .before .before .pre .4)
+add-start : tie.Need-add-start
+add-start c = omega (arith, room (c .before .before .before), wide (c .before .before .before))
 
--- The place of the row's symbol.
-placed : (c : tie.After-struct-known Inv-loop μ-loop)
-    → Place (c .before .before .before .before .before .args .p .n) (c .before .before .before .before .before .args .p .k) (c .before .before .before .before .before .args .j) (c .before .before .before .before .before .args .r) (c .before .before .before .loop .i)
-placed c =
+mul-start-2 : tie.Need-mul-start-2
+mul-start-2 c = omega (arith, room (c .before .before .before))
+
+add-end : tie.Need-add-end
+add-end c = omega (arith, room (c .before .before .before))
+
+sub-add-multiple : tie.Need-sub-add-multiple
+sub-add-multiple c = search needs
+
+part-add-multiple-start : tie.Need-part-add-multiple-start
+part-add-multiple-start c = search needs
+
+part-add-multiple-end : tie.Need-part-add-multiple-end
+part-add-multiple-end c = room (c .before .before .before)
+
+add-multiple-requires : tie.Need-add-multiple-requires
+add-multiple-requires c κs =
     let entry = c .before .before .before .before .before in
-    place-of (entry .args .p) (entry .pre .0 .small) (entry .args .j) (entry .args .r) (c .before .before .before .loop .i) (entry .pre .3) (entry .pre .1) (c .before .before .loop-test .taken)
-
-mul-add-product : tie.Need-mul-add-product Inv-loop μ-loop
-mul-add-product c = omega (arith, placed c .group)
-
-add-add-product : tie.Need-add-add-product Inv-loop μ-loop
-add-add-product c = omega (arith, placed c .row)
-
-mul-add-product-2 : tie.Need-mul-add-product-2 Inv-loop μ-loop
-mul-add-product-2 c = omega (arith, placed c .start)
-
-add-add-product-2 : tie.Need-add-add-product-2 Inv-loop μ-loop
-add-add-product-2 c = omega (arith, placed c .place)
-
-element-copy-out-add-product : tie.Need-element-copy-out-add-product Inv-loop μ-loop
-element-copy-out-add-product c = placed c .place
-
-add-product-requires : tie.Need-add-product-requires Inv-loop μ-loop
-add-product-requires c κs =
-    let entry = c .before .before .before .before .before .before in
-    let a = entry .args in
-    let l = c .before .before .before .before .loop in
-    let positive-q = positive (a .p) (entry .pre .0 .sound) in (
+    let a = entry .args in (
       entry .pre .0 .sound .good,
       entry .pre .0 .products,
-      symbol-below (a .p .q) (l .block) (l .inv .1 .symbols) positive-q (l .i),
       entry .pre .2,
-      symbol-below (a .p .q) (now (a .rows)) (entry .pre .0 .rows .symbols) positive-q ((a .j * a .p .k + a .r) * a .p .n + l .i),
+      row-symbols (a .p) (entry .pre .0 .sound) (now (a .rows)) (entry .pre .0 .rows) (a .j) (a .r) (entry .pre .3) (entry .pre .1),
+      entry .pre .5,
+      part-length (a .p .n) ((a .j * a .p .k + a .r) * a .p .n) (now (a .rows)) (room entry) ∙ sym (entry .pre .4),
     )
 
-slice-write-block : tie.Need-slice-write-block Inv-loop μ-loop
-slice-write-block c = omega (arith, c .before .before .before .before .before .loop .inv .1 .long, c .before .before .before .before .before .before .before .pre .4)
+same-length : tie.Need-same-length
+same-length c = search needs
 
-add-i : tie.Need-add-i Inv-loop μ-loop
-add-i c = omega (arith, c .before .before .before .before .before .before .before .pre .4)
-
-loop-less : tie.Need-loop-less Inv-loop μ-loop
-loop-less c = omega arith
-
-loop-again : tie.Need-loop-again Inv-loop μ-loop
-loop-again c =
-    let entry = c .before .before .before .before .before .before .before in
-    let a = entry .args in
-    let l = c .before .before .before .before .before .loop in (
-      omega arith,
-      row-more (a .p) (a .r) (a .v) (a .j) (now (a .block)) (l .i) (l .block) (c .add-product .result) (l .inv .1) (omega (arith, entry .pre .4))
-          (c .add-product .ensures .same
-          ∙ ap (λ (t : ℕ). opsOf (a .p .q) .add (getD (l .block) (l .i) 0) (opsOf (a .p .q) .mul (a .v) t))
-          (entry .pre .0 .rows .at (a .j) (a .r) (l .i) (omega (arith, entry .pre .3)) (entry .pre .1) (c .before .before .before .before .loop-test .taken)))
-          (c .add-product .ensures .below),
-    )
-
-same-length : tie.Need-same-length Inv-loop μ-loop
-same-length c = c .before .loop .inv .1 .long
-
-returns : tie.Need-returns Inv-loop μ-loop
+returns : tie.Need-returns
 returns c =
-    let a = c .before .before .before .args in
-    let done : c .before .loop .i ≡ a .p .n = omega arith in
-    subst (λ (t : ℕ). RowAdded (a .p) (a .r) (a .v) (a .j) t (now (a .block)) (c .before .loop .block)) done (c .before .loop .inv .1)
+    let entry = c .before .before .before .before .before .before .before .before in
+    let a = entry .args in
+    row-added (a .p) (entry .pre .0 .sound) (now (a .rows)) (entry .pre .0 .rows) (a .j) (a .r) (entry .pre .3) (entry .pre .1) (a .v) (now (a .block)) (c .before .before .add-multiple .last .1 .1 .1 .1 .0) (entry .pre .4) (c .before .before .add-multiple .ensures)
 
 pub add-row-spec : {M : Type 1} → statement M
 add-row-spec =
     tie.close
     (tie.spec
-    Inv-loop
-    μ-loop
-    loop-holds
-    slice-read-add-product
-    mul-add-product
-    add-add-product
-    mul-add-product-2
-    add-add-product-2
-    element-copy-out-add-product
-    add-product-requires
-    slice-write-block
-    add-i
-    loop-less
-    loop-again
+    mul-start
+    add-start
+    mul-start-2
+    add-end
+    sub-add-multiple
+    part-add-multiple-start
+    part-add-multiple-end
+    add-multiple-requires
     same-length
     returns)

@@ -6,6 +6,7 @@ use native.Mathlib.Nat.{mul-le-mul-right}
 use denote.Ref.{now}
 use lib.ListN.{length}
 use Rattle.field.proofs.Symbols.{symbols-part}
+use Rattle.code.proofs.Settings.{sizes}
 use Rattle.tables.specs.Adding.{RowsAdded}
 use Rattle.tables.proofs.Parts.{part-length}
 use Rattle.tables.proofs.Adding.{rows-none, rows-more}
@@ -20,13 +21,13 @@ abbrev μ-loop : tie.MeasureT-loop
 
 loop-holds : tie.Need-loop-holds Inv-loop μ-loop
 loop-holds c =
-    let entry = c .before in
+    let entry = c .before .before in
     (omega arith, omega arith, rows-none (entry .args .p) (entry .args .r) (entry .args .v) (now (entry .args .window)) (entry .pre .4))
 
 -- The block in turn lies within the window.
-inside : (c : tie.In-loop Inv-loop μ-loop) → c .before .loop .start + c .before .before .before .args .p .n ≤ length (c .before .loop .window)
+inside : (c : tie.In-loop Inv-loop μ-loop) → c .before .loop .start + c .before .before .before .before .args .p .n ≤ length (c .before .loop .window)
 inside c =
-    let entry = c .before .before .before in
+    let entry = c .before .before .before .before in
     let l = c .before .loop in
     let top : l .j + 1 ≤ entry .args .p .m + 1 = omega arith in
     omega (arith, mul-le-mul-right (entry .args .p .n) top, entry .pre .3, l .inv .2 .long, l .inv .1)
@@ -45,7 +46,7 @@ part-add-row-end c = inside c
 
 add-row-requires : tie.Need-add-row-requires Inv-loop μ-loop
 add-row-requires c κs =
-    let entry = c .before .before .before .before in
+    let entry = c .before .before .before .before .before in
     let l = c .before .before .loop in
     let a = entry .args in (
       entry .pre .0,
@@ -57,14 +58,14 @@ add-row-requires c κs =
     )
 
 add-j : tie.Need-add-j Inv-loop μ-loop
-add-j c = omega (arith, c .before .before .before .before .before .before .before .pre .0 .small .memory)
+add-j c = let entry = c .before .before .before .before .before .before .before .before in omega (arith, sizes (entry .args .p) (entry .pre .0 .sound) .memory-most)
 
 loop-less : tie.Need-loop-less Inv-loop μ-loop
 loop-less c = omega arith
 
 loop-again : tie.Need-loop-again Inv-loop μ-loop
 loop-again c =
-    let entry = c .before .before .before .before .before .before .before in
+    let entry = c .before .before .before .before .before .before .before .before in
     let l = c .before .before .before .before .before .loop in
     let a = entry .args in (
       omega arith,
@@ -78,7 +79,7 @@ same-length c = c .before .loop .inv .2 .long
 
 returns : tie.Need-returns Inv-loop μ-loop
 returns c =
-    let a = c .before .before .before .args in
+    let a = c .before .before .before .before .args in
     let done : c .before .loop .j ≡ a .p .m + 1 = omega arith in
     subst (λ (t : ℕ). RowsAdded (a .p) (a .r) (a .v) t (now (a .window)) (c .before .loop .window)) done (c .before .loop .inv .2)
 

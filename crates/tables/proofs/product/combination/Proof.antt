@@ -11,6 +11,7 @@ use Rattle.field.specs.Symbols.{Is}
 use Rattle.code.specs.Generator.{timesG}
 use Rattle.code.specs.Transmission.{view}
 use Rattle.code.specs.Settings.{codeOf}
+use Rattle.code.proofs.Settings.{sizes}
 use Rattle.code.proofs.Numbers.{positive}
 use Rattle.tables.proofs.Places.{combination-sum, combination-sum-all, sum-more}
 use Rattle.tables.proofs.product.combination.Statement.{statement}
@@ -24,13 +25,13 @@ abbrev μ-loop : tie.MeasureT-loop
 
 loop-holds : tie.Need-loop-holds Inv-loop μ-loop
 unfolding sum opsOf
-loop-holds c = (omega arith, record { same = refl; below = positive (c .before .args .p) (c .before .pre .0 .sound) })
+loop-holds c = (omega arith, record { same = refl; below = positive (c .before .before .args .p) (c .before .before .pre .0 .sound) })
 
 -- The l - j + 1 blocks up to the one in turn lie within the information.
 within : (c : tie.In-loop Inv-loop μ-loop)
-    → (c .before .before .before .args .l - c .before .loop .j + 1) * c .before .before .before .args .p .k ≤ length (now (c .before .before .before .args .information))
+    → (c .before .before .before .before .args .l - c .before .loop .j + 1) * c .before .before .before .before .args .p .k ≤ length (now (c .before .before .before .before .args .information))
 within c =
-    let entry = c .before .before .before in
+    let entry = c .before .before .before .before in
     let top : entry .args .l - c .before .loop .j + 1 ≤ entry .args .l + 1 = omega arith in
     omega (arith, mul-le-mul-right (entry .args .p .k) top, entry .pre .2)
 
@@ -39,21 +40,21 @@ mul-times-g c = omega (arith, within c)
 
 times-g-requires : tie.Need-times-g-requires Inv-loop μ-loop
 times-g-requires c κs =
-    let entry = c .before .before .before in
+    let entry = c .before .before .before .before in
     (entry .pre .0, entry .pre .1, omega (arith, within c), omega (arith, entry .pre .3), entry .pre .4)
 
 add-requires : tie.Need-add-requires Inv-loop μ-loop
-add-requires c κs = (c .before .before .before .before .pre .0 .sound .good, c .before .before .loop .inv .1 .below, c .times-g .ensures .below)
+add-requires c κs = (c .before .before .before .before .before .pre .0 .sound .good, c .before .before .loop .inv .1 .below, c .times-g .ensures .below)
 
 add-j : tie.Need-add-j Inv-loop μ-loop
-add-j c = omega (arith, c .before .before .before .before .before .pre .3, c .before .before .before .before .before .pre .0 .small .memory)
+add-j c = let entry = c .before .before .before .before .before .before in omega (arith, entry .pre .3, sizes (entry .args .p) (entry .pre .0 .sound) .memory-most)
 
 loop-less : tie.Need-loop-less Inv-loop μ-loop
 loop-less c = omega arith
 
 loop-again : tie.Need-loop-again Inv-loop μ-loop
 loop-again c =
-    let entry = c .before .before .before .before .before in (
+    let entry = c .before .before .before .before .before .before in (
       omega arith,
       record {
         same =
@@ -67,7 +68,7 @@ loop-again c =
 
 returns : tie.Need-returns Inv-loop μ-loop
 returns c =
-    let entry = c .before .before .before in
+    let entry = c .before .before .before .before in
     let all : c .before .loop .j ≡ entry .args .l + 1 = omega arith in
     record {
       same =

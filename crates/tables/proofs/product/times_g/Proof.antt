@@ -8,6 +8,7 @@ use Rattle.algebra.specs.Sum.{sum}
 use Rattle.field.specs.Fields.{opsOf}
 use Rattle.field.specs.Symbols.{Is}
 use Rattle.field.proofs.Symbols.{symbol-below}
+use Rattle.code.proofs.Settings.{sizes}
 use Rattle.code.proofs.Numbers.{positive}
 use Rattle.tables.proofs.Places.{Place, place-of, product-sum, sum-more, product-sum-all}
 use Rattle.tables.proofs.product.times_g.Statement.{statement}
@@ -21,17 +22,17 @@ abbrev μ-loop : tie.MeasureT-loop
 
 loop-holds : tie.Need-loop-holds Inv-loop μ-loop
 unfolding sum opsOf
-loop-holds c = (omega arith, record { same = refl; below = positive (c .before .args .p) (c .before .pre .0 .sound) })
+loop-holds c = (omega arith, record { same = refl; below = positive (c .before .before .args .p) (c .before .before .pre .0 .sound) })
 
 add-add-product : tie.Need-add-add-product Inv-loop μ-loop
 add-add-product c = omega arith
 
 -- The place of the row's symbol.
-placed : (c : tie.After-shared-slice-known2 Inv-loop μ-loop)
-    → Place (c .before .before .before .before .args .p .n) (c .before .before .before .before .args .p .k) (c .before .before .before .before .args .j) (c .before .before .loop .r) (c .before .before .before .before .args .i)
+placed : (c : tie.After-shared-slice-known3 Inv-loop μ-loop)
+    → Place (c .before .before .before .before .before .args .p) (now (c .before .before .before .before .before .args .rows)) (c .before .before .before .before .before .args .j) (c .before .before .loop .r) (c .before .before .before .before .before .args .i)
 placed c =
-    let entry = c .before .before .before .before in
-    place-of (entry .args .p) (entry .pre .0 .small) (entry .args .j) (c .before .before .loop .r) (entry .args .i) (entry .pre .3) (c .before .loop-test .taken) (entry .pre .4)
+    let entry = c .before .before .before .before .before in
+    place-of (entry .args .p) (entry .pre .0 .sound) (now (entry .args .rows)) (entry .pre .0 .rows) (entry .args .j) (c .before .before .loop .r) (entry .args .i) (entry .pre .3) (c .before .loop-test .taken) (entry .pre .4)
 
 shared-slice-read-add-product : tie.Need-shared-slice-read-add-product Inv-loop μ-loop
 shared-slice-read-add-product c = omega arith
@@ -48,30 +49,29 @@ mul-add-product-2 c = omega (arith, placed c .start)
 add-add-product-3 : tie.Need-add-add-product-3 Inv-loop μ-loop
 add-add-product-3 c = omega (arith, placed c .place)
 
-element-copy-out-add-product : tie.Need-element-copy-out-add-product Inv-loop μ-loop
-element-copy-out-add-product c = placed c .place
+shared-slice-read-add-product-2 : tie.Need-shared-slice-read-add-product-2 Inv-loop μ-loop
+shared-slice-read-add-product-2 c = placed (c .before) .place
 
 add-product-requires : tie.Need-add-product-requires Inv-loop μ-loop
 add-product-requires c κs =
-    let entry = c .before .before .before .before .before in
+    let entry = c .before .before .before .before .before .before in
     let positive-q = positive (entry .args .p) (entry .pre .0 .sound) in (
       entry .pre .0 .sound .good,
       entry .pre .0 .products,
       c .before .before .before .loop .inv .1 .below,
       symbol-below (entry .args .p .q) (now (entry .args .information)) (entry .pre .1) positive-q (entry .args .from + c .before .before .before .loop .r),
-      symbol-below (entry .args .p .q) (now (entry .args .rows)) (entry .pre .0 .rows .symbols) positive-q
-          ((entry .args .j * entry .args .p .k + c .before .before .before .loop .r) * entry .args .p .n + entry .args .i),
+      placed (c .before) .below,
     )
 
 add-r : tie.Need-add-r Inv-loop μ-loop
-add-r c = omega (arith, c .before .before .before .before .before .before .pre .0 .small .information)
+add-r c = let entry = c .before .before .before .before .before .before .before in omega (arith, sizes (entry .args .p) (entry .pre .0 .sound) .information-most)
 
 loop-less : tie.Need-loop-less Inv-loop μ-loop
 loop-less c = omega arith
 
 loop-again : tie.Need-loop-again Inv-loop μ-loop
 loop-again c =
-    let entry = c .before .before .before .before .before .before in
+    let entry = c .before .before .before .before .before .before .before in
     let r = c .before .before .before .before .loop .r in (
       omega arith,
       record {
@@ -88,7 +88,7 @@ loop-again c =
 
 returns : tie.Need-returns Inv-loop μ-loop
 returns c =
-    let entry = c .before .before .before in
+    let entry = c .before .before .before .before in
     let all : c .before .loop .r ≡ entry .args .p .k = omega arith in
     record {
       same =
@@ -112,7 +112,7 @@ times-g-spec =
     add-add-product-2
     mul-add-product-2
     add-add-product-3
-    element-copy-out-add-product
+    shared-slice-read-add-product-2
     add-product-requires
     add-r
     loop-less

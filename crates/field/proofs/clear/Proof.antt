@@ -1,4 +1,4 @@
--- `frame::area::clear`: zeros from the front.
+-- `field::clear`: zeros from the front.
 use mathlib.Core.Path.{_≡_, refl, ap, _∙_}
 use mathlib.Core.List.{List, _++_}
 use Prim.Native.Nat.{ℕ, _-_, _≤_}
@@ -8,8 +8,8 @@ use lib.ListN.{length, drop, replicate, set, length-set}
 use lib.Seq.{drop-length}
 use mathlib.Core.List.{append-nil}
 use borrow.Author.Fill.{fill-none, fill-more}
-use Rattle.frame.proofs.area.clear.Statement.{statement}
-use Rattle.frame.proofs.area.clear.Tie as tie
+use Rattle.field.proofs.clear.Statement.{statement}
+use Rattle.field.proofs.clear.Tie as tie
 
 abbrev Inv-loop : tie.InvT-loop
 Inv-loop area₀ i₀ area i = (i ≤ length area₀) × (length area ≡ length area₀) × (area ≡ replicate i 0 ++ drop i area₀)

@@ -1,0 +1,78 @@
+-- `block::begin` meets its contract.
+use mathlib.Core.Path.{sym, _∙_}
+use native.Mathlib.Omega.{arith}
+use Rattle.code.proofs.Settings.{sizes, level-fits}
+use Rattle.block.proofs.Spectra.{point-none, spectrum-none}
+use borrow.Author.Needs.{needs}
+use Rattle.block.proofs.begin.Statement.{statement}
+use Rattle.block.proofs.begin.Tie as tie
+
+add-zeros : tie.Need-add-zeros
+add-zeros c = let entry = c .before .before .before .before .before in omega (arith, entry .pre .3, sizes (entry .args .p) (entry .pre .0) .memory-most)
+
+mul-zeros : tie.Need-mul-zeros
+mul-zeros c = let entry = c .before .before .before .before .before .before in omega (arith, level-fits (entry .args .p) (entry .pre .0) (entry .args .l) (entry .pre .3), sizes (entry .args .p) (entry .pre .0) .symbols-most)
+
+sub-zeros : tie.Need-sub-zeros
+sub-zeros c = let entry = c .before .before .before .before .before .before .before in level-fits (entry .args .p) (entry .pre .0) (entry .args .l) (entry .pre .3)
+
+unit-requires : tie.Need-unit-requires
+unit-requires c κs = search needs
+
+add-values-requires : tie.Need-add-values-requires
+add-values-requires c κs =
+    let entry = c .before .before .before .before .before .before .before .before .before .before .before .before in
+    let good = entry .pre .0 .good in
+    (good, entry .pre .1, entry .pre .2, omega arith, omega (arith, c .before .before .before .unit .kept .0, entry .pre .4 .series-long), point-none _ good, spectrum-none _ _ _ good (c .before .before .before .unit .ensures))
+
+add-locate : tie.Need-add-locate
+add-locate c = search needs
+
+locate-requires : tie.Need-locate-requires
+locate-requires c κs =
+    let entry = c .before .before .before .before .before .before .before .before .before .before .before .before .before .before .before .before .before .before .before in
+    let room = entry .pre .4 in
+    let spectral = c .before .before .before .before .before .before .add-values .ensures .1 in
+    let long = c .before .before .before .before .before .before .add-values .kept .1 .1 .1 .1 .1 .1 .0 ∙ (c .before .before .before .before .before .before .before .before .before .before .unit .kept .0 ∙ room .series-long) in (
+      entry .pre .0 .good,
+      entry .pre .1,
+      spectral .below,
+      spectral .first,
+      omega arith,
+      omega (arith, long),
+      room .locator-long ∙ sym long,
+      room .values-long ∙ sym long,
+      room .information-long ∙ sym long,
+    )
+
+same-length : tie.Need-same-length
+same-length c = search needs
+
+same-length-2 : tie.Need-same-length-2
+same-length-2 c = search needs
+
+same-length-3 : tie.Need-same-length-3
+same-length-3 c = search needs
+
+same-length-4 : tie.Need-same-length-4
+same-length-4 c = search needs
+
+returns : tie.Need-returns
+returns c = search needs
+
+pub begin-spec : {M : Type 1} → statement M
+begin-spec =
+    tie.close
+    (tie.spec
+    add-zeros
+    mul-zeros
+    sub-zeros
+    unit-requires
+    add-values-requires
+    add-locate
+    locate-requires
+    same-length
+    same-length-2
+    same-length-3
+    same-length-4
+    returns)

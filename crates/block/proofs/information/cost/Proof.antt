@@ -1,0 +1,89 @@
+-- `block::information::cost` meets its contract. The loop's invariant: the cost is that of the first i symbols.
+use Prim.Native.Nat.{ℕ, _≤_, _-_, _+_, _*_}
+use mathlib.Core.Path.{_≡_, sym, ap, _∙_}
+use mathlib.Core.List.{List}
+use native.Mathlib.Omega.{arith}
+use denote.Ref.{now}
+use Rattle.algebra.specs.Weight.{total}
+use Rattle.code.specs.declared.Setting.{Setting}
+use Rattle.code.specs.Transmission.{view}
+use Rattle.code.specs.Level.{combination}
+use Rattle.code.specs.Cost.{symbolCost, blockCost}
+use Rattle.code.specs.Settings.{codeOf}
+use Rattle.code.proofs.Settings.{sizes}
+use Rattle.code.proofs.Cost.{cost-same, cost-differ}
+use Rattle.block.specs.Area.{at}
+use Rattle.block.proofs.Accumulated.{total-none, total-same, total-more, all-symbols}
+use Rattle.block.proofs.information.cost.Statement.{statement}
+use Rattle.block.proofs.information.cost.Tie as tie
+
+-- What symbol i costs.
+abbrev symbol : Setting → List ℕ → ℕ → List ℕ → ℕ → ℕ
+symbol p information l block i = symbolCost (p .q) (at block i) (combination (codeOf p) l (view (p .k) information) i)
+
+abbrev Inv-loop : tie.InvT-loop
+Inv-loop p products rows information l block n cost₀ i₀ cost i = (i ≤ n) × (cost ≤ 2 * i) × (cost ≡ total i (symbol p information l block))
+
+abbrev μ-loop : tie.MeasureT-loop
+μ-loop p products rows information l block n cost₀ i₀ cost i = n - i
+
+loop-holds : tie.Need-loop-holds Inv-loop μ-loop
+loop-holds c = let a = c .before .before .before .args in (omega arith, omega arith, total-none (symbol (a .p) (now (a .information)) (a .l) (now (a .block))))
+
+combination-requires : tie.Need-combination-requires Inv-loop μ-loop
+combination-requires c κs = let p = c .before .before .before .before .before .pre in (p .0, all-symbols (p .1), p .2, p .3, omega arith)
+
+shared-slice-read-received : tie.Need-shared-slice-read-received Inv-loop μ-loop
+shared-slice-read-received c = omega arith
+
+add-i : tie.Need-add-i Inv-loop μ-loop
+add-i c = omega arith
+
+loop-less : tie.Need-loop-less Inv-loop μ-loop
+loop-less c = omega arith
+
+loop-again : tie.Need-loop-again Inv-loop μ-loop
+loop-again c =
+    let l = c .before .before .before .before .loop in
+    let a = c .before .before .before .before .before .before .before .before .args in
+    (omega arith, omega arith, l .inv .2 ∙ total-same (symbol (a .p) (now (a .information)) (a .l) (now (a .block))) (l .i) (cost-same (a .p .q) _ _ (c .if1 .taken ∙ c .before .before .combination .ensures .same)))
+
+add-cost : tie.Need-add-cost Inv-loop μ-loop
+add-cost c = let entry = c .before .before .before .before .before .before .before .before in omega (arith, sizes (entry .args .p) (entry .pre .0 .sound) .symbols-most)
+
+loop-less-2 : tie.Need-loop-less-2 Inv-loop μ-loop
+loop-less-2 c = omega arith
+
+loop-again-2 : tie.Need-loop-again-2 Inv-loop μ-loop
+loop-again-2 c =
+    let l = c .before .before .before .before .loop in
+    let a = c .before .before .before .before .before .before .before .before .args in (
+      omega arith,
+      omega arith,
+      ap (λ (t : ℕ). t + 2) (l .inv .2)
+          ∙ total-more (symbol (a .p) (now (a .information)) (a .l) (now (a .block))) (l .i) 2 (cost-differ (a .p .q) _ _ (λ e. c .if1 .left (e ∙ sym (c .before .before .combination .ensures .same)))),
+    )
+
+returns : tie.Need-returns Inv-loop μ-loop
+unfolding blockCost
+returns c =
+    let l = c .before .loop in
+    let done : l .i ≡ c .before .before .before .before .before .args .p .n = omega arith in
+    rw done at (l .inv .2)
+
+pub cost-spec : {M : Type 1} → statement M
+cost-spec =
+    tie.close
+    (tie.spec
+    Inv-loop
+    μ-loop
+    loop-holds
+    combination-requires
+    shared-slice-read-received
+    add-i
+    loop-less
+    loop-again
+    add-cost
+    loop-less-2
+    loop-again-2
+    returns)

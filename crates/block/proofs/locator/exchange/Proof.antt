@@ -1,0 +1,47 @@
+-- `block::locator::exchange` meets its contract: what was copied is the locator.
+use mathlib.Core.Path.{_≡_, sym, ap, _∙_}
+use borrow.Author.Needs.{needs}
+use denote.Ref.{now}
+use lib.ListN.{length}
+use Rattle.code.proofs.Lists.{copied-whole}
+use Rattle.block.proofs.locator.exchange.Statement.{statement}
+use Rattle.block.proofs.locator.exchange.Tie as tie
+
+copy-requires : tie.Need-copy-requires
+copy-requires c κs = search needs
+
+subtract-multiple-requires : tie.Need-subtract-multiple-requires
+subtract-multiple-requires c κs = search needs
+
+copy-requires-2 : tie.Need-copy-requires-2
+copy-requires-2 c κs = search needs
+
+same-length : tie.Need-same-length
+same-length c = search needs
+
+same-length-2 : tie.Need-same-length-2
+same-length-2 c = search needs
+
+same-length-3 : tie.Need-same-length-3
+same-length-3 c = search needs
+
+returns : tie.Need-returns
+returns c =
+    let entry = c .before .before .before .before .before .before .before .before .before .before .before .before .before .before .before .before .before .before in
+    let spare = c .before .before .before .before .before .before .before .before .before .before .before .before .copy .last .1 .0 in
+    let kept : spare ≡ now (entry .args .locator) = copied-whole (now (entry .args .locator)) (now (entry .args .spare)) spare (entry .pre .7) (c .before .before .before .before .before .before .before .before .before .before .before .before .copy .ensures .1) in (
+      c .before .before .before .before .before .before .before .subtract-multiple .ensures,
+      copied-whole spare (now (entry .args .former)) (c .before .before .copy2 .last .1 .0) (entry .pre .6 ∙ sym (ap length kept)) (c .before .before .copy2 .ensures .1) ∙ kept,
+    )
+
+pub exchange-spec : {M : Type 1} → statement M
+exchange-spec =
+    tie.close
+    (tie.spec
+    copy-requires
+    subtract-multiple-requires
+    copy-requires-2
+    same-length
+    same-length-2
+    same-length-3
+    returns)

@@ -1,0 +1,74 @@
+-- `block::read_candidate` meets its contract.
+use mathlib.Core.Path.{_∙_}
+use native.Mathlib.Omega.{arith}
+use Rattle.code.proofs.Settings.{sizes, level-fits}
+use borrow.Author.Needs.{needs}
+use Rattle.block.proofs.read_candidate.Statement.{statement}
+use Rattle.block.proofs.read_candidate.Tie as tie
+
+add-blocks : tie.Need-add-blocks
+add-blocks c = let entry = c .before .before .before .before .before .before in omega (arith, entry .pre .2, sizes (entry .args .p) (entry .pre .0 .sound) .memory-most)
+
+mul-count : tie.Need-mul-count
+mul-count c = let entry = c .before .before .before .before .before .before .before in omega (arith, level-fits (entry .args .p) (entry .pre .0 .sound) (entry .args .l) (entry .pre .2), sizes (entry .args .p) (entry .pre .0 .sound) .symbols-most)
+
+sub-zeros : tie.Need-sub-zeros
+sub-zeros c = let entry = c .before .before .before .before .before .before .before in level-fits (entry .args .p) (entry .pre .0 .sound) (entry .args .l) (entry .pre .2)
+
+add-values-requires : tie.Need-add-values-requires
+add-values-requires c κs = search needs
+
+extend-requires : tie.Need-extend-requires
+extend-requires c κs =
+    let entry = c .before .before .before .before .before .before .before .before .before .before .before .before .before in
+    let room = entry .pre .3 in
+    let placed = entry .pre .4 .located .placed in
+    let fits = level-fits (entry .args .p) (entry .pre .0 .sound) (entry .args .l) (entry .pre .2) in
+    let long = c .before .before .before .before .add-values .kept .1 .1 .1 .1 .1 .1 .0 ∙ room .series-long in (
+      entry .pre .0 .sound .good,
+      entry .pre .0 .products,
+      placed .locator-below,
+      omega (arith, placed .located .grown, placed .located .placed, room .locator-long),
+      c .before .before .before .before .add-values .ensures .1 .below,
+      omega (arith, placed .located .grown, placed .located .placed),
+      omega (arith, fits, long),
+      placed .former-below,
+      omega (arith, fits, room .values-long),
+    )
+
+read-requires : tie.Need-read-requires
+read-requires c κs =
+    let entry = c .before .before .before .before .before .before .before .before .before .before .before .before .before .before .before .before .before .before .before .before in
+    let fits = level-fits (entry .args .p) (entry .pre .0 .sound) (entry .args .l) (entry .pre .2) in (
+      entry .pre .0,
+      c .before .before .before .before .before .before .extend .ensures .values-below,
+      omega (arith, fits, c .before .before .before .before .before .before .extend .kept .1 .1 .1 .1 .1 .1 .1 .0, entry .pre .3 .values-long),
+      omega (arith, fits, entry .pre .3 .information-long),
+    )
+
+same-length : tie.Need-same-length
+same-length c = search needs
+
+same-length-2 : tie.Need-same-length-2
+same-length-2 c = search needs
+
+same-length-3 : tie.Need-same-length-3
+same-length-3 c = search needs
+
+returns : tie.Need-returns
+returns c = search needs
+
+pub read-candidate-spec : {M : Type 1} → statement M
+read-candidate-spec =
+    tie.close
+    (tie.spec
+    add-blocks
+    mul-count
+    sub-zeros
+    add-values-requires
+    extend-requires
+    read-requires
+    same-length
+    same-length-2
+    same-length-3
+    returns)

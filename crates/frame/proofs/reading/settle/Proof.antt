@@ -1,0 +1,167 @@
+-- `frame::reading::settle`: what window j says of block j.
+use mathlib.Core.List.{[]}
+use Prim.Native.Nat.{_+_, _*_, _≤_}
+use native.Mathlib.Omega.{arith}
+use denote.Ref.{now}
+use lib.ListN.{length}
+use Rattle.field.proofs.Symbols.{symbols-part}
+use Rattle.code.specs.Windows.{windowLength}
+use Rattle.code.proofs.Settings.{sizes}
+use Rattle.tables.proofs.Parts.{part-length}
+use Rattle.frame.proofs.Guesses.{window-room}
+use Rattle.frame.proofs.Turn.{levels-below, levels-few}
+use Rattle.frame.proofs.Advance.{advance-clean, advance-none, advance-found}
+use borrow.Author.Needs.{needs}
+use Rattle.frame.proofs.reading.settle.Statement.{statement}
+use Rattle.frame.proofs.reading.settle.Tie as tie
+
+-- The window lies within what is left.
+room : (c : tie.Start) → c .args .j * c .args .p .n + windowLength (c .args .p) ≤ length (now (c .args .left))
+room c =
+    let a = c .args in
+    window-room (a .p) (a .blocks) (a .j) (now (a .message)) (now (a .left)) (c .pre .5 .areas) (c .pre .4)
+
+mul-start : tie.Need-mul-start
+mul-start c = omega (arith, room (c .before .before .before .before .before .before .before .before .before))
+
+add-end : tie.Need-add-end
+add-end c = let entry = c .before .before .before .before .before .before .before .before .before .before in omega (arith, sizes (entry .args .p) (entry .pre .0 .sound) .memory-most)
+
+mul-end : tie.Need-mul-end
+mul-end c = omega (arith, room (c .before .before .before .before .before .before .before .before .before .before .before))
+
+add-end-2 : tie.Need-add-end-2
+add-end-2 c = omega (arith, room (c .before .before .before .before .before .before .before .before .before .before .before))
+
+sub-cost : tie.Need-sub-cost
+sub-cost c = search needs
+
+part-cost-start : tie.Need-part-cost-start
+part-cost-start c = search needs
+
+part-cost-end : tie.Need-part-cost-end
+part-cost-end c = room (c .before .before .before .before .before .before .before .before .before .before .before .before)
+
+cost-requires : tie.Need-cost-requires
+cost-requires c κs = search needs
+
+same-length : tie.Need-same-length
+same-length c = search needs
+
+returns : tie.Need-returns
+returns c =
+    let entry = c .before .before .before .before .before .before .before .before .before .before .before .before .before .before .before in
+    let a = entry .args in
+    advance-clean (a .p) (entry .pre .0 .sound) (a .blocks) (now (a .reception)) (entry .pre .3) (entry .pre .2) (a .j) (now (a .message)) (now (a .left)) (entry .pre .5) (entry .pre .4) []
+    (part-length (windowLength (a .p)) (a .j * a .p .n) (now (a .left)) (room entry)) _ (c .before .cost .ensures (a .p .q)) (omega (arith, c .if1 .taken, entry .pre .1))
+
+sub-find-level : tie.Need-sub-find-level
+sub-find-level c = search needs
+
+part-find-level-start : tie.Need-part-find-level-start
+part-find-level-start c = search needs
+
+part-find-level-end : tie.Need-part-find-level-end
+part-find-level-end c = room (c .before .before .before .before .before .before .before .before .before .before .before .before .before .before .before .before)
+
+find-level-requires : tie.Need-find-level-requires
+find-level-requires c κs =
+    let entry = c .before .before .before .before .before .before .before .before .before .before .before .before .before .before .before .before .before .before .before .before .before in
+    let a = entry .args in (
+      entry .pre .0,
+      part-length (windowLength (a .p)) (a .j * a .p .n) (now (a .left)) (room entry),
+      symbols-part (a .p .q) (a .j * a .p .n) (a .j * a .p .n + windowLength (a .p)) (now (a .left)) (entry .pre .5 .areas .left-symbols),
+      entry .pre .6,
+    )
+
+same-length-2 : tie.Need-same-length-2
+same-length-2 c = search needs
+
+same-length-3 : tie.Need-same-length-3
+same-length-3 c = search needs
+
+same-length-4 : tie.Need-same-length-4
+same-length-4 c = search needs
+
+same-length-5 : tie.Need-same-length-5
+same-length-5 c = search needs
+
+same-length-6 : tie.Need-same-length-6
+same-length-6 c = search needs
+
+returns-2 : tie.Need-returns-2
+returns-2 c =
+    let entry = c .before .before .before .before .before .before .before .before .before .before .before .before .before .before .before .before .before .before .before .before .before .before .before .before .before .before .before .before .before .before .before in
+    let a = entry .args in
+    advance-none (a .p) (entry .pre .0 .sound) (a .blocks) (now (a .reception)) (entry .pre .3) (entry .pre .2) (a .j) (now (a .message)) (now (a .left)) (entry .pre .5) (entry .pre .4) (c .before .before .before .before .before .before .before .before .before .find-level .last .1 .1 .1 .1 .1 .1 .1 .0) (a .j + 1) (now (a .message)) (now (a .left)) (c .before .before .before .before .before .before .before .before .before .find-level .ensures) (c .if2 .taken)
+
+add-found-requires : tie.Need-add-found-requires
+add-found-requires c κs =
+    let entry = c .before .before .before .before .before .before .before .before .before .before .before .before .before .before .before .before .before .before .before .before .before .before .before .before .before .before .before .before .before .before .before .before .before .before in
+    let a = entry .args in
+    let found = c .before .before .before .before .before .before .before .before .before .before .before .before .find-level in
+    let below = levels-below (a .p) _ (found .last .1 .1 .1 .1 .1 .1 .1 .0) (found .ensures) (c .before .before .before .if2 .left) in (
+      entry .pre .0,
+      record { below = λ i l. below i },
+      levels-few (a .p) _ (found .last .1 .1 .1 .1 .1 .1 .1 .0) (found .ensures),
+      omega (arith, entry .pre .0 .sound .room, found .kept .1 .1 .1 .1 .1 .1 .1 .0, entry .pre .6 .information-long),
+      entry .pre .4,
+      entry .pre .5 .areas,
+    )
+
+same-length-7 : tie.Need-same-length-7
+same-length-7 c = search needs
+
+same-length-8 : tie.Need-same-length-8
+same-length-8 c = search needs
+
+same-length-9 : tie.Need-same-length-9
+same-length-9 c = search needs
+
+same-length-10 : tie.Need-same-length-10
+same-length-10 c = search needs
+
+same-length-11 : tie.Need-same-length-11
+same-length-11 c = search needs
+
+same-length-12 : tie.Need-same-length-12
+same-length-12 c = search needs
+
+returns-3 : tie.Need-returns-3
+returns-3 c =
+    let entry = c .before .before .before .before .before .before .before .before .before .before .before .before .before .before .before .before .before .before .before .before .before .before .before .before .before .before .before .before .before .before .before .before .before .before .before .before .before .before .before in
+    let a = entry .args in
+    advance-found (a .p) (entry .pre .0 .sound) (a .blocks) (now (a .reception)) (entry .pre .3) (entry .pre .2) (a .j) (now (a .message)) (now (a .left)) (entry .pre .5) (entry .pre .4) (c .before .before .before .before .before .before .before .before .before .before .before .before .before .before .before .before .before .find-level .last .1 .1 .1 .1 .1 .1 .1 .0) (c .before .before .before .before .add-found .last .1 .1 .1 .1 .1 .1 .1 .0) (c .before .before .before .before .add-found .last .1 .1 .1 .1 .1 .1 .1 .1 .0) (c .before .before .before .before .before .before .before .before .before .before .before .before .before .before .before .before .before .find-level .ensures) (c .before .before .before .before .before .before .before .before .if2 .left) (c .before .before .before .before .add-found .ensures)
+
+pub settle-spec : {M : Type 1} → statement M
+settle-spec =
+    tie.close
+    (tie.spec
+    mul-start
+    add-end
+    mul-end
+    add-end-2
+    sub-cost
+    part-cost-start
+    part-cost-end
+    cost-requires
+    same-length
+    returns
+    sub-find-level
+    part-find-level-start
+    part-find-level-end
+    find-level-requires
+    same-length-2
+    same-length-3
+    same-length-4
+    same-length-5
+    same-length-6
+    returns-2
+    add-found-requires
+    same-length-7
+    same-length-8
+    same-length-9
+    same-length-10
+    same-length-11
+    same-length-12
+    returns-3)

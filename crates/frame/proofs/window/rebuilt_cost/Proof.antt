@@ -1,0 +1,107 @@
+-- `frame::window::rebuilt_cost`: the costs of blocks 0 .. s - 1, added up.
+use mathlib.Core.Path.{_≡_, refl, ap, ap₂, _∙_}
+use Prim.Native.Nat.{ℕ, _+_, _-_, _*_, _≤_}
+use native.Mathlib.Nat.{mul-le-mul-right}
+use native.Mathlib.Omega.{arith}
+use denote.Ref.{now}
+use lib.ListN.{length, take, drop}
+use Rattle.algebra.specs.Weight.{total}
+use Rattle.code.specs.Transmission.{view}
+use Rattle.code.proofs.Settings.{sizes}
+use Rattle.tables.proofs.Parts.{part-length}
+use Rattle.block.specs.Area.{at}
+use Rattle.block.proofs.Accumulated.{total-none, total-more}
+use Rattle.frame.proofs.Levels.{rebuilt-term, rebuilt-all, part-cost, block-most}
+use Rattle.frame.proofs.window.rebuilt_cost.Statement.{statement}
+use Rattle.frame.proofs.window.rebuilt_cost.Tie as tie
+
+abbrev Inv-loop : tie.InvT-loop
+Inv-loop p products rows information l window n cost₀ start₀ s₀ cost start s =
+    (s ≤ l + 1) × (start ≡ s * p .n) × (cost ≤ 2 * start) × (cost ≡ total s (rebuilt-term p window (view (p .k) information)))
+
+abbrev μ-loop : tie.MeasureT-loop
+μ-loop p products rows information l window n cost₀ start₀ s₀ cost start s = l + 1 - s
+
+loop-holds : tie.Need-loop-holds Inv-loop μ-loop
+loop-holds c =
+    let a = c .before .before .before .args in
+    (omega arith, omega arith, omega arith, total-none (rebuilt-term (a .p) (now (a .window)) (view (a .p .k) (now (a .information)))))
+
+-- The block in turn lies within the window.
+inside : (c : tie.In-loop Inv-loop μ-loop) → c .before .loop .start + c .before .before .before .before .before .args .p .n ≤ length (now (c .before .before .before .before .before .args .window))
+inside c =
+    let entry = c .before .before .before .before .before in
+    let top : c .before .loop .s + 1 ≤ entry .args .p .m + 1 = omega (arith, entry .pre .3) in
+    omega (arith, mul-le-mul-right (entry .args .p .n) top, entry .pre .4)
+
+add-end : tie.Need-add-end Inv-loop μ-loop
+add-end c = omega (arith, inside c)
+
+sub-cost : tie.Need-sub-cost Inv-loop μ-loop
+sub-cost c = omega arith
+
+part-cost-start : tie.Need-part-cost-start Inv-loop μ-loop
+part-cost-start c = omega arith
+
+part-cost-end : tie.Need-part-cost-end Inv-loop μ-loop
+part-cost-end c = inside c
+
+cost-requires : tie.Need-cost-requires Inv-loop μ-loop
+cost-requires c κs =
+    let entry = c .before .before .before .before .before .before in
+    let rows : c .before .before .loop .s + 1 ≤ entry .args .l + 1 = omega arith in
+    (entry .pre .0, entry .pre .1, omega (arith, mul-le-mul-right (entry .args .p .k) rows, entry .pre .2), omega (arith, entry .pre .3), part-length (entry .args .p .n) (c .before .before .loop .start) (now (entry .args .window)) (inside (c .before)))
+
+-- The block costs at most two a symbol.
+at-most : (c : tie.After-cost Inv-loop μ-loop) → c .cost .result ≤ 2 * c .before .before .before .before .before .before .before .args .p .n
+at-most c =
+    let a = c .before .before .before .before .before .before .before .args in
+    let l = c .before .before .before .loop in
+    block-most (a .p) (at (take (l .start + a .p .n - l .start) (drop (l .start) (now (a .window))))) (l .s) (view (a .p .k) (now (a .information))) (c .cost .ensures)
+
+add-cost : tie.Need-add-cost Inv-loop μ-loop
+add-cost c = omega (arith, inside (c .before .before), at-most c)
+
+add-s : tie.Need-add-s Inv-loop μ-loop
+add-s c = omega (arith, c .before .before .before .before .before .before .before .pre .3, sizes (c .before .before .before .before .before .before .before .args .p) (c .before .before .before .before .before .before .before .pre .0 .sound) .memory-most)
+
+loop-less : tie.Need-loop-less Inv-loop μ-loop
+loop-less c = omega arith
+
+loop-again : tie.Need-loop-again Inv-loop μ-loop
+loop-again c =
+    let entry = c .before .before .before .before .before .before .before in
+    let l = c .before .before .before .loop in
+    let a = entry .args in (
+      omega arith,
+      omega (arith, l .inv .1),
+      omega (arith, at-most c, l .inv .2),
+      ap₂ _+_ (l .inv .3)
+          (c .cost .ensures ∙ part-cost (a .p) (l .s) (l .start) (l .s) (now (a .window)) (view (a .p .k) (now (a .information))) (l .inv .1))
+          ∙ total-more (rebuilt-term (a .p) (now (a .window)) (view (a .p .k) (now (a .information)))) (l .s) _ refl,
+    )
+
+returns : tie.Need-returns Inv-loop μ-loop
+returns c =
+    let a = c .before .before .before .before .before .args in
+    let done : c .before .loop .s ≡ a .l + 1 = omega arith in
+    c .before .loop .inv .3
+    ∙ (ap (λ (t : ℕ). total t (rebuilt-term (a .p) (now (a .window)) (view (a .p .k) (now (a .information))))) done ∙ rebuilt-all (a .p) (now (a .window)) (view (a .p .k) (now (a .information))) (a .l))
+
+pub rebuilt-cost-spec : {M : Type 1} → statement M
+rebuilt-cost-spec =
+    tie.close
+    (tie.spec
+    Inv-loop
+    μ-loop
+    loop-holds
+    add-end
+    sub-cost
+    part-cost-start
+    part-cost-end
+    cost-requires
+    add-cost
+    add-s
+    loop-less
+    loop-again
+    returns)

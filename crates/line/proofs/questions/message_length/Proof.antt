@@ -1,0 +1,49 @@
+-- `line::questions::message_length`: T × k of the line's setting.
+use mathlib.Core.Path.{sym, ap, ap₂, subst, _∙_}
+use Prim.Native.Nat.{ℕ, _*_, _≤_}
+use native.Mathlib.Omega.{arith}
+use borrow.Author.Needs.{needs}
+use denote.Ref.{now}
+use lib.Dec.{T}
+use Rattle.code.specs.declared.Setting.{Setting}
+use Rattle.code.specs.Settings.{isSetting, settingOf}
+use Rattle.link.specs.Questions.{mostInformation}
+use Rattle.link.proofs.Answers.{message-most}
+use Rattle.line.proofs.Asked.{HeadYes, head-yes}
+use Rattle.line.proofs.questions.message_length.Statement.{statement}
+use Rattle.line.proofs.questions.message_length.Tie as tie
+
+known : (c : tie.Start) → HeadYes (now (c .args .line))
+known c = head-yes (now (c .args .line)) (c .pre)
+
+setting-in-requires : tie.Need-setting-in-requires
+setting-in-requires c κs = known (c .before) .least
+
+blocks-in-requires : tie.Need-blocks-in-requires
+blocks-in-requires c κs = known (c .before .before) .least
+
+cast-blocks : tie.Need-cast-blocks
+cast-blocks c = search needs
+
+is-setting : (c : tie.After-blocks-in) → T (isSetting (c .before .setting-in .result))
+is-setting c = subst (λ (t : ℕ). T (isSetting t)) (sym (c .before .setting-in .ensures)) (known (c .before .before .before) .setting)
+
+setting-requires : tie.Need-setting-requires
+setting-requires c κs = is-setting c
+
+few : (c : tie.After-setting) → c .before .blocks-in .result * c .setting .result .k ≤ mostInformation
+few c =
+    message-most (c .before .before .setting-in .result) (c .setting .result) (c .before .blocks-in .result) (is-setting (c .before)) (c .setting .ensures)
+    (omega (arith, c .before .blocks-in .ensures, known (c .before .before .before .before) .most))
+
+mul-result : tie.Need-mul-result
+mul-result c = omega (arith, few (c .before))
+
+returns : tie.Need-returns
+returns c = (
+  ap₂ (λ (t : ℕ) (p : Setting). t * p .k) (c .before .before .blocks-in .ensures) (c .before .setting .ensures ∙ ap settingOf (c .before .before .before .setting-in .ensures)),
+  few (c .before),
+)
+
+pub message-length-spec : {M : Type 1} → statement M
+message-length-spec = tie.close (tie.spec setting-in-requires blocks-in-requires cast-blocks setting-requires mul-result returns)

@@ -1,0 +1,134 @@
+-- `link::decode::decode_lent`: the frame is read; then its transmission restored, or zeros.
+use mathlib.Core.Path.{ap, _∙_}
+use Prim.Native.Nat.{ℕ}
+use native.Mathlib.Omega.{arith}
+use denote.Ref.{now}
+use lib.ListN.{length, replicate}
+use Rattle.code.proofs.Settings.{sizes}
+use Rattle.block.specs.Area.{at}
+use Rattle.frame.proofs.Levels.{few}
+use Rattle.link.proofs.Answers.{transmission-small}
+use Rattle.link.proofs.Decoding.{left-symbols, left-long, frame-decoded-none, frame-decoded-found}
+use borrow.Author.Needs.{needs}
+use Rattle.link.proofs.decode.decode_lent.Statement.{statement}
+use Rattle.link.proofs.decode.decode_lent.Tie as tie
+
+read-requires : tie.Need-read-requires
+read-requires c κs = search needs
+
+clear-requires : tie.Need-clear-requires
+clear-requires c κs = search needs
+
+clear-requires-2 : tie.Need-clear-requires-2
+clear-requires-2 c κs = search needs
+
+no-requires : tie.Need-no-requires
+no-requires c κs = search needs
+
+same-length : tie.Need-same-length
+same-length c = search needs
+
+same-length-2 : tie.Need-same-length-2
+same-length-2 c = search needs
+
+same-length-3 : tie.Need-same-length-3
+same-length-3 c = search needs
+
+same-length-4 : tie.Need-same-length-4
+same-length-4 c = search needs
+
+same-length-5 : tie.Need-same-length-5
+same-length-5 c = search needs
+
+same-length-6 : tie.Need-same-length-6
+same-length-6 c = search needs
+
+returns : tie.Need-returns
+returns c =
+    let entry = c .before .before .before .before .before .before .before .before .before .before .before .before .before .before .before .before .before .before .before .before .before .before .before .before .before .before .before .before .before .before .before .before .before .before .before .before .before in
+    let a = entry .args in
+    let read = c .before .before .before .before .before .before .before .before .before .before .before .before .before .before .before .before .before .before .before .before .before .before .read in
+    frame-decoded-none (a .p) (a .blocks) (now (a .reception)) (read .last .1 .1 .1 .1 .1 .0) (read .last .1 .1 .1 .1 .1 .1 .0) (c .no .result) (c .before .before .before .before .before .before .before .clear .last .0) (c .before .before .before .clear2 .last .0)
+    (read .ensures) (c .before .before .before .before .before .before .before .before .before .if1 .taken) (c .no .ensures)
+    (c .before .before .before .before .before .before .before .clear .ensures ∙ ap (λ (t : ℕ). replicate t 0) (read .kept .1 .1 .1 .1 .1 .0 ∙ entry .pre .5))
+    (c .before .before .before .clear2 .ensures ∙ ap (λ (t : ℕ). replicate t 0) (read .kept .1 .1 .1 .1 .1 .1 .0 ∙ (entry .pre .6 ∙ entry .pre .3)))
+
+weight-requires : tie.Need-weight-requires
+weight-requires c κs = search needs
+
+restore-requires : tie.Need-restore-requires
+restore-requires c κs =
+    let entry = c .before .before .before .before .before .before .before .before .before .before .before .before .before .before .before .before .before .before .before .before .before .before .before .before .before .before .before .before .before .before .before in
+    let a = entry .args in
+    let read = c .before .before .before .before .before .before .before .before .before .before .before .before .before .before .before .before .read in (
+      entry .pre .0 .sound .good,
+      entry .pre .4,
+      left-symbols (a .p) (a .blocks) (now (a .reception)) (read .last .1 .1 .1 .1 .1 .0) (read .last .1 .1 .1 .1 .1 .1 .0) (read .ensures) (c .before .before .before .if1 .left),
+      left-long (a .p) (a .blocks) (now (a .reception)) (read .last .1 .1 .1 .1 .1 .0) (read .last .1 .1 .1 .1 .1 .1 .0) (read .ensures) (c .before .before .before .if1 .left),
+    )
+
+cast-t37 : tie.Need-cast-t37
+cast-t37 c =
+    let entry = c .before .before .before .before .before .before .before .before .before .before .before .before .before .before .before .before .before .before .before .before .before .before .before .before .before .before .before .before .before .before .before .before .before .before in
+    let a = entry .args in
+    let read = c .before .before .before .before .before .before .before .before .before .before .before .before .before .before .before .before .before .before .before .read in
+    omega (
+      arith,
+      few (length (read .last .1 .1 .1 .1 .1 .1 .0)) (at (read .last .1 .1 .1 .1 .1 .1 .0)) (λ _. 0) (c .before .before .before .before .weight .ensures),
+      read .kept .1 .1 .1 .1 .1 .1 .0,
+      entry .pre .6,
+      entry .pre .3,
+      transmission-small (a .p) (a .blocks) (sizes (a .p) (entry .pre .0 .sound)) (entry .pre .2),
+    )
+
+same-length-7 : tie.Need-same-length-7
+same-length-7 c = search needs
+
+same-length-8 : tie.Need-same-length-8
+same-length-8 c = search needs
+
+same-length-9 : tie.Need-same-length-9
+same-length-9 c = search needs
+
+same-length-10 : tie.Need-same-length-10
+same-length-10 c = search needs
+
+same-length-11 : tie.Need-same-length-11
+same-length-11 c = search needs
+
+same-length-12 : tie.Need-same-length-12
+same-length-12 c = search needs
+
+returns-2 : tie.Need-returns-2
+returns-2 c =
+    let entry = c .before .before .before .before .before .before .before .before .before .before .before .before .before .before .before .before .before .before .before .before .before .before .before .before .before .before .before .before .before .before .before .before .before .before in
+    let a = entry .args in
+    let read = c .before .before .before .before .before .before .before .before .before .before .before .before .before .before .before .before .before .before .before .read in
+    frame-decoded-found (a .p) (a .blocks) (now (a .reception)) (read .last .1 .1 .1 .1 .1 .0) (read .last .1 .1 .1 .1 .1 .1 .0) (entry .pre .0 .sound) (c .before .before .restore .last .1 .1 .0) (c .before .before .before .before .weight .result)
+    (entry .pre .4) (entry .pre .3) (read .ensures) (c .before .before .before .before .before .before .if1 .left) (c .before .before .before .before .weight .ensures) (c .before .before .restore .ensures)
+
+pub decode-lent-spec : {M : Type 1} → statement M
+decode-lent-spec =
+    tie.close
+    (tie.spec
+    read-requires
+    clear-requires
+    clear-requires-2
+    no-requires
+    same-length
+    same-length-2
+    same-length-3
+    same-length-4
+    same-length-5
+    same-length-6
+    returns
+    weight-requires
+    restore-requires
+    cast-t37
+    same-length-7
+    same-length-8
+    same-length-9
+    same-length-10
+    same-length-11
+    same-length-12
+    returns-2)

@@ -1,0 +1,50 @@
+-- `link::encode::encode_frame` meets its contract: the tables are the setting's.
+use mathlib.Core.Path.{sym, subst}
+use Rattle.code.specs.Settings.{Sound}
+use Rattle.code.proofs.Settings.{soundOf, largestOf}
+use Rattle.tables.specs.Tables.{rowsLength}
+use Rattle.tables.proofs.Lending.{readyOf}
+use borrow.Author.Needs.{needs}
+use Rattle.link.proofs.encode.encode_frame.Statement.{statement}
+use Rattle.link.proofs.encode.encode_frame.Tie as tie
+
+-- The setting is sound.
+sound : (c : tie.Start) → Sound (c .args .p)
+sound c = subst Sound (sym (c .pre .1)) (soundOf (c .args .setting) (c .pre .0))
+
+tables-requires : tie.Need-tables-requires
+tables-requires c κs = sound (c .before .before .before .before .before) .good
+
+slice-aggregate-rows : tie.Need-slice-aggregate-rows
+slice-aggregate-rows c = search needs
+
+rows-requires : tie.Need-rows-requires
+rows-requires c κs = let known = c .before .before .before .pre .0 in (known, largestOf rowsLength (c .before .before .before .args .setting) known)
+
+slice-aggregate-send : tie.Need-slice-aggregate-send
+slice-aggregate-send c = search needs
+
+send-requires : tie.Need-send-requires
+send-requires c κs =
+    let entry = c .before .before .before .before .before .before .before .before .before in
+    let a = entry .args in
+    let ready = readyOf (a .setting) (a .p) (entry .pre .0) (entry .pre .1) (c .before .before .before .tables .result) (c .before .before .before .before .before .rows2 .last .1 .0) (c .before .before .before .tables .ensures) (c .before .before .before .before .before .rows2 .ensures) in
+    (record { ready = ready; message-of = entry .pre .2; most = entry .pre .3 }, entry .pre .4)
+
+same-length : tie.Need-same-length
+same-length c = search needs
+
+returns : tie.Need-returns
+returns c = search needs
+
+pub encode-frame-spec : {M : Type 1} → statement M
+encode-frame-spec =
+    tie.close
+    (tie.spec
+    slice-aggregate-rows
+    rows-requires
+    tables-requires
+    slice-aggregate-send
+    send-requires
+    same-length
+    returns)
