@@ -1,6 +1,6 @@
 -- A symbol's cost on bytes. Only this file looks into `symbolCost`: its values, its two laws, and the one lemma that joins it with the words of `Fits`.
 -- Holds: `cost-same`, `cost-differ`; `cost-apart`, `cost-shift`, the two laws; `cost-count` (costs and counts of differing symbols), `cost-most`; `byteCost`,
--- `bytes-apart`, the cost of a byte for an element of the field; `message-cost`; `fits-cost` ("at most t" is a cost of less than d_0 + .. + d_m).
+-- `bytes-apart`, the cost of a byte for an element of the field; `message-cost`; `fits-cost` ("at most t" is a cost of less than d_0 + .. + d_m), `fits-near`.
 use mathlib.Core.Path.{_≡_, sym, ap, _∙_}
 use mathlib.Core.Bool.{Bool, true, false, not}
 use mathlib.Core.List.{List}
@@ -22,8 +22,8 @@ use Rattle.code.specs.Code.{distancesTo, limit}
 use Rattle.code.specs.Transmission.{view, sentSymbol}
 use Rattle.code.specs.Cost.{symbolCost, costTo}
 use Rattle.code.specs.Settings.{Sound}
-use Rattle.code.specs.Windows.{transmission, windowLength, windowDistance, Message}
-use Rattle.code.specs.Reading.{messageCost}
+use Rattle.code.specs.Windows.{transmission, windowLength, windowDistance, Message, Fits}
+use Rattle.code.specs.Reading.{messageCost, NearWindow}
 use Rattle.code.proofs.Numbers.{fieldOf, overField, lifted, number-sub, sent-number, message-below, transmission-view}
 
 module _ (q : ℕ) where
@@ -105,9 +105,12 @@ module _ (p : Setting) (S : Sound p) where
 
     -- "In at most t symbols": at a cost of less than d_0 + .. + d_m.
     pub fits-cost : j < T
-        → (windowDistance p w (transmission p x) j ≤ limit (p .n) (p .k) (p .m) → messageCost p w x j < distancesTo (p .n) (p .k) (p .m))
-        × (messageCost p w x j < distancesTo (p .n) (p .k) (p .m) → windowDistance p w (transmission p x) j ≤ limit (p .n) (p .k) (p .m))
+        → (windowDistance p w (transmission p x) j ≤ limit (p .n) (p .k) (p .m) → NearWindow p w x j)
+        × (NearWindow p w x j → windowDistance p w (transmission p x) j ≤ limit (p .n) (p .k) (p .m))
     fits-cost l = within _ _ _ (distances-positive (p .n) (p .k) (p .m)) (twice-distance l)
       where
         within : (a c d : ℕ) → 1 ≤ d → 2 * a ≡ c → (a ≤ (d - 1) / 2 → c < d) × (c < d → a ≤ (d - 1) / 2)
         within a c d h e = (λ u. omega arith, λ u. omega arith)
+
+  pub fits-near : (T : ℕ) (w x : List ℕ) → Fits p T w x → (j : ℕ) → j < T → NearWindow p w x j
+  fits-near T w x F j l = fits-cost T w x (F .message-of) j l .0 (F .near j l)

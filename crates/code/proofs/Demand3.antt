@@ -8,9 +8,10 @@ use native.Mathlib.Omega.{arith}
 use lib.ListN.{length, take, drop, length-take, length-drop}
 use lib.Seq.{ext-getD, getD-take, getD-drop}
 use Rattle.code.specs.declared.Setting.{Setting}
-use Rattle.code.specs.Code.{limit}
+use Rattle.code.specs.Code.{distancesTo, limit}
 use Rattle.code.specs.Windows.{transmission, windowDistance, Message, Fits}
 use Rattle.code.proofs.Lists.{equal-part, part-equal}
+use Rattle.code.proofs.Cost.{fits-cost, fits-near}
 use Rattle.code.proofs.Messages.{block-determined, messages-agree, alike-window}
 use Rattle.code.specs.Settings.{Sound}
 
@@ -29,7 +30,8 @@ module _ (p : Setting) (S : Sound p) (T : ℕ) where
       differ (ext-getD 0 (take (p .k) (drop (j * p .k) x)) (take (p .k) (drop (j * p .k) y)) (long-x ∙ sym long-y)
       (λ r h. let inside : r < p .k = omega arith in
       getD-take (p .k) (drop (j * p .k) x) r 0 inside ∙ (getD-drop (j * p .k) x r 0
-      ∙ (block-determined p S T x y X Y reception j l (equal-part x y (j * p .k) agree) near-x near-y r inside
+      ∙ (block-determined p S T x y X Y reception j (equal-part x y (j * p .k) agree)
+      (fits-cost p S T reception x X j l .0 near-x) (fits-cost p S T reception y Y j l .0 near-y) r inside
       ∙ sym (getD-take (p .k) (drop (j * p .k) y) r 0 inside ∙ getD-drop (j * p .k) y r 0)))))
 
   -- "And the .. messages of any two decodable receptions, of one setting and length and alike through the end of that window, have the same blocks
@@ -40,14 +42,13 @@ module _ (p : Setting) (S : Sound p) (T : ℕ) where
       let top : j + 1 ≤ T = omega arith in
       let room : (j + 1) * p .k ≤ T * p .k = mul-le-mul-right (p .k) top in
       part-equal x y ((j + 1) * p .k) (omega (arith, fits-x .message-of .long)) (omega (arith, fits-y .message-of .long))
-      (messages-agree p S T x y (fits-x .message-of) (fits-y .message-of) w (j + 1) top
-      (λ i h. subst (λ (t : ℕ). t ≤ limit (p .n) (p .k) (p .m)) (alike-window p v w (transmission p x) j i alike (omega arith)) (fits-x .near i (omega arith)))
-      (λ i h. fits-y .near i (omega arith)))
+      (messages-agree p S T x y (fits-x .message-of) (fits-y .message-of) w (j + 1)
+      (λ i h. subst (λ (t : ℕ). t < distancesTo (p .n) (p .k) (p .m)) (alike-window p v w x j i alike (omega arith)) (fits-near p S T v x fits-x i (omega arith)))
+      (λ i h. fits-near p S T w y fits-y i (omega arith)))
 
   -- "So at most one message fits a reception, whatever was received."
   pub at-most-one-fits : (reception x y : List ℕ) → Fits p T reception x → Fits p T reception y → x ≡ y
   at-most-one-fits reception x y fits-x fits-y =
-      let all : T ≤ T = omega arith in
       ext-getD 0 x y (fits-x .message-of .long ∙ sym (fits-y .message-of .long))
-      (λ i h. messages-agree p S T x y (fits-x .message-of) (fits-y .message-of) reception T all
-      (λ b l. fits-x .near b l) (λ b l. fits-y .near b l) i (omega (arith, fits-x .message-of .long)))
+      (λ i h. messages-agree p S T x y (fits-x .message-of) (fits-y .message-of) reception T
+      (fits-near p S T reception x fits-x) (fits-near p S T reception y fits-y) i (omega (arith, fits-x .message-of .long)))

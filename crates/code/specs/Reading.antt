@@ -1,5 +1,5 @@
 -- Reading a window and a reception on lists of bytes (01, "Reading a reception").
--- Holds: `Below`; the costs `levelCost`, `windowCost`, `zeroCost`, `messageCost`; `only`, `Residual`.
+-- Holds: `Below`; the costs `levelCost`, `windowCost`, `zeroCost`, `messageCost`; `NearWindow`; `only`, `Residual`.
 use mathlib.Core.Path.{_≡_}
 use mathlib.Core.List.{List}
 use Prim.Native.Nat.{ℕ, _+_, _<_}
@@ -9,6 +9,7 @@ use Rattle.algebra.specs.Ops.{sub, pick}
 use Rattle.algebra.specs.Weight.{total}
 use Rattle.field.specs.Fields.{opsOf}
 use Rattle.code.specs.declared.Setting.{Setting}
+use Rattle.code.specs.Code.{distancesTo}
 use Rattle.code.specs.Transmission.{view, sentSymbol}
 use Rattle.code.specs.Settings.{codeOf}
 use Rattle.code.specs.Cost.{symbolCost, costTo, blockCost, rebuiltCost}
@@ -32,6 +33,10 @@ zeroCost q symbols = total (length symbols) (λ i. symbolCost q (getD symbols i 
 -- What window j of a reception costs where a message was sent.
 abbrev pub messageCost : Setting → List ℕ → List ℕ → ℕ → ℕ
 messageCost p reception message j = costTo (p .n) (symbolCost (p .q)) (view (p .n) reception) (sentSymbol (codeOf p) (view (p .k) message)) j (p .m)
+
+-- Window j of a reception is near a message: at a cost of at most d, that is less than d_0 + .. + d_m.
+abbrev pub NearWindow : Setting → List ℕ → List ℕ → ℕ → Type 0
+NearWindow p reception message j = messageCost p reception message j < distancesTo (p .n) (p .k) (p .m)
 
 -- The information block with the one symbol v, at place r.
 abbrev pub only : ℕ → ℕ → ℕ → ℕ

@@ -19,11 +19,11 @@ use Rattle.code.specs.Code.{distancesTo}
 use Rattle.code.specs.Transmission.{view}
 use Rattle.code.specs.Settings.{Sound}
 use Rattle.code.specs.Windows.{transmission, windowLength, altered, Message}
-use Rattle.code.specs.Reading.{zeroCost, messageCost, Residual}
+use Rattle.code.specs.Reading.{zeroCost, messageCost, NearWindow, Residual}
 use Rattle.code.proofs.Messages.{place-in-blocks}
 use Rattle.code.proofs.Settings.{block-positive}
 use Rattle.code.proofs.Numbers.{positive, transmission-view}
-use Rattle.code.proofs.Cost.{fits-cost}
+use Rattle.code.proofs.Cost.{fits-cost, fits-near}
 use Rattle.code.proofs.Residuals.{residual-zero}
 use Rattle.code.proofs.ResidualSteps.{residual-back, residual-test}
 use Rattle.frame.specs.Frame.{Progress, NoneFits, FrameRead, fits, none, Compared, all-near, one-far}
@@ -79,8 +79,7 @@ module _ (p : Setting) (S : Sound p) (T : ℕ) (reception message left : List �
   frame-none j l far x F =
       let same : x ≡ message =
       ext-getD 0 x message (F .message-of .long ∙ sym (P .areas .message-long)) (λ i u. P .begins x F i (omega (arith, F .message-of .long))) in
-      let near : messageCost p reception message j < distancesTo (p .n) (p .k) (p .m) =
-      subst (λ (t : List ℕ). messageCost p reception t j < distancesTo (p .n) (p .k) (p .m)) same (fits-cost p S T reception x (F .message-of) j l .0 (F .near j l)) in
+      let near : NearWindow p reception message j = subst (λ (t : List ℕ). NearWindow p reception t j) same (fits-near p S T reception x F j l) in
       omega (arith, left-window j l)
 
   -- The last comparison decides.

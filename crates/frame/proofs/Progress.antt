@@ -17,7 +17,7 @@ use Rattle.code.specs.Windows.{Fits}
 use Rattle.code.specs.Reading.{Below}
 use Rattle.code.proofs.Lists.{getD-zeros}
 use Rattle.code.proofs.Numbers.{positive}
-use Rattle.code.proofs.Cost.{fits-cost}
+use Rattle.code.proofs.Cost.{fits-near}
 use Rattle.code.proofs.Residuals.{ahead, ahead-below, add-back, residual-window}
 use Rattle.code.proofs.ResidualSteps.{residual-start}
 use Rattle.frame.specs.Window.{Near}
@@ -52,7 +52,7 @@ module _ (p : Setting) (S : Sound p) (T : ℕ) (reception : List ℕ) (R : Symbo
     pub near-of-fits : j < T → (x : List ℕ) → Fits p T reception x → Near p (windowAt p left j) (p .m) (ahead p x message j)
     near-of-fits l x F =
         rw (residual-window p S T reception message left received found-below (P .residual) x (F .message-of) j l (P .begins x F))
-        (fits-cost p S T reception x (F .message-of) j l .0 (F .near j l))
+        (fits-near p S T reception x F j l)
 
     pub fits-below : (x : List ℕ) → Fits p T reception x → Below (p .q) (ahead p x message j)
     fits-below x F = ahead-below p S x message j (symbol-below (p .q) x (F .message-of .symbols) (positive p S)) found-below
