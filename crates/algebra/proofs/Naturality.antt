@@ -1,11 +1,11 @@
 -- Every definition of `specs/` goes through a map that keeps the operations: what is computed and then mapped is what is computed from the mapped.
--- Holds: `Homomorphism`, and a lemma for each definition: `sum-natural`, `power-natural`, `value-natural`, `valueOf-natural`, `falling-natural`, `fromRoots-natural`.
+-- Holds: `Homomorphism`, and a lemma for each definition: `sum-natural`, `power-natural`, `valueOf-natural`, `falling-natural`, `fromRoots-natural`.
 use mathlib.Core.Path.{_≡_, refl, ap, ap₂, _∙_}
 use mathlib.Core.List.{List, [], _∷_, map}
 use Prim.Native.Nat.{ℕ, zero, suc}
 use Rattle.algebra.specs.Ops.{Ops}
 use Rattle.algebra.specs.Sum.{sum, power}
-use Rattle.algebra.specs.Polynomial.{value, valueOf, falling, timesRoot, timesRootAfter, fromRoots}
+use Rattle.algebra.specs.Polynomial.{valueOf, falling, timesRoot, timesRootAfter, fromRoots}
 
 -- A map that keeps the operations.
 pub record Homomorphism {F G : Type 0} (o : Ops F) (p : Ops G) (h : F → G) : Type 0 where
@@ -27,12 +27,6 @@ module _ {F G : Type 0} (o : Ops F) (p : Ops G) (h : F → G) (H : Homomorphism 
   unfolding power
   power-natural a zero = H .on-one
   power-natural a (suc i) = H .on-mul a (power o a i) ∙ ap (p .mul (h a)) (power-natural a i)
-
-  pub value-natural : (c : List F) (x : F) → h (value o c x) ≡ value p (map h c) (h x)
-  unfolding value
-  value-natural [] x = H .on-zero
-  value-natural (a ∷ c) x =
-      H .on-add a (o .mul x (value o c x)) ∙ ap (p .add (h a)) (H .on-mul x (value o c x) ∙ ap (p .mul (h x)) (value-natural c x))
 
   pub valueOf-natural : (n : ℕ) (c : ℕ → F) (x : F) → h (valueOf o n c x) ≡ valueOf p n (λ i. h (c i)) (h x)
   unfolding valueOf

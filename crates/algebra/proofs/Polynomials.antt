@@ -3,7 +3,7 @@
 -- `value-is-valueOf`, `value-timesRoot`, `value-shift`, `value-at-root`, `value-off-roots`, `length-fromRoots`, `monic-fromRoots`.
 use mathlib.Core.Path.{_≡_, refl, sym, ap, ap₂, _∙_}
 use mathlib.Core.List.{List, [], _∷_, _++_}
-use Prim.Native.Nat.{ℕ, zero, suc, _+_, _<_, _≤_}
+use Prim.Native.Nat.{ℕ, zero, suc, _<_, _≤_}
 use native.Mathlib.Omega.{arith}
 use lib.ListN.{length, getD, replicate}
 use Rattle.algebra.specs.Ops.{Ops, sub}

@@ -1,5 +1,5 @@
--- Finite sums over a field: equal terms, zero terms, sums and multiples, the first term, one term alone, exchange.
--- Holds: `sum-ext`, `sum-add`, `sum-scale`, `sum-neg`, `sum-zeros`, `sum-first`, `sum-split`, `sum-single`, `sum-exchange`.
+-- Finite sums over a field: equal terms, zero terms, sums and multiples, the first term, one term alone.
+-- Holds: `sum-ext`, `sum-add`, `sum-scale`, `sum-neg`, `sum-zeros`, `sum-first`, `sum-split`, `sum-single`.
 use mathlib.Core.Path.{_≡_, refl, sym, ap, ap₂, _∙_}
 use Prim.Native.Nat.{ℕ, zero, suc, _+_, _<_}
 use native.Mathlib.Nat.{add-zero as nat-add-zero, add-suc as nat-add-suc}
@@ -66,10 +66,3 @@ module _ {F : Type 0} (K : Field F) where
       at (yes e) rest =
           ap (λ (t : F). t ⊕ f n) (sum-zeros n f (λ i s. h i (omega arith) (omega arith))) ∙ zero-add K (f n) ∙ ap f e
       at (no d) rest = ap (λ (t : F). sum (K .ops) n f ⊕ t) (h n (omega arith) d) ∙ add-zero K (sum (K .ops) n f) ∙ rest (omega arith)
-
-  pub sum-exchange : (n m : ℕ) (f : ℕ → ℕ → F)
-      → sum (K .ops) n (λ i. sum (K .ops) m (f i)) ≡ sum (K .ops) m (λ j. sum (K .ops) n (λ i. f i j))
-  unfolding sum
-  sum-exchange zero m f = sym (sum-zeros m (λ j. 𝟘) (λ j l. refl))
-  sum-exchange (suc n) m f =
-      ap (λ (t : F). t ⊕ sum (K .ops) m (f n)) (sum-exchange n m f) ∙ sym (sum-add m (λ j. sum (K .ops) n (λ i. f i j)) (f n))

@@ -5,7 +5,6 @@ use mathlib.Core.Bool.{true, false}
 use mathlib.Core.List.{List}
 use Prim.Native.Nat.{ℕ, _*_, _≤_, _<_}
 use native.Mathlib.Omega.{arith}
-use native.Mathlib.Decide.{decLt}
 use lib.ListN.{length}
 use Rattle.algebra.proofs.Weights.{total-ext}
 use Rattle.field.specs.Symbols.{Symbols}
@@ -15,23 +14,22 @@ use Rattle.code.specs.Transmission.{view}
 use Rattle.code.specs.Cost.{symbolCost, blockCost}
 use Rattle.code.specs.Settings.{codeOf, Sound}
 use Rattle.code.specs.Reading.{levelCost}
+use Rattle.code.proofs.Blocks.{combination-ext}
 use Rattle.block.specs.Area.{at}
 use Rattle.block.specs.Candidate.{zerosAt, Begun, Candidate}
 use Rattle.block.specs.Step.{Information, Step, near, far}
 use Rattle.block.proofs.Spectra.{found-longer}
-use Rattle.block.proofs.CandidateBelow.{combination-same, length-of-near, read-of-near}
+use Rattle.block.proofs.CandidateBelow.{length-of-near, read-of-near}
 
 module _ (p : Setting) (S : Sound p) (l : ℕ) (level : l ≤ p .m) (block : List ℕ) (long : length block ≡ p .n) (symbols : Symbols (p .q) block)
     (series locator former found : List ℕ) (degree point : ℕ) (B : Begun p l block series locator former degree point) where
   -- A locator of too high a degree: every information is far.
   pub step-long : levelDistance (p .n) (p .k) l ≤ 2 * degree → Step p l block found false
-  step-long h = far (λ x information. by-cost x information (decLt (levelCost p (at block) l x) (levelDistance (p .n) (p .k) l)))
-    where
-      by-cost : (x : ℕ → ℕ → ℕ) → Information p l x → Dec (levelCost p (at block) l x < levelDistance (p .n) (p .k) l) → levelDistance (p .n) (p .k) l ≤ levelCost p (at block) l x
-      by-cost x information (yes close) =
-          let short = length-of-near p S l level block long symbols x information series locator former degree close (B .located) (B .spectral) in
-          absurd (omega (arith, short))
-      by-cost x information (no d) = omega arith
+  step-long h =
+      far (λ x information.
+      let never : levelCost p (at block) l x < levelDistance (p .n) (p .k) l → ⊥ =
+      λ close. omega (arith, length-of-near p S l level block long symbols x information series locator former degree close (B .located) (B .spectral)) in
+      omega arith)
 
   module _ (cost : ℕ) (C : Candidate p l block locator degree found) (counted : cost ≡ levelCost p (at block) l (view (p .k) found)) where
     pub step-near : cost < levelDistance (p .n) (p .k) l → Step p l block found true
@@ -41,7 +39,7 @@ module _ (p : Setting) (S : Sound p) (l : ℕ) (level : l ≤ p .m) (block : Lis
     same-cost : (x : ℕ → ℕ → ℕ) → Information p l x → levelCost p (at block) l x < levelDistance (p .n) (p .k) l → cost ≡ levelCost p (at block) l x
     unfolding blockCost
     same-cost x information close =
-        counted ∙ total-ext (p .n) _ _ (λ i h. ap (symbolCost (p .q) (at block i)) (combination-same (codeOf p) l (view (p .k) found) x i read))
+        counted ∙ total-ext (p .n) _ _ (λ i h. ap (symbolCost (p .q) (at block i)) (combination-ext (codeOf p) l (view (p .k) found) x i read))
       where
         read : (b r : ℕ) → b ≤ l → r < p .k → view (p .k) found b r ≡ x b r
         read =
@@ -50,8 +48,7 @@ module _ (p : Setting) (S : Sound p) (l : ℕ) (level : l ≤ p .m) (block : Lis
             (C .after) (C .values) found (C .spectral) (C .continued) (C .reads)
 
     pub step-far : levelDistance (p .n) (p .k) l ≤ cost → Step p l block found false
-    step-far h = far (λ x information. by-cost x information (decLt (levelCost p (at block) l x) (levelDistance (p .n) (p .k) l)))
-      where
-        by-cost : (x : ℕ → ℕ → ℕ) → Information p l x → Dec (levelCost p (at block) l x < levelDistance (p .n) (p .k) l) → levelDistance (p .n) (p .k) l ≤ levelCost p (at block) l x
-        by-cost x information (yes close) = let same = same-cost x information close in absurd (omega (arith, same))
-        by-cost x information (no d) = omega arith
+    step-far h =
+        far (λ x information.
+        let never : levelCost p (at block) l x < levelDistance (p .n) (p .k) l → ⊥ = λ close. omega (arith, same-cost x information close) in
+        omega arith)

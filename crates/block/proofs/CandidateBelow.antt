@@ -1,5 +1,5 @@
 -- The same on the numbers below q, as the code has it: if the information x is near, it is the information that was read.
--- Holds: `combination-same`, `recovered-more`, `length-of-near`, `read-of-near`.
+-- Holds: `recovered-more`, `length-of-near`, `read-of-near`.
 use mathlib.Core.Path.{_≡_, refl, sym, ap, ap₂, subst, fun-ext, _∙_}
 use mathlib.Core.List.{List}
 use Prim.Native.Nat.{ℕ, zero, suc, _+_, _-_, _*_, _≤_, _<_}
@@ -7,11 +7,10 @@ use native.Mathlib.Numerals.{add-one}
 use native.Mathlib.Omega.{arith}
 use lib.ListN.{length, getD}
 use Rattle.algebra.specs.Ops.{Ops, sub}
-use Rattle.algebra.specs.Sum.{sum, power}
+use Rattle.algebra.specs.Sum.{power}
 use Rattle.algebra.specs.Polynomial.{value, valueOf}
 use Rattle.algebra.specs.Weight.{weight}
 use Rattle.algebra.proofs.Order.{Order}
-use Rattle.algebra.proofs.Sums.{sum-ext}
 use Rattle.algebra.proofs.Polynomials.{valueOf-ext, value-is-valueOf}
 use Rattle.algebra.proofs.Weights.{total-ext, total-most}
 use Rattle.algebra.proofs.Naturality.{power-natural, valueOf-natural}
@@ -22,14 +21,14 @@ use Rattle.field.proofs.Laws.{lawsOf, orderOf}
 use Rattle.field.proofs.Symbols.{symbol-below}
 use Rattle.code.specs.declared.Setting.{Setting}
 use Rattle.code.specs.Code.{Code, levelDistance}
-use Rattle.code.specs.Generator.{rowSymbol, timesG}
+use Rattle.code.specs.Generator.{timesG}
 use Rattle.code.specs.Transmission.{view}
 use Rattle.code.specs.Level.{combination}
 use Rattle.code.specs.Recovery.{ending, Recovered}
 use Rattle.code.specs.Cost.{symbolCost, blockCost}
 use Rattle.code.specs.Settings.{codeOf, Sound}
 use Rattle.code.specs.Reading.{levelCost}
-use Rattle.code.proofs.Blocks.{codeOver}
+use Rattle.code.proofs.Blocks.{codeOver, combination-ext}
 use Rattle.code.proofs.Certainty.{weight-apart}
 use Rattle.code.proofs.Cost.{cost-same, byteCost, bytes-apart}
 use Rattle.code.proofs.Naturality.{mapped, timesG-natural, combination-natural, ending-natural}
@@ -45,16 +44,6 @@ use Rattle.block.proofs.Accumulated.{alpha-below}
 use Rattle.block.proofs.LocatorBelow.{K, positive, el, up, down, raise, fall, add-down, neg-down, tail-down, located-up}
 use Rattle.block.proofs.ErrorSpectrum.{spectrum}
 use Rattle.block.proofs.Candidate.{length-of-near as length-of-near-field, information-of-near}
-
--- A combination looks only at the symbols of its information blocks, over any operations.
-pub combination-same : {F : Type 0} (c : Code F) (l : ℕ) (x y : ℕ → ℕ → F) (i : ℕ) → ((b r : ℕ) → b ≤ l → r < c .k → x b r ≡ y b r)
-    → combination c l x i ≡ combination c l y i
-unfolding combination timesG
-combination-same c l x y i same =
-    sum-ext (c .ops) (suc l) (λ j. sum (c .ops) (c .k) (λ r. c .ops .mul (x (l - j) r) (rowSymbol c j r i)))
-    (λ j. sum (c .ops) (c .k) (λ r. c .ops .mul (y (l - j) r) (rowSymbol c j r i)))
-    (λ j h. sum-ext (c .ops) (c .k) (λ r. c .ops .mul (x (l - j) r) (rowSymbol c j r i)) (λ r. c .ops .mul (y (l - j) r) (rowSymbol c j r i))
-    (λ r s. ap (λ t. c .ops .mul t (rowSymbol c j r i)) (same (l - j) r (omega arith) s)))
 
 module _ (p : Setting) (S : Sound p) where
   abbrev q : ℕ
@@ -158,7 +147,7 @@ module _ (p : Setting) (S : Sound p) where
       combination-down i =
           combination-natural over o number (number-keeps q o B) l lifted i
           ∙ ap (λ (c : Code ℕ). combination c l (λ b r. number (lifted b r)) i) mapped-code
-          ∙ combination-same (codeOf p) l (λ b r. number (lifted b r)) x i (λ b r h s. down q o B (x b r) (information b r h s))
+          ∙ combination-ext (codeOf p) l (λ b r. number (lifted b r)) x i (λ b r h s. down q o B (x b r) (information b r h s))
 
       -- Twice the error's symbols are no more than the cost, since the received block costs nothing against itself.
       error : ℕ → Below q

@@ -93,7 +93,8 @@ module _ {F : Type 0} (K : Field F) (n : ℕ) (α : F) (order : Order (K .ops) n
 
     -- The locator is no longer than the weight of e: else the former locator would annihilate the place at which it fails.
     pub length-of-light : (w : ℕ) → weight (K .ops) n e ≤ w → w + w ≤ r → L ≤ w
-    length-of-light w light small = at (decLt w L)
+    length-of-light w light small =
+        let never : w < L → ⊥ = λ h. K .one-nonzero (sym (located .former-fails) ∙ ap (λ (t : F). scale ⊗ t) (former h) ∙ mul-zero K scale) in omega arith
       where
         former : w < L → convolution (K .ops) τ c p ≡ 𝟘
         former h =
@@ -104,11 +105,6 @@ module _ {F : Type 0} (K : Field F) (n : ℕ) (α : F) (order : Order (K .ops) n
             (λ s l. against-known (p - L) τ (λ a u. located .former-short a (omega arith)) s (omega (arith, located .placed, located .grown))
             ∙ located .former-annihilates (suc (p - L + s)) (omega (arith, located .grown)) (omega (arith, located .grown)))
             (L - 1)
-
-        at : Dec (w < L) → L ≤ w
-        at (yes h) =
-            absurd (K .one-nonzero (sym (located .former-fails) ∙ ap (λ (t : F). scale ⊗ t) (former h) ∙ mul-zero K scale))
-        at (no d) = omega arith
 
     -- The locator annihilates the whole spectrum of e.
     pub recurs-of-light : (w : ℕ) → weight (K .ops) n e ≤ w → w + w ≤ r → (s : ℕ) → against L σ e s ≡ 𝟘

@@ -12,16 +12,15 @@ use lib.Seq.{getD-set-same, getD-set-other}
 use Rattle.algebra.specs.Ops.{sub}
 use Rattle.algebra.specs.Sum.{power}
 use Rattle.algebra.specs.Polynomial.{falling}
-use Rattle.algebra.proofs.Sums.{sum-ext}
 use Rattle.field.specs.Fields.{Good, opsOf, alpha}
 use Rattle.field.specs.Symbols.{Is}
 use Rattle.field.proofs.Laws.{lawsOf}
 use Rattle.code.specs.declared.Setting.{Setting}
-use Rattle.code.specs.Code.{Code}
-use Rattle.code.specs.Generator.{rowSymbol, timesG}
+use Rattle.code.specs.Generator.{timesG}
 use Rattle.code.specs.Transmission.{view}
 use Rattle.code.specs.Recovery.{ending, Recovered}
 use Rattle.code.specs.Settings.{codeOf, Sound}
+use Rattle.code.proofs.Blocks.{timesG-ext}
 use Rattle.block.specs.Area.{AllBelow, at}
 use Rattle.block.specs.Information.{lacking, BlockRead, Read}
 use Rattle.block.proofs.Accumulated.{zero-below, zeros-below, below-set}
@@ -50,15 +49,6 @@ module _ (q : ℕ) (good : Good q) where
   unfolding power
   back-more j back y r b h t =
       record { same = t .same ∙ ap₂ (opsOf q .mul) (b .same) (h .same) ∙ ap (power (opsOf q) (opsOf q .inv alpha)) (sym (add-one j)); below = t .below }
-
--- Only the block's symbols count, over any operations.
-recovered-same : {F : Type 0} (c : Code F) (v : ℕ → F) (count : ℕ) (x y : ℕ → F) → ((r : ℕ) → r < c .k → y r ≡ x r) → Recovered c v count x → Recovered c v count y
-unfolding timesG
-recovered-same c v count x y same h =
-    record {
-      symbol = λ j l. sum-ext (c .ops) (c .k) (λ r. c .ops .mul (y r) (rowSymbol c 0 r (c .n - suc j))) (λ r. c .ops .mul (x r) (rowSymbol c 0 r (c .n - suc j)))
-          (λ r s. ap (λ t. c .ops .mul t (rowSymbol c 0 r (c .n - suc j))) (same r s)) ∙ h .symbol j l;
-    }
 
 module _ (p : Setting) (S : Sound p) (values : List ℕ) (values-below : AllBelow (p .q) values) where
   pub block-none : (from : ℕ) (information : List ℕ) → AllBelow (p .q) information → BlockRead p from 0 values information information
@@ -112,5 +102,7 @@ module _ (p : Setting) (S : Sound p) (values : List ℕ) (values-below : AllBelo
       by-block a l (yes e) = subst (λ (t : ℕ). Recovered (codeOf p) (view (p .k) values t) (p .k) (view (p .k) after t)) (sym e) (new .recovered)
       by-block a l (no d) =
           let up : a + 1 ≤ b = omega arith in
-          recovered-same (codeOf p) (view (p .k) values a) (p .k) (view (p .k) before a) (view (p .k) after a)
-          (λ r s. new .kept (a * p .k + r) (omega (arith, mul-le-mul-right (p .k) up))) (h .recovered a (omega arith))
+          record {
+            symbol = λ j s. timesG-ext (codeOf p) (view (p .k) after a) (view (p .k) before a) 0 (p .n - suc j)
+                (λ r t. new .kept (a * p .k + r) (omega (arith, mul-le-mul-right (p .k) up))) ∙ h .recovered a (omega arith) .symbol j s;
+          }

@@ -1,5 +1,5 @@
 -- Block facts over any field, α of order n and 1 ≤ k ≤ n (000, section 2 and Theorem 3.1; BLUEPRINT of the proof: zeros of f, twist, spectrum).
--- Holds: `codeOver`; `base-zero` and `base-nonzero` (the zeros of f); `valueOf-timesG` (the value of x × G_j);
+-- Holds: `codeOver`; `timesG-ext` and `combination-ext` (only the information's symbols count); `base-zero` and `base-nonzero` (the zeros of f); `valueOf-timesG` (the value of x × G_j);
 -- `spectrum-combination`, `combination-vanishes` and `combination-on-stretch` (the spectrum of a combination).
 use mathlib.Core.Path.{_≡_, refl, sym, ap, ap₂, _∙_}
 use mathlib.Core.List.{List, _∷_, _++_}
@@ -23,6 +23,20 @@ use Rattle.code.specs.Level.{combination}
 -- The code with these parameters over a field.
 abbrev pub codeOver : {F : Type 0} → Field F → F → ℕ → ℕ → ℕ → Code F
 codeOver K α n k m = record { ops = K .ops; α = α; n = n; k = k; m = m }
+
+-- A product with G_j and a combination look only at the symbols of the information, over any operations.
+module _ {F : Type 0} (c : Code F) where
+  pub timesG-ext : (x y : ℕ → F) (j i : ℕ) → ((r : ℕ) → r < c .k → x r ≡ y r) → timesG c x j i ≡ timesG c y j i
+  unfolding timesG
+  timesG-ext x y j i same =
+      sum-ext (c .ops) (c .k) (λ r. c .ops .mul (x r) (rowSymbol c j r i)) (λ r. c .ops .mul (y r) (rowSymbol c j r i))
+      (λ r l. ap (λ t. c .ops .mul t (rowSymbol c j r i)) (same r l))
+
+  pub combination-ext : (l : ℕ) (x y : ℕ → ℕ → F) (i : ℕ) → ((b r : ℕ) → b ≤ l → r < c .k → x b r ≡ y b r) → combination c l x i ≡ combination c l y i
+  unfolding combination
+  combination-ext l x y i same =
+      sum-ext (c .ops) (suc l) (λ j. timesG c (x (l - j)) j i) (λ j. timesG c (y (l - j)) j i)
+      (λ j h. timesG-ext (x (l - j)) (y (l - j)) j i (λ r s. same (l - j) r (omega arith) s))
 
 module _ {F : Type 0} (o : Ops F) (α : F) where
   pub length-points : (r : ℕ) → length (points o α r) ≡ r

@@ -23,7 +23,7 @@ use Rattle.code.specs.Generator.{rowSymbol, timesG}
 use Rattle.code.specs.Transmission.{earlier, sentSymbol}
 use Rattle.code.specs.Level.{combination}
 use Rattle.code.specs.Cost.{costTo}
-use Rattle.code.proofs.Blocks.{codeOver}
+use Rattle.code.proofs.Blocks.{codeOver, timesG-ext}
 use Rattle.code.proofs.LevelCode.{combination-weight}
 
 module _ {F R : Type 0} (K : Field F) (cost : R → F → ℕ) (apart : (v : R) (a b : F) → (a ≡ b → ⊥) → 2 ≤ cost v a + cost v b) where
@@ -73,11 +73,6 @@ module _ {F : Type 0} (K : Field F) (α : F) (n k m : ℕ) where
   timesG-zeros x j i h =
       sum-zeros K k (λ r. x r ⊗ rowSymbol c j r i) (λ r l. ap (λ (t : F). t ⊗ rowSymbol c j r i) (h r l) ∙ zero-mul K (rowSymbol c j r i))
 
-  pub timesG-ext : (x y : ℕ → F) (j i : ℕ) → ((r : ℕ) → r < k → x r ≡ y r) → timesG c x j i ≡ timesG c y j i
-  unfolding timesG
-  timesG-ext x y j i h =
-      sum-ext (K .ops) k (λ r. x r ⊗ rowSymbol c j r i) (λ r. y r ⊗ rowSymbol c j r i) (λ r l. ap (λ (t : F). t ⊗ rowSymbol c j r i) (h r l))
-
   -- Two messages that agree before block b: their transmissions differ in block b + l by the combination of the differences from block b on.
   pub sent-difference : (u v : ℕ → ℕ → F) (b l i : ℕ) → l ≤ m → ((s r : ℕ) → s < b → r < k → u s r ≡ v s r)
       → sub (K .ops) (sentSymbol c u (b + l) i) (sentSymbol c v (b + l) i) ≡ combination c l (λ s r. sub (K .ops) (u (b + s) r) (v (b + s) r)) i
@@ -90,7 +85,7 @@ module _ {F : Type 0} (K : Field F) (α : F) (n k m : ℕ) where
       ∙ ap (λ (t : ℕ). sum (K .ops) t term) (sym split)
       ∙ sum-split K (suc l) (m - l) term
       ∙ ap₂ _⊕_
-      (sum-ext (K .ops) (suc l) term (λ j. timesG c (difference (l - j)) j i) (λ j h. timesG-ext (gap j) (difference (l - j)) j i (λ r s. inside j r h)))
+      (sum-ext (K .ops) (suc l) term (λ j. timesG c (difference (l - j)) j i) (λ j h. timesG-ext c (gap j) (difference (l - j)) j i (λ r s. inside j r h)))
       (sum-zeros K (m - l) (λ j. term (suc l + j)) (λ j h. timesG-zeros (gap (suc l + j)) (suc l + j) i (λ r s. outside (suc l + j) r (omega arith) s)))
       ∙ add-zero K (sum (K .ops) (suc l) (λ j. timesG c (difference (l - j)) j i))
     where

@@ -5,9 +5,7 @@ use mathlib.Core.Path.{_≡_, sym, ap, _∙_}
 use mathlib.Core.Bool.{not}
 use mathlib.Core.List.{List}
 use Prim.Native.Nat.{ℕ, _+_, _-_, _*_, _≤_, _<_}
-use native.Mathlib.Nat.{mul-le-mul-right}
 use native.Mathlib.Omega.{arith}
-use native.Mathlib.Decide.{decLe}
 use lib.Dec.{T, eqb}
 use lib.ListN.{length, getD}
 use Rattle.algebra.specs.Sum.{power}
@@ -28,7 +26,7 @@ use Rattle.code.specs.Settings.{codeOf, Sound, isSetting, settingOf}
 use Rattle.code.proofs.Blocks.{combination-vanishes}
 use Rattle.code.proofs.LevelCode.{informationOf, level-code}
 use Rattle.code.proofs.Naturality.{combination-natural}
-use Rattle.code.proofs.Settings.{soundOf}
+use Rattle.code.proofs.Settings.{soundOf, level-fits}
 use Rattle.code.proofs.Numbers.{laws, positive, fieldOf, rootOf, orderAt, overField, keeps, number-zero, root-number, mapped-code, lifted, combination-number}
 
 -- The block's polynomial vanishes at α^0 .. α^(n-(l+1)k-1).
@@ -74,21 +72,19 @@ module _ (p : Setting) (S : Sound p) (l : ℕ) (fits : (l + 1) * p .k ≤ p .n) 
 
   -- A block that vanishes there, and is not zero, has at least d_l nonzero symbols.
   pub vanishing-heavy : Vanishes p l block → (i : ℕ) → i < p .n → (getD block i 0 ≡ 0 → ⊥) → levelDistance (p .n) (p .k) l ≤ countOf (p .n) (λ i. not (eqb (getD block i 0) 0))
-  vanishing-heavy zeros i u nonzero = at (decLe (levelDistance (p .n) (p .k) l) (countOf (p .n) (λ i. not (eqb (getD block i 0) 0))))
+  vanishing-heavy zeros i u nonzero =
+      let light : countOf (p .n) (λ i. not (eqb (getD block i 0) 0)) < levelDistance (p .n) (p .k) l → ⊥ =
+      λ few. nonzero (sym (received-number i)
+      ∙ (ap number (zero-of-vanishing (fieldOf p S) (p .n) (rootOf p S) (orderAt p S) 0 (p .n - (l + 1) * p .k) received
+      (λ s h. let same : 0 + s ≡ s = omega arith in
+      ap (λ (t : ℕ). valueOf (fieldOf p S .ops) (p .n) received (power (fieldOf p S .ops) (rootOf p S) t)) same ∙ vanishes-over zeros s h)
+      (omega (arith, weight-same)) i u)
+      ∙ number-zero p S)) in
+      omega arith
     where
       weight-same : weight (fieldOf p S .ops) (p .n) received ≡ countOf (p .n) (λ i. not (eqb (getD block i 0) 0))
       weight-same =
           countOf-ext (p .n) _ _ (λ i h. ap not (keeps p S .on-test (received i) ∙ (ap (opsOf (p .q) .isZero) (received-number i) ∙ laws p S .test-is (getD block i 0))))
-
-      at : Dec (levelDistance (p .n) (p .k) l ≤ countOf (p .n) (λ i. not (eqb (getD block i 0) 0))) → levelDistance (p .n) (p .k) l ≤ countOf (p .n) (λ i. not (eqb (getD block i 0) 0))
-      at (yes h) = h
-      at (no d) =
-          absurd (nonzero (sym (received-number i)
-          ∙ (ap number (zero-of-vanishing (fieldOf p S) (p .n) (rootOf p S) (orderAt p S) 0 (p .n - (l + 1) * p .k) received
-          (λ s h. let same : 0 + s ≡ s = omega arith in
-          ap (λ (t : ℕ). valueOf (fieldOf p S .ops) (p .n) received (power (fieldOf p S .ops) (rootOf p S) t)) same ∙ vanishes-over zeros s h)
-          (omega (arith, weight-same)) i u)
-          ∙ number-zero p S)))
 
   -- A block that vanishes there is of the level.
   pub vanishing-in-level : Vanishes p l block → InLevel p l block
@@ -127,4 +123,4 @@ level-blocks s t l low block long symbols =
     S = soundOf s t
 
     fits : (l + 1) * p .k ≤ p .n
-    fits = let top : l + 1 ≤ p .m + 1 = omega arith in omega (arith, mul-le-mul-right (p .k) top, S .room)
+    fits = level-fits p S l low

@@ -65,17 +65,15 @@ module _ {F : Type 0} (K : Field F) (α : F) (n k m : ℕ) (order : Order (K .op
   -- A combination with any nonzero information symbol has more than n - (l+1)k, so at least d_l, nonzero symbols.
   pub combination-weight : (l : ℕ) (x : ℕ → ℕ → F) → (l + 1) * k ≤ n → (b r : ℕ) → b ≤ l → r < k → (x b r ≡ 𝟘 → ⊥)
       → n - (l + 1) * k < weight (K .ops) n (combination c l x)
-  combination-weight l x fits b r below inside nonzero = at (decLt (n - (l + 1) * k) (weight (K .ops) n (combination c l x)))
-    where
-      at : Dec (n - (l + 1) * k < weight (K .ops) n (combination c l x)) → n - (l + 1) * k < weight (K .ops) n (combination c l x)
-      at (yes h) = h
-      at (no d) =
-          absurd (nonzero (combination-injective l x fits
-          (zero-of-vanishing K n α order 0 (n - (l + 1) * k) (combination c l x)
-          (λ s h. let same : 0 + s ≡ s = omega arith in
-          ap (λ (t : ℕ). valueOf (K .ops) n (combination c l x) (pow t)) same ∙ combination-vanishes K α n k m l x s fits h)
-          (omega arith))
-          b r below inside))
+  combination-weight l x fits b r below inside nonzero =
+      let light : weight (K .ops) n (combination c l x) ≤ n - (l + 1) * k → ⊥ =
+      λ few. nonzero (combination-injective l x fits
+      (zero-of-vanishing K n α order 0 (n - (l + 1) * k) (combination c l x)
+      (λ s h. let same : 0 + s ≡ s = omega arith in
+      ap (λ (t : ℕ). valueOf (K .ops) n (combination c l x) (pow t)) same ∙ combination-vanishes K α n k m l x s fits h)
+      (omega arith))
+      b r below inside) in
+      omega arith
 
   -- Blocks whose parts of the spectrum are what a combination shows on their places are its information.
   pub information-of-spectrum : (l b : ℕ) (x : ℕ → ℕ → F) (y : ℕ → F) → (l + 1) * k ≤ n → b ≤ l

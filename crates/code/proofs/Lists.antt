@@ -1,7 +1,7 @@
 -- Lists as blocks: tabulated lists, symbols of a list, equal parts.
--- Holds: `length-tabulate`, `getD-tabulate`, `tabulate-ext`, `view-tabulate`, `getD-zeros`, `equal-part`, `part-equal`, `copied-whole`.
+-- Holds: `length-tabulate`, `getD-tabulate`, `view-tabulate`, `getD-zeros`, `equal-part`, `part-equal`, `copied-whole`.
 use mathlib.Core.Path.{_≡_, refl, sym, ap, ap₂, _∙_}
-use mathlib.Core.List.{List, _∷_, _++_, append-nil}
+use mathlib.Core.List.{List, _++_, append-nil}
 use Prim.Native.Nat.{ℕ, zero, suc, _+_, _*_, _/_, _%_, _≤_, _<_}
 use native.Mathlib.Omega.{arith}
 use native.Mathlib.Decide.{decLt}
@@ -20,13 +20,6 @@ unfolding tabulate
 getD-tabulate zero f i d l = absurd (omega arith)
 getD-tabulate (suc n) f zero d l = refl
 getD-tabulate (suc n) f (suc i) d l = getD-tabulate n (λ i. f (suc i)) i d (omega arith)
-
-pub tabulate-ext : {A : Type 0} (n : ℕ) (f g : ℕ → A) → ((i : ℕ) → i < n → f i ≡ g i) → tabulate n f ≡ tabulate n g
-unfolding tabulate
-tabulate-ext zero f g h = refl
-tabulate-ext (suc n) f g h =
-    ap (λ t. t ∷ tabulate n (λ i. f (suc i))) (h 0 (omega arith))
-    ∙ ap (λ t. g 0 ∷ t) (tabulate-ext n (λ i. f (suc i)) (λ i. g (suc i)) (λ i l. h (suc i) (omega arith)))
 
 -- Symbol i of block s of a tabulated frame.
 pub view-tabulate : (blocks w : ℕ) (f : ℕ → ℕ → ℕ) (s i : ℕ) → s < blocks → i < w

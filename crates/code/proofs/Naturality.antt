@@ -2,8 +2,8 @@
 -- Holds: `mapped`; `base-natural`, `rowSymbol-natural`, `timesG-natural`, `sentSymbol-natural`, `combination-natural`, `ending-natural`.
 use mathlib.Core.Path.{_≡_, refl, sym, ap, ap₂, _∙_}
 use mathlib.Core.Bool.{Bool, true, false}
-use mathlib.Core.List.{List, [], _∷_, _++_, map}
-use Prim.Native.Nat.{ℕ, zero, suc, _+_, _-_, _*_}
+use mathlib.Core.List.{List, _∷_, _++_, map, map-append}
+use Prim.Native.Nat.{ℕ, zero, suc, _-_, _*_}
 use lib.Dec.{leb}
 use lib.ListN.{getD, replicate, List·getD-map}
 use Rattle.algebra.specs.Ops.{Ops, pick}
@@ -16,14 +16,11 @@ use Rattle.code.specs.Generator.{points, base, rowSymbol, timesG}
 use Rattle.code.specs.Transmission.{earlier, sentSymbol}
 use Rattle.code.specs.Level.{combination}
 use Rattle.code.specs.Recovery.{ending}
+use Rattle.code.proofs.Blocks.{timesG-ext}
 
 -- The code with α mapped, over other operations.
 abbrev pub mapped : {F G : Type 0} → Code F → Ops G → (F → G) → Code G
 mapped c p h = record { ops = p; α = h (c .α); n = c .n; k = c .k; m = c .m }
-
-map-append : {F G : Type 0} (h : F → G) (a b : List F) → map h (a ++ b) ≡ map h a ++ map h b
-map-append h [] b = refl
-map-append h (x ∷ a) b = ap (λ t. h x ∷ t) (map-append h a b)
 
 map-replicate : {F G : Type 0} (h : F → G) (n : ℕ) (a : F) → map h (replicate n a) ≡ replicate n (h a)
 map-replicate h zero a = refl
@@ -57,12 +54,6 @@ module _ {F G : Type 0} (c : Code F) (p : Ops G) (h : F → G) (H : Homomorphism
       ∙ sum-ext p (c .k) (λ r. h (c .ops .mul (x r) (rowSymbol c j r i))) (λ r. p .mul (h (x r)) (rowSymbol (mapped c p h) j r i))
       (λ r l. H .on-mul (x r) (rowSymbol c j r i) ∙ ap (p .mul (h (x r))) (rowSymbol-natural j r i))
 
-  pub timesG-same : (x y : ℕ → G) (j i : ℕ) → ((r : ℕ) → x r ≡ y r) → timesG (mapped c p h) x j i ≡ timesG (mapped c p h) y j i
-  unfolding timesG
-  timesG-same x y j i same =
-      sum-ext p (c .k) (λ r. p .mul (x r) (rowSymbol (mapped c p h) j r i)) (λ r. p .mul (y r) (rowSymbol (mapped c p h) j r i))
-      (λ r l. ap (λ t. p .mul t (rowSymbol (mapped c p h) j r i)) (same r))
-
   earlier-natural : (u : ℕ → ℕ → F) (s j r : ℕ) → h (earlier (c .ops) u s j r) ≡ earlier p (λ b t. h (u b t)) s j r
   earlier-natural u s j r = at (leb j s)
     where
@@ -76,7 +67,7 @@ module _ {F G : Type 0} (c : Code F) (p : Ops G) (h : F → G) (H : Homomorphism
       sum-natural (c .ops) p h H (suc (c .m)) (λ j. timesG c (earlier (c .ops) u s j) j i)
       ∙ sum-ext p (suc (c .m)) (λ j. h (timesG c (earlier (c .ops) u s j) j i)) (λ j. timesG (mapped c p h) (earlier p (λ b r. h (u b r)) s j) j i)
       (λ j l. timesG-natural (earlier (c .ops) u s j) j i
-      ∙ timesG-same (λ r. h (earlier (c .ops) u s j r)) (earlier p (λ b r. h (u b r)) s j) j i (λ r. earlier-natural u s j r))
+      ∙ timesG-ext (mapped c p h) (λ r. h (earlier (c .ops) u s j r)) (earlier p (λ b r. h (u b r)) s j) j i (λ r q. earlier-natural u s j r))
 
   pub combination-natural : (l : ℕ) (x : ℕ → ℕ → F) (i : ℕ) → h (combination c l x i) ≡ combination (mapped c p h) l (λ b r. h (x b r)) i
   unfolding combination

@@ -17,7 +17,8 @@ use Rattle.code.specs.Cost.{symbolCost, blockCost, rebuiltCost}
 use Rattle.code.specs.Settings.{codeOf, Sound}
 use Rattle.code.specs.Windows.{windowLength}
 use Rattle.code.specs.Reading.{Below, levelCost, windowCost, zeroCost}
-use Rattle.code.proofs.Windows.{combination-ext, combination-zeros}
+use Rattle.code.proofs.Blocks.{combination-ext}
+use Rattle.code.proofs.Windows.{combination-zeros}
 use Rattle.code.proofs.Turns.{turn-certain, turn-refused}
 use Rattle.code.proofs.Numbers.{positive, fieldOf, rootOf, orderAt, overField, number-zero, lifted, number-lifted, combination-number}
 use Rattle.code.proofs.Cost.{byteCost, bytes-apart}
@@ -32,7 +33,7 @@ module _ (p : Setting) (S : Sound p) where
   unfolding lifted
   combination-none l i =
       sym (combination-number p S (λ s r. 0) (λ s r. positive p S) l i)
-      ∙ ap number (combination-ext (fieldOf p S) (rootOf p S) (p .n) (p .k) (p .m) l (lifted p S (λ s r. 0)) (λ s r. fieldOf p S .ops .zero) i
+      ∙ ap number (combination-ext (overField p S) l (lifted p S (λ s r. 0)) (λ s r. fieldOf p S .ops .zero) i
       (λ s r u v. number-injective _ _ (number-element (p .q) (positive p S) 0 (positive p S) ∙ sym (number-zero p S)))
       ∙ combination-zeros (fieldOf p S) (rootOf p S) (p .n) (p .k) (p .m) l i)
       ∙ number-zero p S

@@ -19,7 +19,7 @@ use Rattle.code.specs.Generator.{rowSymbol, timesG}
 use Rattle.code.specs.Transmission.{view, earlier, sentSymbol}
 use Rattle.code.specs.Settings.{codeOf, Sound}
 use Rattle.code.specs.Reading.{only, Residual}
-use Rattle.code.proofs.Certainty.{timesG-ext}
+use Rattle.code.proofs.Blocks.{timesG-ext}
 use Rattle.code.proofs.Windows.{sent-sub, sent-zeros}
 use Rattle.code.proofs.Turns.{contribution, single, sent-single}
 use Rattle.code.proofs.Numbers.{laws, positive, fieldOf, rootOf, overField, keeps, number-zero, number-sub, lifted, number-lifted, sent-number, timesG-number, rowSymbol-number}
@@ -30,7 +30,7 @@ module _ (p : Setting) (S : Sound p) where
       → sentSymbol (overField p S) u s i ≡ sentSymbol (overField p S) v s i
   unfolding sentSymbol
   sent-ext u v same s i =
-      sum-ext (fieldOf p S .ops) (suc (p .m)) _ _ (λ j h. timesG-ext (fieldOf p S) (rootOf p S) (p .n) (p .k) (p .m)
+      sum-ext (fieldOf p S .ops) (suc (p .m)) _ _ (λ j h. timesG-ext (overField p S)
       (earlier (fieldOf p S .ops) u s j) (earlier (fieldOf p S .ops) v s j) j i (λ r l. at (leb j s) j r l))
     where
       at : (b : Bool) (j r : ℕ) → r < p .k → pick b (u (s - j) r) (fieldOf p S .ops .zero) ≡ pick b (v (s - j) r) (fieldOf p S .ops .zero)

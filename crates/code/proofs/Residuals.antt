@@ -21,7 +21,8 @@ use Rattle.code.specs.Cost.{symbolCost, costTo, blockCost, rebuiltCost}
 use Rattle.code.specs.Settings.{codeOf, Sound}
 use Rattle.code.specs.Windows.{windowLength, Message}
 use Rattle.code.specs.Reading.{Below, windowCost, zeroCost, messageCost, Residual}
-use Rattle.code.proofs.Windows.{sent-sub, sent-ahead, combination-ext}
+use Rattle.code.proofs.Blocks.{combination-ext}
+use Rattle.code.proofs.Windows.{sent-sub, sent-ahead}
 use Rattle.code.proofs.Numbers.{laws, positive, fieldOf, rootOf, overField, keeps, number-zero, number-sub, lifted, number-lifted, sent-number, combination-number, message-below, sent-below}
 use Rattle.code.proofs.Cost.{cost-shift}
 use Rattle.code.proofs.Reading.{zero-cost}
@@ -108,7 +109,7 @@ module _ (p : Setting) (S : Sound p) where
       unfolding x' g'
       ahead-sent s i low =
           sym (combination-number p S (ahead p x g j) ahead-small s i)
-          ∙ ap number (combination-ext (fieldOf p S) (rootOf p S) (p .n) (p .k) (p .m) s (lifted p S (ahead p x g j)) (λ t r. sub (fieldOf p S .ops) (x' (j + t) r) (g' (j + t) r)) i
+          ∙ ap number (combination-ext (overField p S) s (lifted p S (ahead p x g j)) (λ t r. sub (fieldOf p S .ops) (x' (j + t) r) (g' (j + t) r)) i
           (λ t r u v. ahead-element t r)
           ∙ sym (sent-ahead (fieldOf p S) (rootOf p S) (p .n) (p .k) (p .m) (λ t r. sub (fieldOf p S .ops) (x' t r) (g' t r)) j s i low before)
           ∙ sym (sent-sub (fieldOf p S) (rootOf p S) (p .n) (p .k) (p .m) x' g' (j + s) i))

@@ -20,9 +20,9 @@ use Rattle.code.specs.Code.{Code, levelDistance, distancesTo}
 use Rattle.code.specs.Generator.{timesG}
 use Rattle.code.specs.Transmission.{earlier, sentSymbol}
 use Rattle.code.specs.Cost.{costTo, blockCost, rebuiltCost}
-use Rattle.code.proofs.Blocks.{codeOver}
-use Rattle.code.proofs.Certainty.{timesG-zeros, timesG-ext, block-certain}
-use Rattle.code.proofs.Windows.{sent-ahead, combination-ext, combination-certain}
+use Rattle.code.proofs.Blocks.{codeOver, timesG-ext, combination-ext}
+use Rattle.code.proofs.Certainty.{timesG-zeros, block-certain}
+use Rattle.code.proofs.Windows.{sent-ahead, combination-certain}
 
 module _ {F : Type 0} (K : Field F) (α : F) (n k m : ℕ) where
   open Ops (K .ops) using (zero as 𝟘)
@@ -66,7 +66,7 @@ module _ {F : Type 0} (K : Field F) (α : F) (n k m : ℕ) where
       inside h (yes l) =
           sum-single K (suc m) (s - b) terms (omega arith)
           (λ j u d. timesG-zeros K α n k m (earlier (K .ops) (single x b) s j) j i (λ r q. earlier-off x b s j r (λ v e. d (omega arith))))
-          ∙ timesG-ext K α n k m (earlier (K .ops) (single x b) s (s - b)) x (s - b) i (λ r q. there r)
+          ∙ timesG-ext c (earlier (K .ops) (single x b) s (s - b)) x (s - b) i (λ r q. there r)
           ∙ sym (ap (λ (t : Bool). pick t (timesG c x (s - b) i) 𝟘) (le-leb (s - b) m l))
         where
           there : (r : ℕ) → earlier (K .ops) (single x b) s (s - b) r ≡ x r
@@ -93,7 +93,7 @@ module _ {F : Type 0} (K : Field F) (α : F) (n k m : ℕ) where
     sent-cost y l low =
         total-ext (suc l) _ _ (λ s h. total-ext n _ _ (λ i q. ap₂ cost (ap (λ (b : ℕ). w b i) (zero-add s))
         (sent-ahead K α n k m y 0 s i (omega arith) (λ t r u v. absurd (omega arith))
-        ∙ combination-ext K α n k m s (λ t r. y (0 + t) r) y i (λ t r u v. ap (λ (b : ℕ). y b r) (zero-add t)))))
+        ∙ combination-ext c s (λ t r. y (0 + t) r) y i (λ t r u v. ap (λ (b : ℕ). y b r) (zero-add t)))))
 
     -- Two near sequences have the same first block.
     pub turn-certain : (y z : ℕ → ℕ → F) (l : ℕ) → l ≤ m → rebuiltCost c cost w l y < distancesTo n k l → rebuiltCost c cost w l z < distancesTo n k l
@@ -105,13 +105,10 @@ module _ {F : Type 0} (K : Field F) (α : F) (n k m : ℕ) where
     pub turn-refused : (y z : ℕ → ℕ → F) (l : ℕ) → l ≤ m → rebuiltCost c cost w l y < distancesTo n k l → blockCost c cost (w l) l z < levelDistance n k l
         → distancesTo n k l ≤ rebuiltCost c cost w l z → levelDistance n k l ≤ blockCost c cost (w l) l y
     unfolding rebuiltCost blockCost
-    turn-refused y z l low near close bad = at (decLe (levelDistance n k l) (blockCost c cost (w l) l y))
+    turn-refused y z l low near close bad =
+        let never : blockCost c cost (w l) l y < levelDistance n k l → ⊥ = λ small. omega (arith, same small) in omega arith
       where
         same : blockCost c cost (w l) l y < levelDistance n k l → rebuiltCost c cost w l y ≡ rebuiltCost c cost w l z
         same small =
-            total-ext (suc l) _ _ (λ s h. total-ext n _ _ (λ i q. ap (cost (w s i)) (combination-ext K α n k m s y z i
+            total-ext (suc l) _ _ (λ s h. total-ext n _ _ (λ i q. ap (cost (w s i)) (combination-ext c s y z i
             (λ t r u v. combination-certain K α n k m order fits cost apart (w l) l y z low small close t r (omega arith) v))))
-
-        at : Dec (levelDistance n k l ≤ blockCost c cost (w l) l y) → levelDistance n k l ≤ blockCost c cost (w l) l y
-        at (yes h) = h
-        at (no d) = absurd (omega (arith, same (omega arith)))

@@ -1,6 +1,6 @@
 -- Reading a window, over any field and any n, k, m with (m+1)k ≤ n (01, "Reading a reception"; 000, Algorithms 2.3 and 3.3, Theorem 3.4).
 -- Received symbols are of any type R, with a cost as in `Certainty`.
--- Holds: `sent-sub` (the transmission of a difference), `sent-zeros`, `sent-ahead`; `combination-zeros`, `combination-ext`, `combination-sub`; `combination-certain`.
+-- Holds: `sent-sub` (the transmission of a difference), `sent-zeros`, `sent-ahead`; `combination-zeros`, `combination-sub`; `combination-certain`.
 use mathlib.Core.Path.{_≡_, refl, sym, ap, _∙_}
 use mathlib.Core.Bool.{Bool, true, false}
 use Prim.Native.Nat.{ℕ, zero, suc, _+_, _-_, _*_, _≤_, _<_}
@@ -16,9 +16,9 @@ use Rattle.code.specs.Generator.{timesG}
 use Rattle.code.specs.Transmission.{earlier, sentSymbol}
 use Rattle.code.specs.Level.{combination}
 use Rattle.code.specs.Cost.{blockCost}
-use Rattle.code.proofs.Blocks.{codeOver}
+use Rattle.code.proofs.Blocks.{codeOver, timesG-ext, combination-ext}
 use Rattle.code.proofs.LevelCode.{combination-weight}
-use Rattle.code.proofs.Certainty.{sum-sub, timesG-sub, timesG-zeros, timesG-ext, sent-difference, weight-apart}
+use Rattle.code.proofs.Certainty.{sum-sub, timesG-sub, timesG-zeros, sent-difference, weight-apart}
 
 module _ {F : Type 0} (K : Field F) (α : F) (n k m : ℕ) where
   infixl 60 _⊕_
@@ -49,7 +49,7 @@ module _ {F : Type 0} (K : Field F) (α : F) (n k m : ℕ) where
       ∙ sum-ext (K .ops) (suc m) (λ j. sub (K .ops) (timesG c (earlier (K .ops) x s j) j i) (timesG c (earlier (K .ops) g s j) j i))
       (λ j. timesG c (earlier (K .ops) (λ b r. sub (K .ops) (x b r) (g b r)) s j) j i)
       (λ j h. timesG-sub K α n k m (earlier (K .ops) x s j) (earlier (K .ops) g s j) j i
-      ∙ timesG-ext K α n k m (λ r. sub (K .ops) (earlier (K .ops) x s j r) (earlier (K .ops) g s j r))
+      ∙ timesG-ext c (λ r. sub (K .ops) (earlier (K .ops) x s j r) (earlier (K .ops) g s j r))
       (earlier (K .ops) (λ b r. sub (K .ops) (x b r) (g b r)) s j) j i (λ r l. earlier-sub x g s j r))
 
   pub sent-zeros : (s i : ℕ) → sentSymbol c (λ b r. 𝟘) s i ≡ 𝟘
@@ -66,12 +66,6 @@ module _ {F : Type 0} (K : Field F) (α : F) (n k m : ℕ) where
   unfolding combination
   combination-zeros l i = sum-zeros K (suc l) (λ j. timesG c (λ r. 𝟘) j i) (λ j h. timesG-zeros K α n k m (λ r. 𝟘) j i (λ r s. refl))
 
-  pub combination-ext : (l : ℕ) (x y : ℕ → ℕ → F) (i : ℕ) → ((b r : ℕ) → b ≤ l → r < k → x b r ≡ y b r) → combination c l x i ≡ combination c l y i
-  unfolding combination
-  combination-ext l x y i same =
-      sum-ext (K .ops) (suc l) (λ j. timesG c (x (l - j)) j i) (λ j. timesG c (y (l - j)) j i)
-      (λ j h. timesG-ext K α n k m (x (l - j)) (y (l - j)) j i (λ r s. same (l - j) r (omega arith) s))
-
   pub combination-sub : (l : ℕ) (x y : ℕ → ℕ → F) (i : ℕ)
       → sub (K .ops) (combination c l x i) (combination c l y i) ≡ combination c l (λ b r. sub (K .ops) (x b r) (y b r)) i
   unfolding combination
@@ -86,7 +80,7 @@ module _ {F : Type 0} (K : Field F) (α : F) (n k m : ℕ) where
   sent-ahead y b l i low zeros =
       sym (sub-zero (sentSymbol c y (b + l) i)) ∙ ap (sub (K .ops) (sentSymbol c y (b + l) i)) (sym (sent-zeros (b + l) i))
       ∙ sent-difference K α n k m y (λ s r. 𝟘) b l i low zeros
-      ∙ combination-ext l (λ s r. sub (K .ops) (y (b + s) r) 𝟘) (λ s r. y (b + s) r) i (λ s r h q. sub-zero (y (b + s) r))
+      ∙ combination-ext c l (λ s r. sub (K .ops) (y (b + s) r) 𝟘) (λ s r. y (b + s) r) i (λ s r h q. sub-zero (y (b + s) r))
 
   module _ (order : Order (K .ops) n α) (fits : (m + 1) * k ≤ n) {R : Type 0} (cost : R → F → ℕ)
       (apart : (v : R) (a b : F) → (a ≡ b → ⊥) → 2 ≤ cost v a + cost v b) where

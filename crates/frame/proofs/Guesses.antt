@@ -1,5 +1,5 @@
 -- Changes of the guessed message, and what is left after them.
--- Holds: `windowAt`, `window-room`, `symbol-room`, `information-short`, `block-room`, `blocks-few`; `revised-lengths`, `revised-none`, `revised-then`; `adjusted`; `Adding` (the first r symbols of a block were added) and its steps; `added-past`, `added-zero`, `added-then`.
+-- Holds: `windowAt`, `window-room`, `symbol-room`, `block-room`, `blocks-few`; `revised-lengths`, `revised-none`, `revised-then`; `adjusted`; `Adding` (the first r symbols of a block were added) and its steps; `added-past`, `added-zero`, `added-then`.
 use mathlib.Core.Path.{_≡_, refl, sym, ap, ap₂, subst, _∙_}
 use mathlib.Core.Bool.{Bool, true, false}
 use mathlib.Core.List.{List}
@@ -44,12 +44,6 @@ window-room p T j message left A l =
 pub symbol-room : (p : Setting) (T j r : ℕ) (message left : List ℕ) → Areas p T message left → j < T → r < p .k → j * p .k + r < length message
 symbol-room p T j r message left A l u =
     subst (λ (t : ℕ). j * p .k + r < t) (sym (A .message-long)) (digits-lt l u)
-
--- An information block is no longer than a block.
-pub information-short : (p : Setting) → Sound p → p .k ≤ p .n
-information-short p S =
-    let one : 1 ≤ p .m + 1 = omega arith in
-    omega (arith, mul-le-mul-right (p .k) one, S .room)
 
 -- Block j lies within what is left.
 pub block-room : (p : Setting) (T j : ℕ) (message left : List ℕ) → Areas p T message left → j < T → j * p .n + p .n ≤ length left

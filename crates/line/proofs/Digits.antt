@@ -1,8 +1,8 @@
 -- Digits: values of characters, and runs of them that loops read and write.
 -- Holds: `digit-low`, `digit-number`, `digit-between`, `digit-letter`, `digit-high`, `digit-most`; `character-number`, `character-letter`;
--- `map-append`, `getD-map`; `mapped-none`, `mapped-more`, `mapped-all` (a map, as a loop fills it).
+-- `getD-map`; `mapped-none`, `mapped-more`, `mapped-all` (a map, as a loop fills it).
 use mathlib.Core.Path.{_≡_, refl, sym, ap, ap₂, _∙_}
-use mathlib.Core.List.{List, [], _∷_, _++_, map}
+use mathlib.Core.List.{List, [], _∷_, _++_, map, map-append}
 use Prim.Native.Nat.{ℕ, zero, suc, _+_, _-_, _≤_, _<_}
 use native.Mathlib.Nat.{not-suc-le-zero, le-of-suc-le-suc}
 use native.Mathlib.Numerals.{add-one}
@@ -69,10 +69,6 @@ unfolding characterOf
 character-letter d h = simp (le-ltb d 10 h) (omega arith)
 
 -- Lists mapped.
-pub map-append : (f : ℕ → ℕ) (a b : List ℕ) → map f (a ++ b) ≡ map f a ++ map f b
-map-append f [] b = refl
-map-append f (x ∷ a) b = ap (λ (l : List ℕ). f x ∷ l) (map-append f a b)
-
 pub getD-map : (f : ℕ → ℕ) (l : List ℕ) (i : ℕ) → i < length l → getD (map f l) i 0 ≡ f (getD l i 0)
 getD-map f [] i h = absurd (not-suc-le-zero h)
 getD-map f (x ∷ l) zero h = refl

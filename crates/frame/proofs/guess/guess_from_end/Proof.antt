@@ -5,8 +5,9 @@ use denote.Ref.{now}
 use lib.ListN.{length}
 use Rattle.field.proofs.Symbols.{symbol-below}
 use Rattle.code.proofs.Numbers.{positive}
+use Rattle.code.proofs.Settings.{information-fits}
 use Rattle.frame.specs.Frame.{Revised}
-use Rattle.frame.proofs.Guesses.{revised-none, revised-then, revised-lengths, block-room, information-short}
+use Rattle.frame.proofs.Guesses.{revised-none, revised-then, revised-lengths, block-room}
 use Rattle.frame.proofs.guess.guess_from_end.Statement.{statement}
 use Rattle.frame.proofs.guess.guess_from_end.Tie as tie
 
@@ -25,7 +26,7 @@ mul-last : tie.Need-mul-last Inv-loop μ-loop
 mul-last c = omega (arith, room (c .before .before .before .before))
 
 sub-last : tie.Need-sub-last Inv-loop μ-loop
-sub-last c = information-short (c .before .before .before .before .before .args .p) (c .before .before .before .before .before .pre .0 .sound)
+sub-last c = information-fits (c .before .before .before .before .before .args .p) (c .before .before .before .before .before .pre .0 .sound)
 
 add-last : tie.Need-add-last Inv-loop μ-loop
 add-last c = omega (arith, room (c .before .before .before .before .before))
@@ -46,7 +47,7 @@ inside c =
     omega (
       arith,
       block-room (a .p) (a .blocks) (a .i) (c .before .loop .message) (c .before .loop .left) (c .before .loop .inv .1 .areas) (entry .pre .1),
-      information-short (a .p) (entry .pre .0 .sound),
+      information-fits (a .p) (entry .pre .0 .sound),
       c .before .loop .inv .0,
       c .loop-test .taken,
     )

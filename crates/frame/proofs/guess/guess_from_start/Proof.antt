@@ -5,9 +5,9 @@ use denote.Ref.{now}
 use lib.ListN.{length}
 use Rattle.field.proofs.Symbols.{symbol-below}
 use Rattle.code.proofs.Numbers.{positive}
-use Rattle.code.proofs.Settings.{sizes}
+use Rattle.code.proofs.Settings.{information-fits, sizes}
 use Rattle.frame.specs.Frame.{Revised}
-use Rattle.frame.proofs.Guesses.{revised-none, revised-then, revised-lengths, block-room, information-short}
+use Rattle.frame.proofs.Guesses.{revised-none, revised-then, revised-lengths, block-room}
 use Rattle.frame.proofs.guess.guess_from_start.Statement.{statement}
 use Rattle.frame.proofs.guess.guess_from_start.Tie as tie
 
@@ -35,7 +35,7 @@ inside c =
     omega (
       arith,
       block-room (a .p) (a .blocks) (a .i) (c .before .loop .message) (c .before .loop .left) (c .before .loop .inv .1 .areas) (entry .pre .2),
-      information-short (a .p) (entry .pre .0 .sound),
+      information-fits (a .p) (entry .pre .0 .sound),
       c .loop-test .taken,
     )
 
