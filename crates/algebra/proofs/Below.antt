@@ -1,6 +1,6 @@
 -- The bridge from the numbers below q to the abstract carrier. A concrete field proves its laws once, for numbers below q (`FieldBelow`);
 -- the pairs of a number and a proof that it is below q are then a field (`fieldBelow`), and taking the number keeps the operations (`number-keeps`).
--- Holds: `FieldBelow`, `OrderBelow`, `Below`, `number`, `element`, `fieldBelow`, `number-keeps`, `number-injective`, `number-element`, `orderBelow`.
+-- Holds: `FieldBelow`, `positive`, `OrderBelow`, `Below`, `number`, `element`, `fieldBelow`, `number-keeps`, `number-injective`, `number-element`, `orderBelow`.
 use mathlib.Core.Path.{_≡_, refl, sym, ap, subst, _∙_}
 use mathlib.Core.HLevel.{Σ-prop-path}
 use mathlib.Core.Bool.{Bool, true, false}
@@ -35,6 +35,9 @@ pub record FieldBelow (q : ℕ) (o : Ops ℕ) : Type 0 where
   pub times-one : (a : ℕ) → a < q → o .mul a 1 ≡ a
   pub distributes : (a b c : ℕ) → a < q → b < q → c < q → o .mul a (o .add b c) ≡ o .add (o .mul a b) (o .mul a c)
   pub inverse : (a : ℕ) → a < q → (a ≡ 0 → ⊥) → o .mul a (o .inv a) ≡ 1
+
+pub positive : {q : ℕ} {o : Ops ℕ} → FieldBelow q o → 0 < q
+positive B = omega (arith, B .one-below)
 
 -- The number α has order n: α^0 .. α^(n-1) are distinct numbers below q, and α^n = 1; n times 1 is -1.
 pub record OrderBelow (q : ℕ) (o : Ops ℕ) (n α : ℕ) : Type 0 where

@@ -1,24 +1,17 @@
 -- The same on the numbers below q, as the code has it: if the information x is near, it is the information that was read.
 -- Holds: `recovered-more`, `length-of-near`, `read-of-near`.
-use mathlib.Core.Path.{_≡_, refl, sym, ap, ap₂, subst, fun-ext, _∙_}
+use mathlib.Core.Path.{_≡_, refl, sym, ap, subst, _∙_}
 use mathlib.Core.List.{List}
-use Prim.Native.Nat.{ℕ, zero, suc, _+_, _-_, _*_, _≤_, _<_}
+use Prim.Native.Nat.{ℕ, suc, _+_, _-_, _*_, _≤_, _<_}
 use native.Mathlib.Numerals.{add-one}
 use native.Mathlib.Omega.{arith}
-use lib.ListN.{length, getD}
+use lib.ListN.{length}
 use Rattle.algebra.specs.Ops.{Ops, sub}
-use Rattle.algebra.specs.Sum.{power}
-use Rattle.algebra.specs.Polynomial.{value, valueOf}
 use Rattle.algebra.specs.Weight.{weight}
-use Rattle.algebra.proofs.Order.{Order}
-use Rattle.algebra.proofs.Polynomials.{valueOf-ext, value-is-valueOf}
 use Rattle.algebra.proofs.Weights.{total-ext, total-most}
-use Rattle.algebra.proofs.Naturality.{power-natural, valueOf-natural}
-use Rattle.algebra.proofs.Below.{FieldBelow, Below, number, number-keeps, orderBelow}
-use Rattle.field.specs.Fields.{opsOf, alpha}
+use Rattle.algebra.proofs.Below.{FieldBelow, Below, number}
+use Rattle.field.specs.Fields.{opsOf}
 use Rattle.field.specs.Symbols.{Symbols}
-use Rattle.field.proofs.Laws.{lawsOf, orderOf}
-use Rattle.field.proofs.Symbols.{symbol-below}
 use Rattle.code.specs.declared.Setting.{Setting}
 use Rattle.code.specs.Code.{Code, levelDistance}
 use Rattle.code.specs.Generator.{timesG}
@@ -28,11 +21,10 @@ use Rattle.code.specs.Recovery.{ending, Recovered}
 use Rattle.code.specs.Cost.{symbolCost, blockCost}
 use Rattle.code.specs.Settings.{codeOf, Sound}
 use Rattle.code.specs.Reading.{levelCost}
-use Rattle.code.proofs.Blocks.{codeOver, combination-ext}
 use Rattle.code.proofs.Certainty.{weight-apart}
 use Rattle.code.proofs.Cost.{cost-same, byteCost, bytes-apart}
-use Rattle.code.proofs.Naturality.{mapped, timesG-natural, combination-natural, ending-natural}
 use Rattle.code.proofs.Recovery.{recovered-step}
+use Rattle.code.proofs.Numbers.{laws, fieldOf, rootOf, orderAt, overField, lifted, timesG-number, combination-number, ending-number, received, received-number, value-number}
 use Rattle.code.proofs.Settings.{level-fits, information-fits}
 use Rattle.block.specs.Area.{at}
 use Rattle.block.specs.Locator.{Located, Extended}
@@ -40,8 +32,7 @@ use Rattle.block.specs.Progress.{Found}
 use Rattle.block.specs.Spectrum.{SpectrumOf, Continued}
 use Rattle.block.specs.Information.{Read}
 use Rattle.block.specs.Step.{Information}
-use Rattle.block.proofs.Accumulated.{alpha-below}
-use Rattle.block.proofs.LocatorBelow.{K, positive, el, up, down, raise, fall, add-down, neg-down, tail-down, located-up}
+use Rattle.block.proofs.LocatorBelow.{K, el, up, down, raise, fall, add-down, neg-down, tail-down, located-up}
 use Rattle.block.proofs.ErrorSpectrum.{spectrum}
 use Rattle.block.proofs.Candidate.{length-of-near as length-of-near-field, information-of-near}
 
@@ -52,41 +43,16 @@ module _ (p : Setting) (S : Sound p) where
   abbrev o : Ops ℕ
   o = opsOf (p .q)
 
-  B : FieldBelow q o
-  B = lawsOf q (S .good)
-
-  abbrev root : Below q
-  root = el q o B alpha
+  abbrev B : FieldBelow q o
+  B = laws p S
 
   abbrev over : Code (Below q)
-  over = codeOver (K q o B) root (p .n) (p .k) (p .m)
-
-  order : Order (K q o B .ops) (p .n) root
-  order = subst (λ (n : ℕ). Order (K q o B .ops) n root) (sym (S .block)) (orderBelow q o B (q - 1) alpha (positive q o B) (orderOf q (S .good)))
-
-  root-down : number root ≡ alpha
-  root-down = down q o B alpha (alpha-below q (S .good))
-
-  mapped-code : mapped over o number ≡ codeOf p
-  mapped-code = ap (λ (a : ℕ). record { ops = o; α = a; n = p .n; k = p .k; m = p .m }) root-down
-
-  power-down : (s : ℕ) → number (power (K q o B .ops) root s) ≡ power o alpha s
-  power-down s = power-natural (K q o B .ops) o number (number-keeps q o B) root s ∙ ap (λ (a : ℕ). power o a s) root-down
-
-  timesG-down : (x : ℕ → ℕ) → ((r : ℕ) → x r < q) → (j i : ℕ) → number (timesG over (up q o B x) j i) ≡ timesG (codeOf p) x j i
-  timesG-down x below j i =
-      timesG-natural over o number (number-keeps q o B) (up q o B x) j i
-      ∙ ap₂ (λ (c : Code ℕ) (y : ℕ → ℕ). timesG c y j i) mapped-code (fun-ext (λ r. down q o B (x r) (below r)))
-
-  ending-down : (v : ℕ → ℕ) → ((e : ℕ) → v e < q) → (j : ℕ) → number (ending over (up q o B v) j) ≡ ending (codeOf p) v j
-  ending-down v below j =
-      ending-natural over o number (number-keeps q o B) (up q o B v) j
-      ∙ ap₂ (λ (c : Code ℕ) (w : ℕ → ℕ). ending c w j) mapped-code (fun-ext (λ e. down q o B (v e) (below e)))
+  over = overField p S
 
   module _ (v : ℕ → ℕ) (v-below : (e : ℕ) → v e < q) where
     recovered-up : (j : ℕ) (x : ℕ → ℕ) → ((r : ℕ) → x r < q) → Recovered (codeOf p) v j x → Recovered over (up q o B v) j (up q o B x)
     recovered-up j x below h =
-        record { symbol = λ a l. raise q o B _ _ (timesG-down x below 0 (p .n - suc a)) (ending-down v v-below (suc a)) (h .symbol a l) }
+        record { symbol = λ a l. raise q o B _ _ (timesG-number p S x below 0 (p .n - suc a)) (ending-number p S v v-below (suc a)) (h .symbol a l) }
 
     -- One symbol more.
     pub recovered-more : (j : ℕ) (x y : ℕ → ℕ) → ((r : ℕ) → x r < q) → ((r : ℕ) → y r < q) → j < p .k → Recovered (codeOf p) v j x
@@ -94,15 +60,15 @@ module _ (p : Setting) (S : Sound p) where
         → y (p .k - suc j) ≡ o .add (x (p .k - suc j)) (sub o (ending (codeOf p) v (suc j)) (timesG (codeOf p) x 0 (p .n - suc j)))
         → Recovered (codeOf p) v (suc j) y
     recovered-more j x y x-below y-below l h same new =
-        record { symbol = λ a s. fall q o B (timesG-down y y-below 0 (p .n - suc a)) (ending-down v v-below (suc a)) (above .symbol a s) }
+        record { symbol = λ a s. fall q o B (timesG-number p S y y-below 0 (p .n - suc a)) (ending-number p S v v-below (suc a)) (above .symbol a s) }
       where
         above : Recovered over (up q o B v) (suc j) (up q o B y)
         above =
-            recovered-step (K q o B) root (p .n) (p .k) (p .m) (up q o B v) (up q o B x) (up q o B y) j l (information-fits p S) (recovered-up j x x-below h)
+            recovered-step (fieldOf p S) (rootOf p S) (p .n) (p .k) (p .m) (up q o B v) (up q o B x) (up q o B y) j l (information-fits p S) (recovered-up j x x-below h)
             (λ r s d. ap (el q o B) (same r s d))
             (raise q o B _ _ (down q o B (y (p .k - suc j)) (y-below (p .k - suc j)))
             (add-down q o B _ _ (down q o B (x (p .k - suc j)) (x-below (p .k - suc j)))
-            (add-down q o B _ _ (ending-down v v-below (suc j)) (neg-down q o B _ (timesG-down x x-below 0 (p .n - suc j))))) new)
+            (add-down q o B _ _ (ending-number p S v v-below (suc j)) (neg-down q o B _ (timesG-number p S x x-below 0 (p .n - suc j))))) new)
 
   extended-up : (L r m : ℕ) (σ c d values : ℕ → ℕ) → ((i : ℕ) → σ i < q) → ((i : ℕ) → c i < q) → ((i : ℕ) → d i < q) → ((i : ℕ) → values i < q)
       → Extended o L r m σ c d values → Extended (K q o B .ops) L r m (up q o B σ) (up q o B c) (up q o B d) (up q o B values)
@@ -118,59 +84,29 @@ module _ (p : Setting) (S : Sound p) where
     fits : (l + 1) * p .k ≤ p .n
     fits = level-fits p S l level
 
-    block-below : (i : ℕ) → at block i < q
-    block-below = symbol-below q block symbols (positive q o B)
-
-    received : ℕ → Below q
-    received = up q o B (at block)
-
-    received-down : (i : ℕ) → number (received i) ≡ at block i
-    unfolding received
-    received-down i = down q o B (at block i) (block-below i)
-
-    -- A value of the received block's spectrum.
-    spectrum-down : (s : ℕ) → number (spectrum (K q o B) (p .n) root order received s) ≡ value o block (power o alpha s)
-    spectrum-down s =
-        valueOf-natural (K q o B .ops) o number (number-keeps q o B) (p .n) received (power (K q o B .ops) root s)
-        ∙ ap (valueOf o (p .n) (λ i. number (received i))) (power-down s)
-        ∙ valueOf-ext o (p .n) (λ i. number (received i)) (λ i. getD block i (o .zero)) (power o alpha s)
-        (λ i h. received-down i ∙ ap (getD block i) (sym (B .zero-is)))
-        ∙ ap (λ (t : ℕ). valueOf o t (λ i. getD block i (o .zero)) (power o alpha s)) (sym long)
-        ∙ sym (value-is-valueOf o block (power o alpha s))
-
     module _ (x : ℕ → ℕ → ℕ) (information : Information p l x) where
-      lifted : ℕ → ℕ → Below q
-      lifted b r = el q o B (x b r)
-
-      combination-down : (i : ℕ) → number (combination over l lifted i) ≡ combination (codeOf p) l x i
-      unfolding lifted
-      combination-down i =
-          combination-natural over o number (number-keeps q o B) l lifted i
-          ∙ ap (λ (c : Code ℕ). combination c l (λ b r. number (lifted b r)) i) mapped-code
-          ∙ combination-ext (codeOf p) l (λ b r. number (lifted b r)) x i (λ b r h s. down q o B (x b r) (information b r h s))
-
       -- Twice the error's symbols are no more than the cost, since the received block costs nothing against itself.
       error : ℕ → Below q
-      error i = sub (K q o B .ops) (received i) (combination over l lifted i)
+      error i = sub (K q o B .ops) (received p S block i) (combination over l (lifted p S x) i)
 
       error-light : 2 * weight (K q o B .ops) (p .n) error ≤ levelCost p (at block) l x
       unfolding blockCost error
       error-light =
           omega (
             arith,
-            weight-apart (K q o B) (byteCost q) (bytes-apart q) (p .n) (at block) received (combination over l lifted) error (λ i. refl),
-            total-most (p .n) 0 (λ i. byteCost q (at block i) (received i)) (λ i h. omega (arith, cost-same q (at block i) (number (received i)) (sym (received-down i)))),
-            total-ext (p .n) (λ i. byteCost q (at block i) (combination over l lifted i)) (λ i. symbolCost q (at block i) (combination (codeOf p) l x i))
-                (λ i h. ap (symbolCost q (at block i)) (combination-down i)),
+            weight-apart (K q o B) (byteCost q) (bytes-apart q) (p .n) (at block) (received p S block) (combination over l (lifted p S x)) error (λ i. refl),
+            total-most (p .n) 0 (λ i. byteCost q (at block i) (received p S block i)) (λ i h. omega (arith, cost-same q (at block i) (number (received p S block i)) (sym (received-number p S block symbols i)))),
+            total-ext (p .n) (λ i. byteCost q (at block i) (combination over l (lifted p S x) i)) (λ i. symbolCost q (at block i) (combination (codeOf p) l x i))
+                (λ i h. ap (symbolCost q (at block i)) (combination-number p S x l i information)),
           )
 
       all-known : p .n - (l + 1) * p .k + 1 - 1 ≡ p .n - (l + 1) * p .k
       all-known = omega arith
 
       module _ (series locator former : List ℕ) (L : ℕ) (close : levelCost p (at block) l x < levelDistance (p .n) (p .k) l) (located : Found q series (p .n - (l + 1) * p .k + 1) L locator former) where
-        values-up : (count : ℕ) → SpectrumOf q block count series → (s : ℕ) → s < count → up q o B (at series) (suc s) ≡ spectrum (K q o B) (p .n) root order received s
+        values-up : (count : ℕ) → SpectrumOf q block count series → (s : ℕ) → s < count → up q o B (at series) (suc s) ≡ spectrum (fieldOf p S) (p .n) (rootOf p S) (orderAt p S) (received p S block) s
         values-up count spectral s h =
-            raise q o B _ _ (down q o B (at series (suc s)) (spectral .below (suc s))) (spectrum-down s) (ap (at series) (sym (add-one s)) ∙ spectral .values s h)
+            raise q o B _ _ (down q o B (at series (suc s)) (spectral .below (suc s))) (value-number p S block symbols long s) (ap (at series) (sym (add-one s)) ∙ spectral .values s h)
 
         locator-up : ((i : ℕ) → at series i < q)
             → Located (K q o B .ops) (up q o B (at series)) (p .n - (l + 1) * p .k) L (located .place) (el q o B (located .scale)) (up q o B (at locator)) (up q o B (at former))
@@ -182,7 +118,7 @@ module _ (p : Setting) (S : Sound p) where
         pub length-of-near : SpectrumOf q block (p .n - (l + 1) * p .k) series → 2 * L < levelDistance (p .n) (p .k) l
         unfolding error
         length-of-near spectral =
-            let short = length-of-near-field (K q o B) root (p .n) (p .k) (p .m) order l fits received lifted
+            let short = length-of-near-field (fieldOf p S) (rootOf p S) (p .n) (p .k) (p .m) (orderAt p S) l fits (received p S block) (lifted p S x)
             (weight (K q o B .ops) (p .n) error) (omega arith) (omega (arith, error-light))
             (up q o B (at series)) (values-up (p .n - (l + 1) * p .k) spectral)
             L (located .place) (el q o B (located .scale)) (up q o B (at locator)) (up q o B (at former)) (locator-up (spectral .below)) in
@@ -196,7 +132,7 @@ module _ (p : Setting) (S : Sound p) where
         unfolding lifted error
         read-of-near after values found spectral continued reads b a below inside =
             fall q o B (down q o B (at found (b * p .k + a)) (reads .below (b * p .k + a))) (down q o B (x b a) (information b a below inside))
-            (information-of-near (K q o B) root (p .n) (p .k) (p .m) order l fits received lifted
+            (information-of-near (fieldOf p S) (rootOf p S) (p .n) (p .k) (p .m) (orderAt p S) l fits (received p S block) (lifted p S x)
             (weight (K q o B .ops) (p .n) error) (omega arith) (omega (arith, error-light))
             (up q o B (at series)) (λ s h. values-up (p .n) spectral s (omega arith))
             L (located .place) (el q o B (located .scale)) (up q o B (at locator)) (up q o B (at former)) (locator-up (spectral .below))

@@ -9,7 +9,7 @@ use Rattle.algebra.specs.Sum.{sum}
 use Rattle.algebra.proofs.Laws.{Field, mul-comm}
 use Rattle.algebra.proofs.Sums.{sum-ext}
 use Rattle.algebra.proofs.Naturality.{sum-natural}
-use Rattle.algebra.proofs.Below.{FieldBelow, Below, number, number-injective, element, number-element, fieldBelow, number-keeps}
+use Rattle.algebra.proofs.Below.{FieldBelow, positive, Below, number, number-injective, element, number-element, fieldBelow, number-keeps}
 use Rattle.block.specs.Locator.{convolution, tail, Located, Subtracted}
 use Rattle.block.proofs.LocatorStep.{convolution-tail, located-start, located-kept, located-corrected, located-lengthened}
 
@@ -17,18 +17,15 @@ module _ (q : ℕ) (o : Ops ℕ) (B : FieldBelow q o) where
   abbrev pub K : Field (Below q)
   K = fieldBelow q o B
 
-  pub positive : 0 < q
-  positive = omega (arith, B .one-below)
-
   -- The element with this number.
   abbrev pub el : ℕ → Below q
-  el a = element q positive a
+  el a = element q (positive B) a
 
   abbrev pub up : (ℕ → ℕ) → ℕ → Below q
   up f i = el (f i)
 
   pub down : (a : ℕ) → a < q → number (el a) ≡ a
-  down a h = number-element q positive a h
+  down a h = number-element q (positive B) a h
 
   -- An equation of numbers is one of elements with those numbers, and the other way round.
   pub raise : (x y : Below q) {a b : ℕ} → number x ≡ a → number y ≡ b → a ≡ b → x ≡ y

@@ -1,16 +1,19 @@
 -- The bridge for the code: what a setting's definitions give on numbers below q is what the abstract code gives on elements.
--- Holds: `transmission-long`; `fieldOf`, `rootOf`, `orderAt`, `overField`, `number-zero`, `number-sub`, `root-number`, `mapped-code`, `lifted`; `sent-number`, `timesG-number`, `combination-number`, `rowSymbol-number`, `rowSymbol-below`; `transmission-view`, `transmission-length`, `sent-below`, `transmission-symbols`.
+-- Holds: `transmission-long`; `fieldOf`, `rootOf`, `orderAt`, `overField`, `number-zero`, `number-sub`, `root-number`, `mapped-code`, `lifted`; `sent-number`, `timesG-number`, `combination-number`, `ending-number`, `received`, `received-number`, `value-number`, `rowSymbol-number`, `rowSymbol-below`; `transmission-view`, `transmission-length`, `sent-below`, `transmission-symbols`.
 use mathlib.Core.Path.{_≡_, sym, ap, ap₂, subst, fun-ext, _∙_}
 use mathlib.Core.List.{List}
-use Prim.Native.Nat.{ℕ, _+_, _-_, _*_, _/_, _%_, _<_}
+use Prim.Native.Nat.{ℕ, _+_, _-_, _*_, _/_, _%_, _≤_, _<_}
 use native.Mathlib.Omega.{arith}
 use lib.Arith.{digits-div}
-use lib.ListN.{length}
+use lib.ListN.{length, getD}
 use Rattle.algebra.specs.Ops.{sub}
+use Rattle.algebra.specs.Sum.{power}
+use Rattle.algebra.specs.Polynomial.{value, valueOf}
 use Rattle.algebra.proofs.Laws.{Field}
 use Rattle.algebra.proofs.Order.{Order}
-use Rattle.algebra.proofs.Naturality.{Homomorphism}
-use Rattle.algebra.proofs.Below.{Below, number, element, number-element, fieldBelow, number-keeps, orderBelow, FieldBelow}
+use Rattle.algebra.proofs.Polynomials.{valueOf-ext, value-is-valueOf}
+use Rattle.algebra.proofs.Naturality.{Homomorphism, power-natural, valueOf-natural}
+use Rattle.algebra.proofs.Below.{Below, number, element, number-element, fieldBelow, number-keeps, orderBelow, FieldBelow, positive as below-positive}
 use Rattle.field.specs.Fields.{opsOf, alpha}
 use Rattle.field.specs.Symbols.{Symbols}
 use Rattle.field.proofs.Laws.{lawsOf, orderOf}
@@ -20,10 +23,11 @@ use Rattle.code.specs.Code.{Code}
 use Rattle.code.specs.Generator.{rowSymbol, timesG}
 use Rattle.code.specs.Transmission.{view, sentSymbol}
 use Rattle.code.specs.Level.{combination}
+use Rattle.code.specs.Recovery.{ending}
 use Rattle.code.specs.Settings.{codeOf}
 use Rattle.code.specs.Windows.{transmission, Message}
-use Rattle.code.proofs.Blocks.{codeOver}
-use Rattle.code.proofs.Naturality.{mapped, rowSymbol-natural, timesG-natural, sentSymbol-natural, combination-natural}
+use Rattle.code.proofs.Blocks.{codeOver, combination-ext}
+use Rattle.code.proofs.Naturality.{mapped, rowSymbol-natural, timesG-natural, sentSymbol-natural, combination-natural, ending-natural}
 use Rattle.code.proofs.Lists.{length-tabulate, getD-tabulate, view-tabulate}
 use Rattle.code.specs.Settings.{Sound}
 
@@ -35,18 +39,17 @@ module _ (p : Setting) (S : Sound p) where
   pub laws : FieldBelow (p .q) (opsOf (p .q))
   laws = lawsOf (p .q) (S .good)
 
-  pub positive : 0 < p .q
-  positive = omega (arith, laws .one-below)
+  abbrev pub positive : 0 < p .q
+  positive = below-positive laws
 
   -- The field of a setting, its α, and their code.
-  pub fieldOf : Field (Below (p .q))
+  abbrev pub fieldOf : Field (Below (p .q))
   fieldOf = fieldBelow (p .q) (opsOf (p .q)) laws
 
-  pub rootOf : Below (p .q)
+  abbrev pub rootOf : Below (p .q)
   rootOf = element (p .q) positive alpha
 
   pub orderAt : Order (fieldOf .ops) (p .n) rootOf
-  unfolding fieldOf rootOf
   orderAt =
       subst (λ (n : ℕ). Order (fieldOf .ops) n rootOf) (sym (S .block))
       (orderBelow (p .q) (opsOf (p .q)) laws (p .q - 1) alpha positive (orderOf (p .q) (S .good)))
@@ -55,7 +58,6 @@ module _ (p : Setting) (S : Sound p) where
   overField = codeOver fieldOf rootOf (p .n) (p .k) (p .m)
 
   pub keeps : Homomorphism (fieldOf .ops) (opsOf (p .q)) number
-  unfolding fieldOf
   keeps = number-keeps (p .q) (opsOf (p .q)) laws
 
   pub number-zero : number (fieldOf .ops .zero) ≡ 0
@@ -65,7 +67,6 @@ module _ (p : Setting) (S : Sound p) where
   number-sub a b = keeps .on-add a (fieldOf .ops .neg b) ∙ ap (opsOf (p .q) .add (number a)) (keeps .on-neg b)
 
   pub root-number : number rootOf ≡ alpha
-  unfolding rootOf
   root-number = number-element (p .q) positive alpha (orderOf (p .q) (S .good) .root-below)
 
   pub mapped-code : mapped overField (opsOf (p .q)) number ≡ codeOf p
@@ -94,11 +95,37 @@ module _ (p : Setting) (S : Sound p) where
       timesG-natural overField (opsOf (p .q)) number keeps (λ r. element (p .q) positive (x r)) j i
       ∙ ap₂ (λ (c : Code ℕ) (y : ℕ → ℕ). timesG c y j i) mapped-code (fun-ext (λ r. number-element (p .q) positive (x r) (below r)))
 
-  pub combination-number : (u : ℕ → ℕ → ℕ) → ((s r : ℕ) → u s r < p .q) → (l i : ℕ)
+  pub combination-number : (u : ℕ → ℕ → ℕ) (l i : ℕ) → ((b r : ℕ) → b ≤ l → r < p .k → u b r < p .q)
       → number (combination overField l (lifted u) i) ≡ combination (codeOf p) l u i
-  combination-number u below l i =
+  combination-number u l i below =
       combination-natural overField (opsOf (p .q)) number keeps l (lifted u) i
-      ∙ ap₂ (λ (c : Code ℕ) (x : ℕ → ℕ → ℕ). combination c l x i) mapped-code (fun-ext (λ b. fun-ext (λ r. number-lifted u b r (below b r))))
+      ∙ ap (λ (c : Code ℕ). combination c l (λ b r. number (lifted u b r)) i) mapped-code
+      ∙ combination-ext (codeOf p) l (λ b r. number (lifted u b r)) u i (λ b r h s. number-lifted u b r (below b r h s))
+
+  pub ending-number : (v : ℕ → ℕ) → ((e : ℕ) → v e < p .q) → (j : ℕ) → number (ending overField (λ e. element (p .q) positive (v e)) j) ≡ ending (codeOf p) v j
+  ending-number v below j =
+      ending-natural overField (opsOf (p .q)) number keeps (λ e. element (p .q) positive (v e)) j
+      ∙ ap₂ (λ (c : Code ℕ) (w : ℕ → ℕ). ending c w j) mapped-code (fun-ext (λ e. number-element (p .q) positive (v e) (below e)))
+
+  -- A block's symbols as elements, and the value of its polynomial at a power of α.
+  pub received : List ℕ → ℕ → Below (p .q)
+  received block i = element (p .q) positive (getD block i 0)
+
+  module _ (block : List ℕ) (symbols : Symbols (p .q) block) where
+    pub received-number : (i : ℕ) → number (received block i) ≡ getD block i 0
+    unfolding received
+    received-number i = number-element (p .q) positive (getD block i 0) (symbol-below (p .q) block symbols positive i)
+
+    pub value-number : length block ≡ p .n → (s : ℕ)
+        → number (valueOf (fieldOf .ops) (p .n) (received block) (power (fieldOf .ops) rootOf s)) ≡ value (opsOf (p .q)) block (power (opsOf (p .q)) alpha s)
+    value-number long s =
+        valueOf-natural (fieldOf .ops) (opsOf (p .q)) number keeps (p .n) (received block) (power (fieldOf .ops) rootOf s)
+        ∙ ap (valueOf (opsOf (p .q)) (p .n) (λ i. number (received block i)))
+        (power-natural (fieldOf .ops) (opsOf (p .q)) number keeps rootOf s ∙ ap (λ (a : ℕ). power (opsOf (p .q)) a s) root-number)
+        ∙ valueOf-ext (opsOf (p .q)) (p .n) (λ i. number (received block i)) (λ i. getD block i (opsOf (p .q) .zero)) (power (opsOf (p .q)) alpha s)
+        (λ i h. received-number i ∙ ap (getD block i) (sym (laws .zero-is)))
+        ∙ ap (λ (t : ℕ). valueOf (opsOf (p .q)) t (λ i. getD block i (opsOf (p .q) .zero)) (power (opsOf (p .q)) alpha s)) (sym long)
+        ∙ sym (value-is-valueOf (opsOf (p .q)) block (power (opsOf (p .q)) alpha s))
 
   pub rowSymbol-number : (j r i : ℕ) → number (rowSymbol overField j r i) ≡ rowSymbol (codeOf p) j r i
   rowSymbol-number j r i = rowSymbol-natural overField (opsOf (p .q)) number keeps j r i ∙ ap (λ (c : Code ℕ). rowSymbol c j r i) mapped-code

@@ -27,12 +27,12 @@ module _ (p : Setting) (S : Sound p) where
   -- The costs over the field.
   level-cost : (block : ℕ → ℕ) (l : ℕ) (y : ℕ → ℕ → ℕ) → Below (p .q) y → blockCost (overField p S) (byteCost (p .q)) block l (lifted p S y) ≡ levelCost p block l y
   unfolding blockCost
-  level-cost block l y Y = total-ext (p .n) _ _ (λ i h. ap (symbolCost (p .q) (block i)) (combination-number p S y Y l i))
+  level-cost block l y Y = total-ext (p .n) _ _ (λ i h. ap (symbolCost (p .q) (block i)) (combination-number p S y l i (λ b r u v. Y b r)))
 
   combination-none : (l i : ℕ) → combination (codeOf p) l (λ s r. 0) i ≡ 0
   unfolding lifted
   combination-none l i =
-      sym (combination-number p S (λ s r. 0) (λ s r. positive p S) l i)
+      sym (combination-number p S (λ s r. 0) l i (λ b r u v. positive p S))
       ∙ ap number (combination-ext (overField p S) l (lifted p S (λ s r. 0)) (λ s r. fieldOf p S .ops .zero) i
       (λ s r u v. number-injective _ _ (number-element (p .q) (positive p S) 0 (positive p S) ∙ sym (number-zero p S)))
       ∙ combination-zeros (fieldOf p S) (rootOf p S) (p .n) (p .k) (p .m) l i)

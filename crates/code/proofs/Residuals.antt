@@ -108,7 +108,7 @@ module _ (p : Setting) (S : Sound p) where
           → combination (codeOf p) s (ahead p x g j) i ≡ sub (opsOf (p .q)) (sentSymbol (codeOf p) (view (p .k) x) (j + s) i) (sentSymbol (codeOf p) (view (p .k) g) (j + s) i)
       unfolding x' g'
       ahead-sent s i low =
-          sym (combination-number p S (ahead p x g j) ahead-small s i)
+          sym (combination-number p S (ahead p x g j) s i (λ b r u v. ahead-small b r))
           ∙ ap number (combination-ext (overField p S) s (lifted p S (ahead p x g j)) (λ t r. sub (fieldOf p S .ops) (x' (j + t) r) (g' (j + t) r)) i
           (λ t r u v. ahead-element t r)
           ∙ sym (sent-ahead (fieldOf p S) (rootOf p S) (p .n) (p .k) (p .m) (λ t r. sub (fieldOf p S .ops) (x' t r) (g' t r)) j s i low before)
