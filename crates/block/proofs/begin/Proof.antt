@@ -45,18 +45,6 @@ locate-requires c κs =
       room .information-long ∙ sym long,
     )
 
-same-length : tie.Need-same-length
-same-length c = search needs
-
-same-length-2 : tie.Need-same-length-2
-same-length-2 c = search needs
-
-same-length-3 : tie.Need-same-length-3
-same-length-3 c = search needs
-
-same-length-4 : tie.Need-same-length-4
-same-length-4 c = search needs
-
 returns : tie.Need-returns
 returns c = search needs
 
@@ -71,8 +59,5 @@ begin-spec =
     add-values-requires
     add-locate
     locate-requires
-    same-length
-    same-length-2
-    same-length-3
-    same-length-4
+    (search needs) (search needs) (search needs) (search needs)
     returns)

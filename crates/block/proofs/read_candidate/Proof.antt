@@ -46,15 +46,6 @@ read-requires c κs =
       omega (arith, fits, entry .pre .3 .information-long),
     )
 
-same-length : tie.Need-same-length
-same-length c = search needs
-
-same-length-2 : tie.Need-same-length-2
-same-length-2 c = search needs
-
-same-length-3 : tie.Need-same-length-3
-same-length-3 c = search needs
-
 returns : tie.Need-returns
 returns c = search needs
 
@@ -68,7 +59,5 @@ read-candidate-spec =
     add-values-requires
     extend-requires
     read-requires
-    same-length
-    same-length-2
-    same-length-3
+    (search needs) (search needs) (search needs)
     returns)

@@ -28,18 +28,6 @@ mul-if1 c =
     let located = c .before .before .before .before .before .before .before .before .before .begin .ensures .located .placed .located in
     omega (arith, located .grown, located .placed, sizes (entry .args .p) (entry .pre .0 .sound) .symbols-most)
 
-same-length : tie.Need-same-length
-same-length c = search needs
-
-same-length-2 : tie.Need-same-length-2
-same-length-2 c = search needs
-
-same-length-3 : tie.Need-same-length-3
-same-length-3 c = search needs
-
-same-length-4 : tie.Need-same-length-4
-same-length-4 c = search needs
-
 returns : tie.Need-returns
 returns c =
     let entry = c .before .before .before .before .before .before .before .before .before .before .before .before .before .before .before .before .before .before .before .before .before .before .before in
@@ -69,34 +57,10 @@ cost-requires c κs =
     let long = c .before .before .before .before .before .before .before .read-candidate .kept .1 .1 .1 .1 .1 .1 .1 .1 .1 .0 ∙ (c .before .before .before .before .before .before .before .before .before .before .before .before .before .before .before .before .before .before .before .before .before .before .begin .kept .1 .1 .1 .1 .1 .1 .1 .0 ∙ entry .pre .4 .information-long) in
     (entry .pre .0, c .before .before .before .before .before .before .before .read-candidate .ensures .reads .below, omega (arith, fits, long), entry .pre .3, entry .pre .1)
 
-same-length-5 : tie.Need-same-length-5
-same-length-5 c = search needs
-
-same-length-6 : tie.Need-same-length-6
-same-length-6 c = search needs
-
-same-length-7 : tie.Need-same-length-7
-same-length-7 c = search needs
-
-same-length-8 : tie.Need-same-length-8
-same-length-8 c = search needs
-
 returns-2 : tie.Need-returns-2
 returns-2 c =
     let entry = c .before .before .before .before .before .before .before .before .before .before .before .before .before .before .before .before .before .before .before .before .before .before .before .before .before .before .before .before .before .before .before .before .before .before .before .before .before in
     step-near (entry .args .p) (entry .pre .0 .sound) (entry .args .l) (entry .pre .3) _ (entry .pre .1) (entry .pre .2) _ _ _ _ _ _ (c .before .before .before .before .before .before .before .before .before .before .before .before .before .before .before .before .before .before .before .before .before .before .before .before .begin .ensures) _ (c .before .before .before .before .before .before .before .before .before .read-candidate .ensures) (c .before .cost .ensures) (omega arith)
-
-same-length-9 : tie.Need-same-length-9
-same-length-9 c = search needs
-
-same-length-10 : tie.Need-same-length-10
-same-length-10 c = search needs
-
-same-length-11 : tie.Need-same-length-11
-same-length-11 c = search needs
-
-same-length-12 : tie.Need-same-length-12
-same-length-12 c = search needs
 
 returns-3 : tie.Need-returns-3
 returns-3 c =
@@ -113,20 +77,11 @@ repair-spec =
     add-distance-2
     begin-requires
     mul-if1
-    same-length
-    same-length-2
-    same-length-3
-    same-length-4
+    (search needs) (search needs) (search needs) (search needs)
     returns
     read-candidate-requires
     cost-requires
-    same-length-5
-    same-length-6
-    same-length-7
-    same-length-8
+    (search needs) (search needs) (search needs) (search needs)
     returns-2
-    same-length-9
-    same-length-10
-    same-length-11
-    same-length-12
+    (search needs) (search needs) (search needs) (search needs)
     returns-3)

@@ -64,21 +64,6 @@ slice-aggregate-write-all c = sym (length-take-le _ _ (omega (arith, c .before .
 write-all-requires : tie.Need-write-all-requires Inv-loop μ-loop
 write-all-requires c κs = search needs
 
-same-length : tie.Need-same-length Inv-loop μ-loop
-same-length c = omega arith
-
-same-length-2 : tie.Need-same-length-2 Inv-loop μ-loop
-same-length-2 c = omega arith
-
-same-length-3 : tie.Need-same-length-3 Inv-loop μ-loop
-same-length-3 c = omega arith
-
-same-length-4 : tie.Need-same-length-4 Inv-loop μ-loop
-same-length-4 c = omega arith
-
-same-length-5 : tie.Need-same-length-5 Inv-loop μ-loop
-same-length-5 c = omega arith
-
 returns : tie.Need-returns Inv-loop μ-loop
 returns c = (omega arith, λ begun H e. absurd (subst (λ (b : Bool). T (not b)) e tt))
 
@@ -107,21 +92,6 @@ loop-again c =
       λ begun H. held-on begun (now (a .text)) (l .from) (done .result .from) _ (done .result .held) few (done .ensures .reached (restOf begun (take (l .from) (now (a .text)))) (l .inv .7 begun H) .kept),
     )
 
-same-length-6 : tie.Need-same-length-6 Inv-loop μ-loop
-same-length-6 c = omega arith
-
-same-length-7 : tie.Need-same-length-7 Inv-loop μ-loop
-same-length-7 c = omega arith
-
-same-length-8 : tie.Need-same-length-8 Inv-loop μ-loop
-same-length-8 c = omega arith
-
-same-length-9 : tie.Need-same-length-9 Inv-loop μ-loop
-same-length-9 c = omega arith
-
-same-length-10 : tie.Need-same-length-10 Inv-loop μ-loop
-same-length-10 c = omega arith
-
 returns-2 : tie.Need-returns-2 Inv-loop μ-loop
 returns-2 c =
     let a = c .before .before .before .before .before .before .before .before .args in
@@ -142,18 +112,10 @@ answer-text-spec =
     slice-reshare-prefix-write-all
     slice-aggregate-write-all
     write-all-requires
-    same-length
-    same-length-2
-    same-length-3
-    same-length-4
-    same-length-5
+    (omega arith) (omega arith) (omega arith) (omega arith) (omega arith)
     returns
     add-from
     loop-less
     loop-again
-    same-length-6
-    same-length-7
-    same-length-8
-    same-length-9
-    same-length-10
+    (omega arith) (omega arith) (omega arith) (omega arith) (omega arith)
     returns-2)

@@ -57,24 +57,6 @@ slice-aggregate-write-all c = sym (length-take-le _ _ (omega arith))
 write-all-requires : tie.Need-write-all-requires Inv-loop μ-loop
 write-all-requires c κs = search needs
 
-same-length : tie.Need-same-length Inv-loop μ-loop
-same-length c = omega arith
-
-same-length-2 : tie.Need-same-length-2 Inv-loop μ-loop
-same-length-2 c = omega arith
-
-same-length-3 : tie.Need-same-length-3 Inv-loop μ-loop
-same-length-3 c = omega arith
-
-same-length-4 : tie.Need-same-length-4 Inv-loop μ-loop
-same-length-4 c = omega arith
-
-same-length-5 : tie.Need-same-length-5 Inv-loop μ-loop
-same-length-5 c = omega arith
-
-same-length-6 : tie.Need-same-length-6 Inv-loop μ-loop
-same-length-6 c = omega arith
-
 returns : tie.Need-returns Inv-loop μ-loop
 returns c = tt
 
@@ -93,10 +75,5 @@ desk-spec =
     slice-reshare-prefix-write-all
     slice-aggregate-write-all
     write-all-requires
-    same-length
-    same-length-2
-    same-length-3
-    same-length-4
-    same-length-5
-    same-length-6
+    (omega arith) (omega arith) (omega arith) (omega arith) (omega arith) (omega arith)
     returns)

@@ -19,9 +19,6 @@ frame-questions-requires c κs = search needs
 write-refusal-requires : tie.Need-write-refusal-requires
 write-refusal-requires c κs = search needs
 
-same-length : tie.Need-same-length
-same-length c = search needs
-
 returns : tie.Need-returns
 returns c =
     let line = now (c .before .before .before .before .before .before .before .before .before .before .before .before .args .line) in
@@ -61,18 +58,6 @@ write-answer-requires c κs =
     let enough = room-is (now (a .line)) (length (now (a .reception))) (length (now (a .message))) (length (now (a .transmission))) (room (c .before .before .before .before .before .before .before .before .before .before .before .before)) in
     (holds (c .before .before .before .before .before .before .before .before .before .before .before .before .before .before), record { room = omega (arith, enough .2, c .before .before .before .before .before .before .before .before .decode-line .kept .1 .1 .0); symbols = answers (c .before .before .before .before .before .before .before .before) .1 })
 
-same-length-2 : tie.Need-same-length-2
-same-length-2 c = search needs
-
-same-length-3 : tie.Need-same-length-3
-same-length-3 c = search needs
-
-same-length-4 : tie.Need-same-length-4
-same-length-4 c = search needs
-
-same-length-5 : tie.Need-same-length-5
-same-length-5 c = search needs
-
 returns-3 : tie.Need-returns-3
 returns-3 c =
     decoded (holds (c .before .before .before .before .before .before .before .before .before .before .before .before .before .before .before .before .before)) (room (c .before .before .before .before .before .before .before .before .before .before .before .before .before .before .before)) (c .before .before .before .before .before .before .before .before .before .before .before .decode-line .result) (c .before .before .before .before .before .before .before .before .before .before .before .decode-line .ensures)
@@ -84,14 +69,11 @@ answer-line-spec =
     (tie.spec
     frame-questions-requires
     write-refusal-requires
-    same-length
+    (search needs)
     returns
     has-room-requires
     returns-2
     decode-line-requires
     write-answer-requires
-    same-length-2
-    same-length-3
-    same-length-4
-    same-length-5
+    (search needs) (search needs) (search needs) (search needs)
     returns-3)

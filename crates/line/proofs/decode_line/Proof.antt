@@ -58,15 +58,6 @@ slice-aggregate-decode c = sym (length-take-le _ _ (omega (arith, room (c .befor
 decode-requires : tie.Need-decode-requires
 decode-requires c κs = search needs
 
-same-length : tie.Need-same-length
-same-length c = search needs
-
-same-length-2 : tie.Need-same-length-2
-same-length-2 c = search needs
-
-same-length-3 : tie.Need-same-length-3
-same-length-3 c = search needs
-
 returns : tie.Need-returns
 returns c =
     let a = c .before .before .before .before .before .before .before .before .before .before .before .before .before .before .before .before .before .before .args in
@@ -88,7 +79,5 @@ decode-line-spec =
     slice-reshare-prefix-decode
     slice-aggregate-decode
     decode-requires
-    same-length
-    same-length-2
-    same-length-3
+    (search needs) (search needs) (search needs)
     returns)

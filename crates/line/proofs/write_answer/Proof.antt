@@ -20,9 +20,6 @@ known c = head-yes (now (c .args .line)) (c .pre .0)
 write-refusal-requires : tie.Need-write-refusal-requires
 write-refusal-requires c κs = search needs
 
-same-length : tie.Need-same-length
-same-length c = search needs
-
 returns : tie.Need-returns
 returns c =
     let a = c .before .before .before .before .before .before .before .before .before .args in
@@ -50,9 +47,6 @@ write-success-requires c κs = (
   omega (arith, long (c .before .before), c .before .before .message-length .ensures .1),
 )
 
-same-length-2 : tie.Need-same-length-2
-same-length-2 c = search needs
-
 returns-2 : tie.Need-returns-2
 returns-2 c =
     let a = c .before .before .before .before .before .before .before .before .before .before .before .before .before .args in
@@ -66,12 +60,12 @@ write-answer-spec =
     tie.close
     (tie.spec
     write-refusal-requires
-    same-length
+    (search needs)
     returns
     setting-in-requires
     blocks-in-requires
     message-length-requires
     slice-aggregate-write-success
     write-success-requires
-    same-length-2
+    (search needs)
     returns-2)

@@ -22,9 +22,6 @@ loop-holds c = omega arith
 sub-if2 : tie.Need-sub-if2 Inv-loop μ-loop
 sub-if2 c = omega arith
 
-same-length : tie.Need-same-length Inv-loop μ-loop
-same-length c = search needs
-
 returns-2 : tie.Need-returns-2 Inv-loop μ-loop
 returns-2 c = tt
 
@@ -58,9 +55,6 @@ loop-less c = omega arith
 loop-again : tie.Need-loop-again Inv-loop μ-loop
 loop-again c = simp length-set (omega arith)
 
-same-length-2 : tie.Need-same-length-2 Inv-loop μ-loop
-same-length-2 c = search needs
-
 returns-3 : tie.Need-returns-3 Inv-loop μ-loop
 returns-3 c = tt
 
@@ -73,7 +67,7 @@ bytes-spec =
     returns
     loop-holds
     sub-if2
-    same-length
+    (search needs)
     returns-2
     shared-slice-read-value
     value-requires
@@ -85,5 +79,5 @@ bytes-spec =
     add-i
     loop-less
     loop-again
-    same-length-2
+    (search needs)
     returns-3)

@@ -49,9 +49,6 @@ slice-aggregate-read-full c = sym (length-take-le _ _ (c .before .if7 .left))
 read-full-requires : tie.Need-read-full-requires
 read-full-requires c κs = tt
 
-same-length : tie.Need-same-length
-same-length c = search needs
-
 returns-8 : tie.Need-returns-8
 returns-8 c = search needs
 
@@ -76,18 +73,6 @@ slice-aggregate-handed-3 c = sym (length-take-le _ _ (c .before .before .before 
 handed-requires : tie.Need-handed-requires
 handed-requires c κs = (simp length-take (omega arith), simp length-take (omega arith))
 
-same-length-2 : tie.Need-same-length-2
-same-length-2 c = search needs
-
-same-length-3 : tie.Need-same-length-3
-same-length-3 c = search needs
-
-same-length-4 : tie.Need-same-length-4
-same-length-4 c = search needs
-
-same-length-5 : tie.Need-same-length-5
-same-length-5 c = search needs
-
 returns-9 : tie.Need-returns-9
 returns-9 c = search needs
 
@@ -109,7 +94,7 @@ run-spec =
     slice-relend-prefix-read-full
     slice-aggregate-read-full
     read-full-requires
-    same-length
+    (search needs)
     returns-8
     slice-relend-prefix-handed
     slice-aggregate-handed
@@ -118,8 +103,5 @@ run-spec =
     slice-relend-prefix-handed-3
     slice-aggregate-handed-3
     handed-requires
-    same-length-2
-    same-length-3
-    same-length-4
-    same-length-5
+    (search needs) (search needs) (search needs) (search needs)
     returns-9)

@@ -20,9 +20,6 @@ loop-holds c = omega arith
 sub-if1 : tie.Need-sub-if1 Inv-loop μ-loop
 sub-if1 c = omega arith
 
-same-length : tie.Need-same-length Inv-loop μ-loop
-same-length c = search needs
-
 returns : tie.Need-returns Inv-loop μ-loop
 returns c = tt
 
@@ -68,9 +65,6 @@ slice-aggregate-write-all c = sym (length-take-le (c .before .before .loop .at) 
 write-all-requires : tie.Need-write-all-requires Inv-loop μ-loop
 write-all-requires c κs = tt
 
-same-length-2 : tie.Need-same-length-2 Inv-loop μ-loop
-same-length-2 c = search needs
-
 returns-2 : tie.Need-returns-2 Inv-loop μ-loop
 returns-2 c = tt
 
@@ -82,7 +76,7 @@ show-spec =
     μ-loop
     loop-holds
     sub-if1
-    same-length
+    (search needs)
     returns
     shared-slice-read-digit
     digit-requires
@@ -98,5 +92,5 @@ show-spec =
     slice-reshare-prefix-write-all
     slice-aggregate-write-all
     write-all-requires
-    same-length-2
+    (search needs)
     returns-2)

@@ -14,17 +14,11 @@ use Rattle.tables.proofs.rows.Tie as tie
 rows-1-requires : tie.Need-rows-1-requires
 rows-1-requires c κs = subst (λ (s : ℕ). rowsLength (settingOf s) ≤ length (now (c .before .before .before .args .area))) (c .before .if1 .taken) (c .before .before .before .pre .1)
 
-same-length : tie.Need-same-length
-same-length c = search needs
-
 returns : tie.Need-returns
 returns c = subst (λ (s : ℕ). RowsOf (settingOf s) (c .before .before .rows-1 .last .0)) (sym (c .before .before .before .before .if1 .taken)) (c .before .before .rows-1 .ensures)
 
 rows-2-requires : tie.Need-rows-2-requires
 rows-2-requires c κs = subst (λ (s : ℕ). rowsLength (settingOf s) ≤ length (now (c .before .before .before .before .args .area))) (c .before .if2 .taken) (c .before .before .before .before .pre .1)
-
-same-length-2 : tie.Need-same-length-2
-same-length-2 c = search needs
 
 returns-2 : tie.Need-returns-2
 returns-2 c = subst (λ (s : ℕ). RowsOf (settingOf s) (c .before .before .rows-2 .last .0)) (sym (c .before .before .before .before .if2 .taken)) (c .before .before .rows-2 .ensures)
@@ -33,9 +27,6 @@ rows-3-requires : tie.Need-rows-3-requires
 rows-3-requires c κs =
     let third : c .before .before .before .before .args .number ≡ 3 = omega (arith, setting-range (c .before .before .before .before .args .number) (c .before .before .before .before .pre .0)) in
     subst (λ (s : ℕ). rowsLength (settingOf s) ≤ length (now (c .before .before .before .before .args .area))) third (c .before .before .before .before .pre .1)
-
-same-length-3 : tie.Need-same-length-3
-same-length-3 c = search needs
 
 returns-3 : tie.Need-returns-3
 returns-3 c =
@@ -47,11 +38,11 @@ rows-spec =
     tie.close
     (tie.spec
     rows-1-requires
-    same-length
+    (search needs)
     returns
     rows-2-requires
-    same-length-2
+    (search needs)
     returns-2
     rows-3-requires
-    same-length-3
+    (search needs)
     returns-3)

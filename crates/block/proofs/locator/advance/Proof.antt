@@ -23,9 +23,6 @@ shared-slice-read-add c = search needs
 add-requires : tie.Need-add-requires
 add-requires c κs = let entry = c .before .before .before .before .before .before .before in (entry .pre .0, entry .pre .2 (entry .args .next), c .before .tail .ensures .below)
 
-same-length : tie.Need-same-length
-same-length c = search needs
-
 returns : tie.Need-returns
 returns c =
     let entry = c .before .before .before .before .before .before .before .before .before in
@@ -57,12 +54,6 @@ subtract-multiple-requires c κs =
     let inside = room (c .before .before .before) in
     (entry .pre .0, entry .pre .1, c .before .before .before .multiply .ensures .below, entry .pre .8 .former-below, omega (arith, inside, entry .pre .6), entry .pre .8 .locator-below, omega (arith, inside, entry .pre .5))
 
-same-length-2 : tie.Need-same-length-2
-same-length-2 c = search needs
-
-same-length-3 : tie.Need-same-length-3
-same-length-3 c = search needs
-
 returns-2 : tie.Need-returns-2
 returns-2 c =
     let entry = c .before .before .before .before .before .before .before .before .before .before .before .before .before .before .before .before in
@@ -89,15 +80,6 @@ sub-t21 c = search needs
 inverse-requires : tie.Need-inverse-requires
 inverse-requires c κs = search needs
 
-same-length-4 : tie.Need-same-length-4
-same-length-4 c = search needs
-
-same-length-5 : tie.Need-same-length-5
-same-length-5 c = search needs
-
-same-length-6 : tie.Need-same-length-6
-same-length-6 c = search needs
-
 returns-3 : tie.Need-returns-3
 returns-3 c =
     let entry = c .before .before .before .before .before .before .before .before .before .before .before .before .before .before .before .before .before .before .before .before .before .before in
@@ -113,7 +95,7 @@ advance-spec =
     tail-requires
     shared-slice-read-add
     add-requires
-    same-length
+    (search needs)
     returns
     multiply-requires
     sub-shift
@@ -121,13 +103,10 @@ advance-spec =
     add-count
     add-if2
     subtract-multiple-requires
-    same-length-2
-    same-length-3
+    (search needs) (search needs)
     returns-2
     exchange-requires
     sub-t21
     inverse-requires
-    same-length-4
-    same-length-5
-    same-length-6
+    (search needs) (search needs) (search needs)
     returns-3)

@@ -16,15 +16,6 @@ subtract-multiple-requires c κs = search needs
 copy-requires-2 : tie.Need-copy-requires-2
 copy-requires-2 c κs = search needs
 
-same-length : tie.Need-same-length
-same-length c = search needs
-
-same-length-2 : tie.Need-same-length-2
-same-length-2 c = search needs
-
-same-length-3 : tie.Need-same-length-3
-same-length-3 c = search needs
-
 returns : tie.Need-returns
 returns c =
     let entry = c .before .before .before .before .before .before .before .before .before .before .before .before .before .before .before .before .before .before in
@@ -41,7 +32,5 @@ exchange-spec =
     copy-requires
     subtract-multiple-requires
     copy-requires-2
-    same-length
-    same-length-2
-    same-length-3
+    (search needs) (search needs) (search needs)
     returns)

@@ -23,18 +23,6 @@ part-put-end c = search needs
 put-requires : tie.Need-put-requires
 put-requires c κs = (c .before .before .before .before .before .before .before .before .before .before .before .pre .1 .answer, c .before .before .before .before .before .before .before .before .before .before .before .pre .1 .frame)
 
-same-length : tie.Need-same-length
-same-length c = search needs
-
-same-length-2 : tie.Need-same-length-2
-same-length-2 c = search needs
-
-same-length-3 : tie.Need-same-length-3
-same-length-3 c = search needs
-
-same-length-4 : tie.Need-same-length-4
-same-length-4 c = search needs
-
 returns-2 : tie.Need-returns-2
 returns-2 c =
     let entry = c .before .before .before .before .before .before .before .before .before .before .before .before .before .before .before .before .before .before .before .before in
@@ -51,8 +39,5 @@ answer-last-spec =
     part-put-start
     part-put-end
     put-requires
-    same-length
-    same-length-2
-    same-length-3
-    same-length-4
+    (search needs) (search needs) (search needs) (search needs)
     returns-2)

@@ -35,21 +35,6 @@ loop-holds c =
 sub-if2 : tie.Need-sub-if2 Inv-loop μ-loop
 sub-if2 c = omega arith
 
-same-length : tie.Need-same-length Inv-loop μ-loop
-same-length c = omega arith
-
-same-length-2 : tie.Need-same-length-2 Inv-loop μ-loop
-same-length-2 c = omega arith
-
-same-length-3 : tie.Need-same-length-3 Inv-loop μ-loop
-same-length-3 c = omega arith
-
-same-length-4 : tie.Need-same-length-4 Inv-loop μ-loop
-same-length-4 c = omega arith
-
-same-length-5 : tie.Need-same-length-5 Inv-loop μ-loop
-same-length-5 c = omega arith
-
 -- The output is full, so something was answered.
 returns : tie.Need-returns Inv-loop μ-loop
 returns c =
@@ -85,21 +70,6 @@ loop-again c =
       λ begun H. done .ensures .reached begun (l .inv .7 begun H),
     )
 
-same-length-6 : tie.Need-same-length-6 Inv-loop μ-loop
-same-length-6 c = omega arith
-
-same-length-7 : tie.Need-same-length-7 Inv-loop μ-loop
-same-length-7 c = omega arith
-
-same-length-8 : tie.Need-same-length-8 Inv-loop μ-loop
-same-length-8 c = omega arith
-
-same-length-9 : tie.Need-same-length-9 Inv-loop μ-loop
-same-length-9 c = omega arith
-
-same-length-10 : tie.Need-same-length-10 Inv-loop μ-loop
-same-length-10 c = omega arith
-
 returns-2 : tie.Need-returns-2 Inv-loop μ-loop
 returns-2 c =
     let l = c .before .before .loop in
@@ -113,18 +83,10 @@ answer-lines-spec =
     μ-loop
     loop-holds
     sub-if2
-    same-length
-    same-length-2
-    same-length-3
-    same-length-4
-    same-length-5
+    (omega arith) (omega arith) (omega arith) (omega arith) (omega arith)
     returns
     step-requires
     loop-less
     loop-again
-    same-length-6
-    same-length-7
-    same-length-8
-    same-length-9
-    same-length-10
+    (omega arith) (omega arith) (omega arith) (omega arith) (omega arith)
     returns-2)

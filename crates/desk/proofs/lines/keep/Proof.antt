@@ -35,9 +35,6 @@ part-copy-end-2 c = search needs
 copy-requires : tie.Need-copy-requires
 copy-requires c κs = search needs
 
-same-length : tie.Need-same-length
-same-length c = search needs
-
 returns : tie.Need-returns
 returns c =
     let a = c .before .before .before .before .before .before .before .before .args in
@@ -66,9 +63,6 @@ copy-requires-2 c κs = search needs
 add-result : tie.Need-add-result
 add-result c = search needs
 
-same-length-2 : tie.Need-same-length-2
-same-length-2 c = search needs
-
 returns-2 : tie.Need-returns-2
 returns-2 c =
     let a = c .before .before .before .before .before .before .before .args in
@@ -90,12 +84,12 @@ keep-spec =
     part-copy-start-2
     part-copy-end-2
     copy-requires
-    same-length
+    (search needs)
     returns
     sub-copy-3
     part-copy-start-3
     part-copy-end-3
     copy-requires-2
     add-result
-    same-length-2
+    (search needs)
     returns-2)

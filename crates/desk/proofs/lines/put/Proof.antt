@@ -35,15 +35,6 @@ slice-write-output c = omega (arith, most (c .before .before .before .before .be
 add-result : tie.Need-add-result
 add-result c = omega (arith, most (c .before .before .before .before .before .before .before .before), c .before .before .before .before .before .before .before .before .before .before .before .before .before .before .before .before .before .before .pre .0)
 
-same-length : tie.Need-same-length
-same-length c = search needs
-
-same-length-2 : tie.Need-same-length-2
-same-length-2 c = search needs
-
-same-length-3 : tie.Need-same-length-3
-same-length-3 c = search needs
-
 same-length-4 : tie.Need-same-length-4
 same-length-4 c = search needs
 
@@ -67,8 +58,6 @@ put-spec =
     add-end
     slice-write-output
     add-result
-    same-length
-    same-length-2
-    same-length-3
+    (search needs) (search needs) (search needs)
     same-length-4
     returns)

@@ -21,9 +21,6 @@ part-keep-end c = search needs
 keep-requires : tie.Need-keep-requires
 keep-requires c κs = search needs
 
-same-length : tie.Need-same-length
-same-length c = search needs
-
 returns : tie.Need-returns
 returns c =
     let a = c .before .before .before .before .before .before .before .before .before .before .before .before .before .args in
@@ -51,21 +48,6 @@ put-requires c κs = (omega (arith, c .before .before .before .before .before .b
 add-t12 : tie.Need-add-t12
 add-t12 c = search needs
 
-same-length-2 : tie.Need-same-length-2
-same-length-2 c = search needs
-
-same-length-3 : tie.Need-same-length-3
-same-length-3 c = search needs
-
-same-length-4 : tie.Need-same-length-4
-same-length-4 c = search needs
-
-same-length-5 : tie.Need-same-length-5
-same-length-5 c = search needs
-
-same-length-6 : tie.Need-same-length-6
-same-length-6 c = search needs
-
 returns-2 : tie.Need-returns-2
 returns-2 c =
     let entry = c .before .before .before .before .before .before .before .before .before .before .before .before .before .before .before .before .before .before .before .before .before .before .before .before .before .before .before .before in
@@ -89,16 +71,12 @@ step-spec =
     part-keep-start
     part-keep-end
     keep-requires
-    same-length
+    (search needs)
     returns
     sub-put
     part-put-start
     part-put-end
     put-requires
     add-t12
-    same-length-2
-    same-length-3
-    same-length-4
-    same-length-5
-    same-length-6
+    (search needs) (search needs) (search needs) (search needs) (search needs)
     returns-2)

@@ -78,12 +78,6 @@ add-rows-requires c κs =
       symbols-part (a .p .q) (a .i * a .p .n) (a .i * a .p .n + windowLength (a .p)) (now (a .left)) (entry .pre .4 .left-symbols),
     )
 
-same-length : tie.Need-same-length
-same-length c = search needs
-
-same-length-2 : tie.Need-same-length-2
-same-length-2 c = search needs
-
 returns : tie.Need-returns
 returns c =
     let entry = c .before .before .before .before .before .before .before .before .before .before .before .before in
@@ -113,6 +107,5 @@ adjust-spec =
     part-add-rows-start
     part-add-rows-end
     add-rows-requires
-    same-length
-    same-length-2
+    (search needs) (search needs)
     returns)

@@ -17,9 +17,6 @@ is-light-requires c κs =
     let some : a .i < a .blocks = omega (arith, c .before .if1 .left) in
     (entry .pre .0 .sound, block-room (a .p) (a .blocks) (a .i) (now (a .message)) (now (a .left)) (entry .pre .2) some)
 
-same-length : tie.Need-same-length
-same-length c = search needs
-
 returns-2 : tie.Need-returns-2
 returns-2 c = search needs
 
@@ -35,23 +32,11 @@ is-light-requires-2 c κs =
       block-room (a .p) (a .blocks) (a .i) (c .before .before .before .before .before .guess-from-start .last .1 .1 .1 .1 .1 .1 .0) (c .before .before .before .before .before .guess-from-start .last .1 .1 .1 .1 .1 .1 .1 .0) (c .before .before .before .before .before .guess-from-start .ensures .areas) some,
     )
 
-same-length-2 : tie.Need-same-length-2
-same-length-2 c = search needs
-
-same-length-3 : tie.Need-same-length-3
-same-length-3 c = search needs
-
 returns-3 : tie.Need-returns-3
 returns-3 c = search needs
 
 guess-from-end-requires : tie.Need-guess-from-end-requires
 guess-from-end-requires c κs = search needs
-
-same-length-4 : tie.Need-same-length-4
-same-length-4 c = search needs
-
-same-length-5 : tie.Need-same-length-5
-same-length-5 c = search needs
 
 returns-4 : tie.Need-returns-4
 returns-4 c =
@@ -65,14 +50,12 @@ guess-block-spec =
     (tie.spec
     returns
     is-light-requires
-    same-length
+    (search needs)
     returns-2
     guess-from-start-requires
     is-light-requires-2
-    same-length-2
-    same-length-3
+    (search needs) (search needs)
     returns-3
     guess-from-end-requires
-    same-length-4
-    same-length-5
+    (search needs) (search needs)
     returns-4)

@@ -30,24 +30,6 @@ read-windows-requires c κs =
       entry .pre .6,
     )
 
-same-length : tie.Need-same-length
-same-length c = search needs
-
-same-length-2 : tie.Need-same-length-2
-same-length-2 c = search needs
-
-same-length-3 : tie.Need-same-length-3
-same-length-3 c = search needs
-
-same-length-4 : tie.Need-same-length-4
-same-length-4 c = search needs
-
-same-length-5 : tie.Need-same-length-5
-same-length-5 c = search needs
-
-same-length-6 : tie.Need-same-length-6
-same-length-6 c = search needs
-
 returns : tie.Need-returns
 returns c =
     let a = c .before .before .before .before .before .before .before .before .before .before .before .before .before .before .before .before .before .before .before .before .before .before .before .before .before .before .before .before .before .before .before .before .before .before .before .before .before .args in
@@ -60,24 +42,6 @@ compare-windows-requires c κs =
     let a = entry .args in
     let windows = c .before .before .before .before .before .before .before .before .before .before .before .before .before .before .read-windows in
     (entry .pre .0 .sound, c .before .before .before .before .before .before .before .before .before .before .before .before .before .before .before .before .before .before .before .before .before .before .before .before .before .before .before .before .before .distances-to .ensures, (advance-more (a .p) (a .blocks) (now (a .reception)) (a .blocks) (windows .last .1 .1 .1 .1 .1 .1 .0) (windows .last .1 .1 .1 .1 .1 .1 .1 .0) (windows .ensures) (c .before .if1 .left)) .areas .left-long)
-
-same-length-7 : tie.Need-same-length-7
-same-length-7 c = search needs
-
-same-length-8 : tie.Need-same-length-8
-same-length-8 c = search needs
-
-same-length-9 : tie.Need-same-length-9
-same-length-9 c = search needs
-
-same-length-10 : tie.Need-same-length-10
-same-length-10 c = search needs
-
-same-length-11 : tie.Need-same-length-11
-same-length-11 c = search needs
-
-same-length-12 : tie.Need-same-length-12
-same-length-12 c = search needs
 
 returns-2 : tie.Need-returns-2
 returns-2 c =
@@ -95,18 +59,8 @@ read-spec =
     clear-requires
     copy-requires
     read-windows-requires
-    same-length
-    same-length-2
-    same-length-3
-    same-length-4
-    same-length-5
-    same-length-6
+    (search needs) (search needs) (search needs) (search needs) (search needs) (search needs)
     returns
     compare-windows-requires
-    same-length-7
-    same-length-8
-    same-length-9
-    same-length-10
-    same-length-11
-    same-length-12
+    (search needs) (search needs) (search needs) (search needs) (search needs) (search needs)
     returns-2)

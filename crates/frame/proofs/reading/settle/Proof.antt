@@ -45,9 +45,6 @@ part-cost-end c = room (c .before .before .before .before .before .before .befor
 cost-requires : tie.Need-cost-requires
 cost-requires c κs = search needs
 
-same-length : tie.Need-same-length
-same-length c = search needs
-
 returns : tie.Need-returns
 returns c =
     let entry = c .before .before .before .before .before .before .before .before .before .before .before .before .before .before .before in
@@ -74,21 +71,6 @@ find-level-requires c κs =
       entry .pre .6,
     )
 
-same-length-2 : tie.Need-same-length-2
-same-length-2 c = search needs
-
-same-length-3 : tie.Need-same-length-3
-same-length-3 c = search needs
-
-same-length-4 : tie.Need-same-length-4
-same-length-4 c = search needs
-
-same-length-5 : tie.Need-same-length-5
-same-length-5 c = search needs
-
-same-length-6 : tie.Need-same-length-6
-same-length-6 c = search needs
-
 returns-2 : tie.Need-returns-2
 returns-2 c =
     let entry = c .before .before .before .before .before .before .before .before .before .before .before .before .before .before .before .before .before .before .before .before .before .before .before .before .before .before .before .before .before .before .before in
@@ -109,24 +91,6 @@ add-found-requires c κs =
       entry .pre .5 .areas,
     )
 
-same-length-7 : tie.Need-same-length-7
-same-length-7 c = search needs
-
-same-length-8 : tie.Need-same-length-8
-same-length-8 c = search needs
-
-same-length-9 : tie.Need-same-length-9
-same-length-9 c = search needs
-
-same-length-10 : tie.Need-same-length-10
-same-length-10 c = search needs
-
-same-length-11 : tie.Need-same-length-11
-same-length-11 c = search needs
-
-same-length-12 : tie.Need-same-length-12
-same-length-12 c = search needs
-
 returns-3 : tie.Need-returns-3
 returns-3 c =
     let entry = c .before .before .before .before .before .before .before .before .before .before .before .before .before .before .before .before .before .before .before .before .before .before .before .before .before .before .before .before .before .before .before .before .before .before .before .before .before .before .before in
@@ -145,23 +109,14 @@ settle-spec =
     part-cost-start
     part-cost-end
     cost-requires
-    same-length
+    (search needs)
     returns
     sub-find-level
     part-find-level-start
     part-find-level-end
     find-level-requires
-    same-length-2
-    same-length-3
-    same-length-4
-    same-length-5
-    same-length-6
+    (search needs) (search needs) (search needs) (search needs) (search needs)
     returns-2
     add-found-requires
-    same-length-7
-    same-length-8
-    same-length-9
-    same-length-10
-    same-length-11
-    same-length-12
+    (search needs) (search needs) (search needs) (search needs) (search needs) (search needs)
     returns-3)

@@ -24,24 +24,6 @@ settle-requires c κs =
       entry .pre .7,
     )
 
-same-length : tie.Need-same-length
-same-length c = search needs
-
-same-length-2 : tie.Need-same-length-2
-same-length-2 c = search needs
-
-same-length-3 : tie.Need-same-length-3
-same-length-3 c = search needs
-
-same-length-4 : tie.Need-same-length-4
-same-length-4 c = search needs
-
-same-length-5 : tie.Need-same-length-5
-same-length-5 c = search needs
-
-same-length-6 : tie.Need-same-length-6
-same-length-6 c = search needs
-
 returns : tie.Need-returns
 returns c = search needs
 
@@ -51,10 +33,5 @@ turn-spec =
     (tie.spec
     guess-window-requires
     settle-requires
-    same-length
-    same-length-2
-    same-length-3
-    same-length-4
-    same-length-5
-    same-length-6
+    (search needs) (search needs) (search needs) (search needs) (search needs) (search needs)
     returns)

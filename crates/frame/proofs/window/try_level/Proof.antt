@@ -44,18 +44,6 @@ repair-requires c κs =
       entry .pre .4,
     )
 
-same-length : tie.Need-same-length
-same-length c = search needs
-
-same-length-2 : tie.Need-same-length-2
-same-length-2 c = search needs
-
-same-length-3 : tie.Need-same-length-3
-same-length-3 c = search needs
-
-same-length-4 : tie.Need-same-length-4
-same-length-4 c = search needs
-
 returns : tie.Need-returns
 returns c =
     let entry = c .before .before .before .before .before .before .before .before .before .before .before .before .before .before .before .before .before .before .before .before .before in
@@ -76,36 +64,12 @@ rebuilt-cost-requires c κs =
 distances-to-requires : tie.Need-distances-to-requires
 distances-to-requires c κs = search needs
 
-same-length-5 : tie.Need-same-length-5
-same-length-5 c = search needs
-
-same-length-6 : tie.Need-same-length-6
-same-length-6 c = search needs
-
-same-length-7 : tie.Need-same-length-7
-same-length-7 c = search needs
-
-same-length-8 : tie.Need-same-length-8
-same-length-8 c = search needs
-
 returns-2 : tie.Need-returns-2
 returns-2 c =
     let entry = c .before .before .before .before .before .before .before .before .before .before .before .before .before .before .before .before .before .before .before .before .before .before .before .before .before in
     let a = entry .args in
     tried-serves (a .p) (entry .pre .0 .sound) (now (a .window)) (a .l) (entry .pre .3) (c .before .before .before .before .before .before .before .before .before .before .before .before .before .repair .last .1 .1 .1 .1 .1 .1 .1 .1 .0) (c .before .before .before .before .before .before .before .before .before .before .before .before .before .repair .ensures) (c .before .before .before .before .if1 .left)
     (omega (arith, c .if2 .taken, c .before .before .rebuilt-cost .ensures, c .before .distances-to .ensures))
-
-same-length-9 : tie.Need-same-length-9
-same-length-9 c = search needs
-
-same-length-10 : tie.Need-same-length-10
-same-length-10 c = search needs
-
-same-length-11 : tie.Need-same-length-11
-same-length-11 c = search needs
-
-same-length-12 : tie.Need-same-length-12
-same-length-12 c = search needs
 
 returns-3 : tie.Need-returns-3
 returns-3 c =
@@ -124,20 +88,11 @@ try-level-spec =
     part-repair-start
     part-repair-end
     repair-requires
-    same-length
-    same-length-2
-    same-length-3
-    same-length-4
+    (search needs) (search needs) (search needs) (search needs)
     returns
     rebuilt-cost-requires
     distances-to-requires
-    same-length-5
-    same-length-6
-    same-length-7
-    same-length-8
+    (search needs) (search needs) (search needs) (search needs)
     returns-2
-    same-length-9
-    same-length-10
-    same-length-11
-    same-length-12
+    (search needs) (search needs) (search needs) (search needs)
     returns-3)

@@ -59,9 +59,6 @@ part-write-number-end-4 c = search needs
 write-number-requires-4 : tie.Need-write-number-requires-4
 write-number-requires-4 c κs = search needs
 
-same-length : tie.Need-same-length
-same-length c = search needs
-
 returns : tie.Need-returns
 returns c =
     let entry = c .before .before .before .before .before .before .before .before .before .before .before .before .before .before .before .before .before in
@@ -94,5 +91,5 @@ write-opening-spec =
     part-write-number-start-4
     part-write-number-end-4
     write-number-requires-4
-    same-length
+    (search needs)
     returns)

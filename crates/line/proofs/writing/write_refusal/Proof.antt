@@ -46,9 +46,6 @@ part-write-number-end-2 c = search needs
 write-number-requires-2 : tie.Need-write-number-requires-2
 write-number-requires-2 c κs = search needs
 
-same-length : tie.Need-same-length
-same-length c = search needs
-
 returns-2 : tie.Need-returns-2
 returns-2 c =
     let answer = c .before .before .before .before .before .before .before .before .before .before .before .args .answer in
@@ -72,5 +69,5 @@ write-refusal-spec =
     part-write-number-start-2
     part-write-number-end-2
     write-number-requires-2
-    same-length
+    (search needs)
     returns-2)

@@ -36,9 +36,6 @@ part-write-symbols-end c = search needs
 write-symbols-requires : tie.Need-write-symbols-requires
 write-symbols-requires c κs = search needs
 
-same-length : tie.Need-same-length
-same-length c = search needs
-
 returns-2 : tie.Need-returns-2
 returns-2 c =
     let args = c .before .before .before .before .before .before .before .before .before .before .before .args in
@@ -55,5 +52,5 @@ write-success-spec =
     part-write-symbols-start
     part-write-symbols-end
     write-symbols-requires
-    same-length
+    (search needs)
     returns-2)

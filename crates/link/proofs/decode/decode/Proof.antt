@@ -75,12 +75,6 @@ decode-frame-requires c κs =
       length-take-le _ _ (k .transmission-room) ∙ sym (k .long),
     )
 
-same-length : tie.Need-same-length
-same-length c = search needs
-
-same-length-2 : tie.Need-same-length-2
-same-length-2 c = search needs
-
 returns-2 : tie.Need-returns-2
 returns-2 c =
     let a = c .before .before .before .before .before .before .before .before .before .before .before .before .before .before .args in
@@ -103,6 +97,5 @@ decode-spec =
     slice-relend-prefix-decode-frame-2
     slice-aggregate-decode-frame-2
     decode-frame-requires
-    same-length
-    same-length-2
+    (search needs) (search needs)
     returns-2)

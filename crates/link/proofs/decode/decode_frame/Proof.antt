@@ -75,12 +75,6 @@ decode-lent-requires c κs =
       record { series-long = length-take-le _ _ fits; locator-long = length-take-le _ _ fits; values-long = length-take-le _ _ fits; information-long = length-take-le _ _ fits },
     )
 
-same-length : tie.Need-same-length
-same-length c = search needs
-
-same-length-2 : tie.Need-same-length-2
-same-length-2 c = search needs
-
 returns : tie.Need-returns
 returns c = search needs
 
@@ -102,6 +96,5 @@ decode-frame-spec =
     array-borrow-prefix-information
     slice-aggregate-decode-lent-5
     decode-lent-requires
-    same-length
-    same-length-2
+    (search needs) (search needs)
     returns)

@@ -69,9 +69,6 @@ encode-frame-requires c κs =
       length-take-le _ _ (room at),
     )
 
-same-length : tie.Need-same-length
-same-length c = search needs
-
 returns-2 : tie.Need-returns-2
 returns-2 c =
     let entry = c .before .before .before .before .before .before .before .before .before .before .before .before .before in
@@ -90,5 +87,5 @@ encode-spec =
     slice-relend-prefix-encode-frame
     slice-aggregate-encode-frame
     encode-frame-requires
-    same-length
+    (search needs)
     returns-2)

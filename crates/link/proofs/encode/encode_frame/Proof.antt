@@ -31,9 +31,6 @@ send-requires c κs =
     let ready = readyOf (a .setting) (a .p) (entry .pre .0) (entry .pre .1) (c .before .before .before .tables .result) (c .before .before .before .before .before .rows2 .last .1 .0) (c .before .before .before .tables .ensures) (c .before .before .before .before .before .rows2 .ensures) in
     (record { ready = ready; message-of = entry .pre .2; most = entry .pre .3 }, entry .pre .4)
 
-same-length : tie.Need-same-length
-same-length c = search needs
-
 returns : tie.Need-returns
 returns c = search needs
 
@@ -46,5 +43,5 @@ encode-frame-spec =
     tables-requires
     slice-aggregate-send
     send-requires
-    same-length
+    (search needs)
     returns)

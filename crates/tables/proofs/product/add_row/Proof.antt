@@ -53,9 +53,6 @@ add-multiple-requires c κs =
       part-length (a .p .n) ((a .j * a .p .k + a .r) * a .p .n) (now (a .rows)) (room entry) ∙ sym (entry .pre .4),
     )
 
-same-length : tie.Need-same-length
-same-length c = search needs
-
 returns : tie.Need-returns
 returns c =
     let entry = c .before .before .before .before .before .before .before .before in
@@ -74,5 +71,5 @@ add-row-spec =
     part-add-multiple-start
     part-add-multiple-end
     add-multiple-requires
-    same-length
+    (search needs)
     returns)
