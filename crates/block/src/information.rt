@@ -3,7 +3,7 @@ ghost use mathlib.Core.Path.{_≡_};
 ghost use Prim.Native.Nat.{_+_, _*_, _≤_, _<_};
 ghost use lib.ListN.{length};
 ghost use Rattle.algebra.specs.Polynomial.{falling as fallingOf};
-ghost use Rattle.field.specs.Fields.{Good, opsOf};
+ghost use Rattle.field.specs.Fields.{Good, opsOf, alpha};
 ghost use Rattle.field.specs.Symbols.{Is};
 ghost use Rattle.field.specs.Tables.{Lent};
 ghost use Rattle.code.specs.Transmission.{view};
@@ -52,21 +52,21 @@ fn symbol(
     field::add(q, information[from + (k - j)], lack)
 }
 
-// Recovers the information block at `from` from the values there, its last symbol first.
+// Recovers the information block at `from` from the values there, its last symbol first; `back` is 1/α.
 fn read_block(
     p: Setting,
     products: &Tables,
     rows: &[u8],
     values: &[u8],
     from: usize,
+    back: u8,
     information: &mut [u8],
 )
-    requires { ⌜ Ready p (now products) (now rows) × AllBelow (p .q) (now values) × (from + p .k ≤ length (now values)) × AllBelow (p .q) (now information) × (from + p .k ≤ length (now information)) ⌝ }
+    requires { ⌜ Ready p (now products) (now rows) × AllBelow (p .q) (now values) × (from + p .k ≤ length (now values)) × AllBelow (p .q) (now information) × (from + p .k ≤ length (now information)) × Is (p .q) back (opsOf (p .q) .inv alpha) ⌝ }
     ensures { λ _. ⌜ BlockRead p from (p .k) (now (values .entry)) (now (information .entry)) (now (information .exit)) ⌝ }
 {
     let q = p.q;
     let k = p.k;
-    let back = field::inverse(q, products, 2);
     let mut point: u8 = 1;
     let mut j: usize = 0;
     while j < k {
@@ -90,10 +90,11 @@ pub fn read(
     ensures { λ _. ⌜ Read p blocks (now (values .entry)) (now (information .exit)) ⌝ }
 {
     let k = p.k;
+    let back = field::inverse(p.q, products, 2);
     field::clear(information);
     let mut b: usize = 0;
     while b < blocks {
-        read_block(p, products, rows, values, b * k, information);
+        read_block(p, products, rows, values, b * k, back, information);
         b += 1;
     }
 }

@@ -8,21 +8,21 @@ ghost use lib.ListN.{length};
 ghost use Rattle.field.specs.Fields.{Good};
 ghost use Rattle.field.specs.Symbols.{Symbols};
 ghost use Rattle.code.specs.Settings.{isSetting, settingOf};
-ghost use Rattle.tables.specs.Tables.{Ready, mostBlock};
+ghost use Rattle.tables.specs.Tables.{Ready, longestBlock};
 use code::Setting;
 use field::Tables;
 use libc::STDOUT_FILENO;
-use tables::MOST_BLOCK;
+use tables::LONGEST_BLOCK;
 
 // A number's digits to the base q: its i-th block, or its i-th information.
-fn digits(q: usize, number: usize) -> [u8; MOST_BLOCK]
+fn digits(q: usize, number: usize) -> [u8; LONGEST_BLOCK]
     requires { ⌜ Good q ⌝ }
-    ensures { λ r. ⌜ (length r ≡ mostBlock) × Symbols q r ⌝ }
+    ensures { λ r. ⌜ (length r ≡ longestBlock) × Symbols q r ⌝ }
 {
-    let mut symbols = [0u8; MOST_BLOCK];
+    let mut symbols = [0u8; LONGEST_BLOCK];
     let mut rest = number;
     let mut i: usize = 0;
-    while i < MOST_BLOCK {
+    while i < LONGEST_BLOCK {
         symbols[i] = (rest % q) as u8;
         rest = rest / q;
         i += 1;
@@ -70,7 +70,7 @@ fn some_near(
     distance: usize,
     count: usize,
 ) -> bool
-    requires { ⌜ Ready p (now products) (now rows) × (p .n ≤ mostBlock) × (l ≤ p .m) × (length (now received) ≡ p .n) ⌝ }
+    requires { ⌜ Ready p (now products) (now rows) × (p .n ≤ longestBlock) × (l ≤ p .m) × (length (now received) ≡ p .n) ⌝ }
 {
     let mut x: usize = 0;
     while x < count {
@@ -85,12 +85,12 @@ fn some_near(
 
 // Whether the block step answers with information.
 fn repaired(p: Setting, products: &Tables, rows: &[u8], l: usize, received: &[u8]) -> bool
-    requires { ⌜ Ready p (now products) (now rows) × (p .n ≤ mostBlock) × (l ≤ p .m) × (length (now received) ≡ p .n) × Symbols (p .q) (now received) ⌝ }
+    requires { ⌜ Ready p (now products) (now rows) × (p .n ≤ longestBlock) × (l ≤ p .m) × (length (now received) ≡ p .n) × Symbols (p .q) (now received) ⌝ }
 {
-    let mut series = [0u8; MOST_BLOCK + 1];
-    let mut locator = [0u8; MOST_BLOCK + 1];
-    let mut values = [0u8; MOST_BLOCK + 1];
-    let mut information = [0u8; MOST_BLOCK + 1];
+    let mut series = [0u8; LONGEST_BLOCK + 1];
+    let mut locator = [0u8; LONGEST_BLOCK + 1];
+    let mut values = [0u8; LONGEST_BLOCK + 1];
+    let mut information = [0u8; LONGEST_BLOCK + 1];
     let room = p.n + 1;
     block::repair(
         p,
@@ -120,7 +120,7 @@ fn one(
     count: usize,
     number: usize,
 ) -> Tally
-    requires { ⌜ Ready p (now products) (now rows) × (p .n ≤ mostBlock) × (l ≤ p .m) ⌝ }
+    requires { ⌜ Ready p (now products) (now rows) × (p .n ≤ longestBlock) × (l ≤ p .m) ⌝ }
     ensures { λ r. ⌜ (r .near ≤ 1) × (r .agree ≤ 1) ⌝ }
 {
     let symbols = digits(p.q, number);
@@ -157,7 +157,7 @@ fn compare(
     stride: usize,
     end: usize,
 )
-    requires { ⌜ Ready p (now products) (now rows) × (p .n ≤ mostBlock) × (l ≤ p .m) × (0 < stride) × (stride ≤ 4194304) × (end ≤ 4194304) ⌝ }
+    requires { ⌜ Ready p (now products) (now rows) × (p .n ≤ longestBlock) × (l ≤ p .m) × (0 < stride) × (stride ≤ 4194304) × (end ≤ 4194304) ⌝ }
 {
     let mut blocks: usize = 0;
     let mut near: usize = 0;

@@ -7,7 +7,7 @@ ghost use Rattle.field.specs.Fields.{Good};
 ghost use Rattle.field.specs.Symbols.{Symbols};
 ghost use Rattle.code.specs.Settings.{isSetting, settingOf};
 ghost use Rattle.link.specs.Questions.{mostBlocks};
-ghost use Rattle.tables.specs.Tables.{Ready};
+ghost use Rattle.tables.specs.Tables.{Narrow, Ready};
 ghost use Rattle.block.specs.Area.{Working};
 ghost use Rattle.link.specs.Decoding.{Restored, FrameDecoded, Decoded};
 use super::Answer;
@@ -80,16 +80,16 @@ fn decode_frame(
     message: &mut [u8],
     transmission: &mut [u8],
 ) -> Answer
-    requires { ⌜ T (isSetting setting) × (p ≡ settingOf setting) × (1 ≤ blocks) × (blocks ≤ mostBlocks) × (length (now reception) ≡ (blocks + p .m) * p .n) × Symbols (p .q) (now reception) × (length (now message) ≡ blocks * p .k) × (length (now transmission) ≡ length (now reception)) ⌝ }
+    requires { ⌜ T (isSetting setting) × (p ≡ settingOf setting) × Narrow p × (1 ≤ blocks) × (blocks ≤ mostBlocks) × (length (now reception) ≡ (blocks + p .m) * p .n) × Symbols (p .q) (now reception) × (length (now message) ≡ blocks * p .k) × (length (now transmission) ≡ length (now reception)) ⌝ }
     ensures { λ r. ⌜ FrameDecoded p blocks (now (reception .entry)) r (now (message .exit)) (now (transmission .exit)) ⌝ }
 {
     let products = field::tables(p.q);
     let mut rows = [0u8; tables::MOST_ROWS];
     tables::rows(setting, &mut rows);
-    let mut series = [0u8; tables::MOST_BLOCK + 1];
-    let mut locator = [0u8; tables::MOST_BLOCK + 1];
-    let mut values = [0u8; tables::MOST_BLOCK + 1];
-    let mut information = [0u8; tables::MOST_BLOCK + 1];
+    let mut series = [0u8; tables::LONGEST_BLOCK + 1];
+    let mut locator = [0u8; tables::LONGEST_BLOCK + 1];
+    let mut values = [0u8; tables::LONGEST_BLOCK + 1];
+    let mut information = [0u8; tables::LONGEST_BLOCK + 1];
     let room = p.n + 1;
     decode_lent(
         p,

@@ -5,6 +5,7 @@ ghost use lib.Dec.{T};
 ghost use lib.ListN.{length};
 ghost use Rattle.code.specs.Settings.{isSetting, settingOf};
 ghost use Rattle.code.specs.Windows.{transmission, Message};
+ghost use Rattle.tables.specs.Tables.{Narrow};
 ghost use Rattle.link.specs.Questions.{mostBlocks};
 ghost use Rattle.link.specs.Sending.{Sending, SentTo};
 ghost use Rattle.link.specs.Encoding.{Encoded};
@@ -54,7 +55,7 @@ fn send(p: Setting, products: &Tables, rows: &[u8], message: &[u8], blocks: usiz
 
 // The transmission of a message, in an area of just its size; the tables are made here.
 fn encode_frame(setting: u32, p: Setting, message: &[u8], blocks: usize, area: &mut [u8])
-    requires { ⌜ T (isSetting setting) × (p ≡ settingOf setting) × Message p blocks (now message) × (blocks ≤ mostBlocks) × (length (now area) ≡ (blocks + p .m) * p .n) ⌝ }
+    requires { ⌜ T (isSetting setting) × (p ≡ settingOf setting) × Narrow p × Message p blocks (now message) × (blocks ≤ mostBlocks) × (length (now area) ≡ (blocks + p .m) * p .n) ⌝ }
     ensures { λ _. ⌜ now (area .exit) ≡ transmission p (now (message .entry)) ⌝ }
 {
     let mut rows = [0u8; tables::MOST_ROWS];
@@ -72,8 +73,10 @@ pub fn encode(setting: u32, message: &[u8], transmission: &mut [u8]) -> Answer
         return answer;
     }
     let p = tables::setting(setting);
+    let n = p.n;
+    let m = p.m;
     let blocks = message.len() / p.k;
-    let long = (blocks + p.m) * p.n;
+    let long = (blocks + m) * n;
     encode_frame(setting, p, message, blocks, &mut transmission[..long]);
     answer
 }

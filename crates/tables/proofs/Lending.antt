@@ -1,5 +1,5 @@
--- What the functions of a setting are lent.
--- Holds: `readyOf`.
+-- What the functions of a setting are lent, and room for it.
+-- Holds: `readyOf`, `narrowOf`.
 use mathlib.Core.Path.{_≡_, sym, subst}
 use mathlib.Core.List.{List}
 use Prim.Native.Nat.{ℕ}
@@ -7,10 +7,13 @@ use lib.Dec.{T}
 use Rattle.field.specs.Tables.{Products, Lent}
 use Rattle.code.specs.declared.Setting.{Setting}
 use Rattle.code.specs.Settings.{isSetting, settingOf}
-use Rattle.code.proofs.Settings.{soundOf}
-use Rattle.tables.specs.Tables.{RowsOf, Ready}
+use Rattle.code.proofs.Settings.{soundOf, largestOf}
+use Rattle.tables.specs.Tables.{rowsLength, Narrow, RowsOf, Ready}
 
 pub readyOf : (s : ℕ) (p : Setting) → T (isSetting s) → p ≡ settingOf s → (products : Products) (rows : List ℕ) → Lent (p .q) products → RowsOf (settingOf s) rows
     → Ready p products rows
 readyOf s p t e products rows lent R =
     subst (λ (x : Setting). Ready x products rows) (sym e) (record { sound = soundOf s t; products = subst (λ (x : Setting). Lent (x .q) products) e lent; rows = R })
+
+pub narrowOf : (s : ℕ) (p : Setting) → T (isSetting s) → p ≡ settingOf s → Narrow p
+narrowOf s p t e = subst Narrow (sym e) (record { rows = largestOf rowsLength s t; block = largestOf (λ x. x .n) s t })

@@ -14,7 +14,7 @@ use code::Setting;
 // The most symbols of any setting's rows, and of a block: what a call that makes these areas makes room for.
 pub const MOST_ROWS: usize = 42;
 
-pub const MOST_BLOCK: usize = 7;
+pub const LONGEST_BLOCK: usize = 7;
 
 // Question 1: "Is the setting 1, 2 or 3?"
 pub fn is_setting(number: u32) -> bool

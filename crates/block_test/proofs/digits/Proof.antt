@@ -7,19 +7,19 @@ use lib.ListN.{length, length-set}
 use Rattle.field.specs.Symbols.{Symbols}
 use Rattle.field.proofs.Operations.{good-small}
 use Rattle.field.proofs.Symbols.{symbols-set, symbols-zeros}
-use Rattle.tables.specs.Tables.{mostBlock}
+use Rattle.tables.specs.Tables.{longestBlock}
 use Rattle.block.proofs.Accumulated.{zero-below}
 use Rattle.block_test.proofs.digits.Statement.{statement}
 use Rattle.block_test.proofs.digits.Tie as tie
 
 abbrev Inv-loop : tie.InvT-loop
-Inv-loop q number symbols₀ rest₀ i₀ symbols rest i = (i ≤ mostBlock) × (length symbols ≡ mostBlock) × Symbols q symbols
+Inv-loop q number symbols₀ rest₀ i₀ symbols rest i = (i ≤ longestBlock) × (length symbols ≡ longestBlock) × Symbols q symbols
 
 abbrev μ-loop : tie.MeasureT-loop
-μ-loop q number symbols₀ rest₀ i₀ symbols rest i = mostBlock - i
+μ-loop q number symbols₀ rest₀ i₀ symbols rest i = longestBlock - i
 
 loop-holds : tie.Need-loop-holds Inv-loop μ-loop
-loop-holds c = (omega arith, omega arith, symbols-zeros _ mostBlock (zero-below _ (c .pre)))
+loop-holds c = (omega arith, omega arith, symbols-zeros _ longestBlock (zero-below _ (c .pre)))
 
 rem-symbols : tie.Need-rem-symbols Inv-loop μ-loop
 rem-symbols c = omega (arith, zero-below (c .before .before .args .q) (c .before .before .pre))

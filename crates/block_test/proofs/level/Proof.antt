@@ -4,7 +4,7 @@ use Prim.Native.Nat.{_≤_}
 use Rattle.code.specs.declared.Setting.{Setting}
 use Rattle.code.specs.Settings.{Sound}
 use Rattle.code.proofs.Settings.{soundOf, largestOf}
-use Rattle.tables.specs.Tables.{rowsLength, mostBlock}
+use Rattle.tables.specs.Tables.{rowsLength, longestBlock}
 use Rattle.tables.proofs.Lending.{readyOf}
 use borrow.Author.Needs.{needs}
 use Rattle.block_test.proofs.level.Statement.{statement}
@@ -38,7 +38,7 @@ compare-requires c κs =
     let p = entry .pre in
     let e = c .before .before .before .before .before .before .before .before .setting .ensures in (
       readyOf number _ (p .0) e _ _ (c .before .before .before .before .before .before .before .tables .ensures) (c .before .before .before .before .before .rows2 .ensures),
-      subst (λ (x : Setting). x .n ≤ mostBlock) (sym e) (largestOf (λ x. x .n) number (p .0)),
+      subst (λ (x : Setting). x .n ≤ longestBlock) (sym e) (largestOf (λ x. x .n) number (p .0)),
       subst (λ (x : Setting). entry .args .l ≤ x .m) (sym e) (p .1),
       p .2,
       p .3,

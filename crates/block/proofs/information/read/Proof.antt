@@ -7,37 +7,47 @@ use borrow.Author.Needs.{needs}
 use denote.Ref.{now}
 use lib.ListN.{length}
 use Rattle.block.specs.Information.{Read}
+use Rattle.block.proofs.Accumulated.{alpha-below}
 use Rattle.block.proofs.Reading.{read-none, read-more}
 use Rattle.block.proofs.information.read.Statement.{statement}
 use Rattle.block.proofs.information.read.Tie as tie
 
 abbrev Inv-loop : tie.InvT-loop
-Inv-loop p products rows blocks values information₀ k b₀ information b = (b ≤ blocks) × (length information ≡ length information₀) × Read p b values information
+Inv-loop p products rows blocks values information₀ k back b₀ information b = (b ≤ blocks) × (length information ≡ length information₀) × Read p b values information
 
 abbrev μ-loop : tie.MeasureT-loop
-μ-loop p products rows blocks values information₀ k b₀ information b = blocks - b
+μ-loop p products rows blocks values information₀ k back b₀ information b = blocks - b
+
+inverse-requires : tie.Need-inverse-requires Inv-loop μ-loop
+inverse-requires c κs = let ready = c .before .before .before .pre .0 in (ready .sound .good, ready .products, alpha-below _ (ready .sound .good))
 
 clear-requires : tie.Need-clear-requires Inv-loop μ-loop
 clear-requires c κs = search needs
 
 loop-holds : tie.Need-loop-holds Inv-loop μ-loop
 loop-holds c =
-    let entry = c .before .before .before .before .before .before .before in
+    let entry = c .before .before .before .before .before .before .before .before in
     (omega arith, refl, subst (Read (entry .args .p) 0 (now (entry .args .values))) (sym (c .before .before .clear .ensures)) (read-none _ (entry .pre .0 .sound) _ (entry .pre .1) (length (now (entry .args .information)))))
 
 mul-read-block : tie.Need-mul-read-block Inv-loop μ-loop
 mul-read-block c =
-    let entry = c .before .before .before .before .before .before .before .before .before in
+    let entry = c .before .before .before .before .before .before .before .before .before .before in
     let next : c .before .loop .b + 1 ≤ entry .args .blocks = omega arith in
     omega (arith, mul-le-mul-right (entry .args .p .k) next, entry .pre .2)
 
 read-block-requires : tie.Need-read-block-requires Inv-loop μ-loop
 read-block-requires c κs =
-    let entry = c .before .before .before .before .before .before .before .before .before .before in
+    let entry = c .before .before .before .before .before .before .before .before .before .before .before in
     let l = c .before .before .loop in
     let next : l .b + 1 ≤ entry .args .blocks = omega arith in
-    let last = mul-le-mul-right (entry .args .p .k) next in
-    (entry .pre .0, entry .pre .1, omega (arith, last, entry .pre .2), l .inv .2 .below, omega (arith, last, entry .pre .3, l .inv .1, c .before .before .before .before .before .clear .kept .0))
+    let last = mul-le-mul-right (entry .args .p .k) next in (
+      entry .pre .0,
+      entry .pre .1,
+      omega (arith, last, entry .pre .2),
+      l .inv .2 .below,
+      omega (arith, last, entry .pre .3, l .inv .1, c .before .before .before .before .before .clear .kept .0),
+      c .before .before .before .before .before .before .before .inverse .ensures,
+    )
 
 add-b : tie.Need-add-b Inv-loop μ-loop
 add-b c = omega arith
@@ -47,9 +57,9 @@ loop-less c = omega arith
 
 loop-again : tie.Need-loop-again Inv-loop μ-loop
 loop-again c =
-    let p = c .before .before .before .before .before .before .before .before .before .before .before .before .before .pre in
+    let p = c .before .before .before .before .before .before .before .before .before .before .before .before .before .before .pre in
     let l = c .before .before .before .before .before .loop in
-    (omega arith, c .before .before .read-block .kept .1 .1 .1 .1 .1 .0 ∙ l .inv .1, read-more _ (p .0 .sound) _ (p .1) (l .b) _ _ (l .inv .2) (c .before .before .read-block .ensures))
+    (omega arith, c .before .before .read-block .kept .1 .1 .1 .1 .1 .1 .0 ∙ l .inv .1, read-more _ (p .0 .sound) _ (p .1) (l .b) _ _ (l .inv .2) (c .before .before .read-block .ensures))
 
 same-length : tie.Need-same-length Inv-loop μ-loop
 same-length c = c .before .loop .inv .1 ∙ c .before .before .before .before .clear .kept .0
@@ -57,7 +67,7 @@ same-length c = c .before .loop .inv .1 ∙ c .before .before .before .before .c
 returns : tie.Need-returns Inv-loop μ-loop
 returns c =
     let l = c .before .loop in
-    let done : l .b ≡ c .before .before .before .before .before .before .before .before .before .args .blocks = omega arith in
+    let done : l .b ≡ c .before .before .before .before .before .before .before .before .before .before .args .blocks = omega arith in
     rw done at (l .inv .2)
 
 pub read-spec : {M : Type 1} → statement M
@@ -66,6 +76,7 @@ read-spec =
     (tie.spec
     Inv-loop
     μ-loop
+    inverse-requires
     clear-requires
     loop-holds
     mul-read-block

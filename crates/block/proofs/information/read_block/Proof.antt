@@ -7,35 +7,31 @@ use Rattle.algebra.specs.Sum.{power}
 use Rattle.field.specs.Fields.{opsOf, alpha}
 use Rattle.field.specs.Symbols.{Is}
 use Rattle.block.specs.Information.{BlockRead}
-use Rattle.block.proofs.Accumulated.{alpha-below}
 use Rattle.block.proofs.Reading.{back-none, back-more, block-none, block-more}
 use Rattle.block.proofs.information.read_block.Statement.{statement}
 use Rattle.block.proofs.information.read_block.Tie as tie
 
 abbrev Inv-loop : tie.InvT-loop
-Inv-loop p products rows values from information₀ q k back point₀ j₀ information point j =
+Inv-loop p products rows values from back information₀ q k point₀ j₀ information point j =
     (j ≤ k) × (length information ≡ length information₀) × Is q point (power (opsOf q) (opsOf q .inv alpha) j) × BlockRead p from j values information₀ information
 
 abbrev μ-loop : tie.MeasureT-loop
-μ-loop p products rows values from information₀ q k back point₀ j₀ information point j = k - j
-
-inverse-requires : tie.Need-inverse-requires Inv-loop μ-loop
-inverse-requires c κs = let p = c .before .before .before .pre in (p .0 .sound .good, p .0 .products, alpha-below _ (p .0 .sound .good))
+μ-loop p products rows values from back information₀ q k point₀ j₀ information point j = k - j
 
 loop-holds : tie.Need-loop-holds Inv-loop μ-loop
-loop-holds c = let p = c .before .before .before .before .pre in (omega arith, refl, back-none _ (p .0 .sound .good), block-none _ (p .0 .sound) _ (p .1) _ _ (p .3))
+loop-holds c = let p = c .before .before .before .pre in (omega arith, refl, back-none _ (p .0 .sound .good), block-none _ (p .0 .sound) _ (p .1) _ _ (p .3))
 
 add-j : tie.Need-add-j Inv-loop μ-loop
 add-j c = omega arith
 
 multiply-requires : tie.Need-multiply-requires Inv-loop μ-loop
 multiply-requires c κs =
-    let p = c .before .before .before .before .before .before .pre in
-    (p .0 .sound .good, p .0 .products, c .before .before .inverse .ensures .below, c .before .loop .inv .2 .below)
+    let p = c .before .before .before .before .before .pre in
+    (p .0 .sound .good, p .0 .products, p .5 .below, c .before .loop .inv .2 .below)
 
 symbol-requires : tie.Need-symbol-requires Inv-loop μ-loop
 symbol-requires c κs =
-    let p = c .before .before .before .before .before .before .before .before .pre in
+    let p = c .before .before .before .before .before .before .before .pre in
     let l = c .before .before .before .loop in
     (p .0, p .1, p .2, l .inv .3 .below, omega (arith, l .inv .1, p .4), c .before .multiply .ensures .below, omega arith, omega arith)
 
@@ -53,9 +49,9 @@ loop-less c = omega arith
 
 loop-again : tie.Need-loop-again Inv-loop μ-loop
 loop-again c =
-    let p = c .before .before .before .before .before .before .before .before .before .pre in
+    let p = c .before .before .before .before .before .before .before .before .pre in
     let l = c .before .before .before .before .loop in
-    let point = back-more _ (p .0 .sound .good) (l .j) _ _ _ (c .before .before .before .before .before .inverse .ensures) (l .inv .2) (c .before .before .multiply .ensures) in
+    let point = back-more _ (p .0 .sound .good) (l .j) _ _ _ (p .5) (l .inv .2) (c .before .before .multiply .ensures) in
     (omega arith, simp length-set (l .inv .1), point, block-more _ (p .0 .sound) _ (p .1) _ (l .j) _ _ _ _ (omega (arith, l .inv .1, p .4)) (omega arith) (l .inv .3) point (c .symbol .ensures))
 
 same-length : tie.Need-same-length Inv-loop μ-loop
@@ -64,7 +60,7 @@ same-length c = c .before .loop .inv .1
 returns : tie.Need-returns Inv-loop μ-loop
 returns c =
     let l = c .before .loop in
-    let done : l .j ≡ c .before .before .before .before .before .before .args .p .k = omega arith in
+    let done : l .j ≡ c .before .before .before .before .before .args .p .k = omega arith in
     rw done at (l .inv .3)
 
 pub read-block-spec : {M : Type 1} → statement M
@@ -73,7 +69,6 @@ read-block-spec =
     (tie.spec
     Inv-loop
     μ-loop
-    inverse-requires
     loop-holds
     add-j
     multiply-requires

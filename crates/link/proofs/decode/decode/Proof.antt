@@ -5,6 +5,7 @@ use borrow.Author.Needs.{needs}
 use denote.Ref.{now}
 use lib.ListN.{length}
 use lib.Seq.{length-take-le}
+use Rattle.tables.proofs.Lending.{narrowOf}
 use Rattle.link.specs.Questions.{firstNo, decodingQuestions}
 use Rattle.link.proofs.Answers.{decoding-yes}
 use Rattle.link.proofs.Decoding.{Receiving, receiving, decoded-refused, decoded-asked}
@@ -64,9 +65,11 @@ slice-aggregate-decode-frame-2 c = sym (length-take-le _ _ (known (c .before .be
 decode-frame-requires : tie.Need-decode-frame-requires
 decode-frame-requires c κs =
     let a = c .before .before .before .before .before .before .before .before .before .args in
-    let k = known (c .before .before) in (
-      decoding-yes (a .setting) (now (a .reception)) (length (now (a .message))) (length (now (a .transmission))) (asked (c .before .before .before)) .setting,
+    let k = known (c .before .before) in
+    let is-setting = decoding-yes (a .setting) (now (a .reception)) (length (now (a .message))) (length (now (a .transmission))) (asked (c .before .before .before)) .setting in (
+      is-setting,
       c .before .before .setting .ensures,
+      narrowOf (a .setting) (c .before .before .setting .result) is-setting (c .before .before .setting .ensures),
       k .blocks,
       k .most,
       k .long,

@@ -5,8 +5,8 @@ use native.Mathlib.Omega.{arith}
 use lib.Seq.{length-take-le}
 use Rattle.code.specs.declared.Setting.{Setting}
 use Rattle.code.specs.Settings.{Sound}
-use Rattle.code.proofs.Settings.{soundOf, sizes, largestOf}
-use Rattle.tables.specs.Tables.{rowsLength, mostBlock}
+use Rattle.code.proofs.Settings.{soundOf, sizes}
+use Rattle.tables.specs.Tables.{rowsLength, mostRows, longestBlock}
 use Rattle.tables.proofs.Lending.{readyOf}
 use borrow.Author.Needs.{needs}
 use Rattle.link.proofs.decode.decode_frame.Statement.{statement}
@@ -16,10 +16,8 @@ use Rattle.link.proofs.decode.decode_frame.Tie as tie
 sound : (c : tie.Start) → Sound (c .args .p)
 sound c = subst Sound (sym (c .pre .1)) (soundOf (c .args .setting) (c .pre .0))
 
-room : (c : tie.Start) → c .args .p .n + 1 ≤ mostBlock + 1
-room c =
-    let short : c .args .p .n ≤ mostBlock = subst (λ (p : Setting). p .n ≤ mostBlock) (sym (c .pre .1)) (largestOf (λ p. p .n) (c .args .setting) (c .pre .0)) in
-    omega arith
+room : (c : tie.Start) → c .args .p .n + 1 ≤ longestBlock + 1
+room c = omega (arith, c .pre .2 .block)
 
 tables-requires : tie.Need-tables-requires
 tables-requires c κs = sound (c .before .before .before) .good
@@ -28,7 +26,9 @@ slice-aggregate-rows : tie.Need-slice-aggregate-rows
 slice-aggregate-rows c = search needs
 
 rows-requires : tie.Need-rows-requires
-rows-requires c κs = let known = c .before .before .before .before .before .pre .0 in (known, largestOf rowsLength (c .before .before .before .before .before .args .setting) known)
+rows-requires c κs =
+    let known = c .before .before .before .before .before .pre in
+    (known .0, subst (λ (p : Setting). rowsLength p ≤ mostRows) (known .1) (known .2 .rows))
 
 add-room : tie.Need-add-room
 add-room c = let entry = c .before .before .before .before .before .before .before .before in omega (arith, sizes (entry .args .p) (sound entry) .symbols-most)
@@ -66,12 +66,12 @@ decode-lent-requires c κs =
     let a = entry .args in
     let fits = room entry in (
       readyOf (a .setting) (a .p) (entry .pre .0) (entry .pre .1) (c .before .before .before .before .before .before .before .before .before .before .before .before .tables .result) (c .before .before .before .before .before .before .before .before .before .before .rows2 .last .1 .0) (c .before .before .before .before .before .before .before .before .before .before .before .before .tables .ensures) (c .before .before .before .before .before .before .before .before .before .before .rows2 .ensures),
-      entry .pre .2,
       entry .pre .3,
       entry .pre .4,
       entry .pre .5,
       entry .pre .6,
       entry .pre .7,
+      entry .pre .8,
       record { series-long = length-take-le _ _ fits; locator-long = length-take-le _ _ fits; values-long = length-take-le _ _ fits; information-long = length-take-le _ _ fits },
     )
 

@@ -8,6 +8,7 @@ use lib.Seq.{length-take-le}
 use Rattle.code.specs.declared.Setting.{Setting}
 use Rattle.code.specs.Windows.{Message}
 use Rattle.code.proofs.Settings.{sizesOf}
+use Rattle.tables.proofs.Lending.{narrowOf}
 use Rattle.link.specs.Questions.{mostBlocks}
 use Rattle.link.proofs.Answers.{EncodingYes, encoding-yes}
 use Rattle.link.proofs.Encoding.{encoded-refused, encoded-sent}
@@ -47,32 +48,37 @@ div-blocks : tie.Need-div-blocks
 div-blocks c = information (c .before)
 
 add-long : tie.Need-add-long
-add-long c = omega (arith, few (c .before .before))
+add-long c = omega (arith, few (c .before))
 
 mul-long : tie.Need-mul-long
-mul-long c = omega (arith, room (c .before .before .before))
+mul-long c = omega (arith, room (c .before))
 
 slice-relend-prefix-encode-frame : tie.Need-slice-relend-prefix-encode-frame
-slice-relend-prefix-encode-frame c = room (c .before .before .before)
+slice-relend-prefix-encode-frame c = room (c .before)
 
 slice-aggregate-encode-frame : tie.Need-slice-aggregate-encode-frame
-slice-aggregate-encode-frame c = sym (length-take-le _ _ (room (c .before .before .before .before)))
+slice-aggregate-encode-frame c = sym (length-take-le _ _ (room (c .before .before)))
 
 encode-frame-requires : tie.Need-encode-frame-requires
 encode-frame-requires c κs =
-    let at = c .before .before .before .before in
+    let at = c .before .before in
+    let a = at .before .before .before .before .before .before .args in
+    let yes = known (at .before) in
     let is = at .setting .ensures in (
-      known (at .before) .setting,
+      yes .setting,
       is,
-      subst (λ (p : Setting). Message p (length (now (c .before .before .before .before .before .before .before .before .before .before .args .message)) / p .k) (now (c .before .before .before .before .before .before .before .before .before .before .args .message))) (sym is) (known (at .before) .message-of),
-      subst (λ (p : Setting). length (now (c .before .before .before .before .before .before .before .before .before .before .args .message)) / p .k ≤ mostBlocks) (sym is) (known (at .before) .most),
+      narrowOf (a .setting) (at .setting .result) (yes .setting) is,
+      subst (λ (p : Setting). Message p (length (now (a .message)) / p .k) (now (a .message))) (sym is) (yes .message-of),
+      subst (λ (p : Setting). length (now (a .message)) / p .k ≤ mostBlocks) (sym is) (yes .most),
       length-take-le _ _ (room at),
     )
 
 returns-2 : tie.Need-returns-2
 returns-2 c =
-    let entry = c .before .before .before .before .before .before .before .before .before .before .before .before .before in
-    encoded-sent (entry .args .setting) (now (entry .args .message)) (now (entry .args .transmission)) (c .before .before .before .before .before .before .before .before .before .before .encoding-questions .result) (c .before .before .before .before .before .before .before .setting .result) (c .before .before .before .before .before .before .before .before .before .before .encoding-questions .ensures) (c .before .before .before .before .before .before .before .before .if1 .left) (c .before .before .before .before .before .before .before .setting .ensures) (c .before .before .encode-frame .ensures)
+    let at = c .before .before .before .before .before in
+    let a = at .before .before .before .before .before .before .args in
+    let asked = at .before .before .before .encoding-questions in
+    encoded-sent (a .setting) (now (a .message)) (now (a .transmission)) (asked .result) (at .setting .result) (asked .ensures) (at .before .if1 .left) (at .setting .ensures) (c .before .before .encode-frame .ensures)
 
 pub encode-spec : {M : Type 1} → statement M
 encode-spec =

@@ -1,8 +1,10 @@
 -- `link::encode::encode_frame` meets its contract: the tables are the setting's.
 use mathlib.Core.Path.{sym, subst}
+use Prim.Native.Nat.{_≤_}
+use Rattle.code.specs.declared.Setting.{Setting}
 use Rattle.code.specs.Settings.{Sound}
-use Rattle.code.proofs.Settings.{soundOf, largestOf}
-use Rattle.tables.specs.Tables.{rowsLength}
+use Rattle.code.proofs.Settings.{soundOf}
+use Rattle.tables.specs.Tables.{rowsLength, mostRows}
 use Rattle.tables.proofs.Lending.{readyOf}
 use borrow.Author.Needs.{needs}
 use Rattle.link.proofs.encode.encode_frame.Statement.{statement}
@@ -19,7 +21,9 @@ slice-aggregate-rows : tie.Need-slice-aggregate-rows
 slice-aggregate-rows c = search needs
 
 rows-requires : tie.Need-rows-requires
-rows-requires c κs = let known = c .before .before .before .pre .0 in (known, largestOf rowsLength (c .before .before .before .args .setting) known)
+rows-requires c κs =
+    let known = c .before .before .before .pre in
+    (known .0, subst (λ (p : Setting). rowsLength p ≤ mostRows) (known .1) (known .2 .rows))
 
 slice-aggregate-send : tie.Need-slice-aggregate-send
 slice-aggregate-send c = search needs
@@ -29,7 +33,7 @@ send-requires c κs =
     let entry = c .before .before .before .before .before .before .before .before .before in
     let a = entry .args in
     let ready = readyOf (a .setting) (a .p) (entry .pre .0) (entry .pre .1) (c .before .before .before .tables .result) (c .before .before .before .before .before .rows2 .last .1 .0) (c .before .before .before .tables .ensures) (c .before .before .before .before .before .rows2 .ensures) in
-    (record { ready = ready; message-of = entry .pre .2; most = entry .pre .3 }, entry .pre .4)
+    (record { ready = ready; message-of = entry .pre .3; most = entry .pre .4 }, entry .pre .5)
 
 returns : tie.Need-returns
 returns c = search needs
