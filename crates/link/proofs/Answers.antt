@@ -1,7 +1,7 @@
 -- What the first "no" of a list of questions says, and what a call knows when every answer was "yes".
 -- Holds: `first-yes`, `first-no` (one question), `append-yes`, `append-no` (a list of questions before others), `all-yes`, `yes-all` (number 0 says that every
 -- answer was "yes"), `after-first`, `after-frame` (what is left to ask, over the setting in hand); `symbols-start`, `symbols-next`, `symbols-stop`,
--- `symbols-end` (question 4, as a loop asks it), `symbols-all`; `Frame`; `FrameYes`, `DecodingYes`, `EncodingYes`, `WindowYes` and `frame-yes`,
+-- `symbols-end` (question 4, as a loop asks it), `all-symbols`, `symbols-all`; `Frame`; `FrameYes`, `DecodingYes`, `EncodingYes`, `WindowYes` and `frame-yes`,
 -- `decoding-yes`, `encoding-yes`, `display-yes`, `marks-yes`; `message-most`, `transmission-most`, `transmission-small`, `window-small` (the areas' sizes).
 use mathlib.Core.Path.{_≡_, refl, sym, ap, subst, _∙_}
 use mathlib.Core.Bool.{Bool, true, false, not, _&&_}
@@ -141,7 +141,14 @@ symbols-end q l i e =
     let none : symbolsTo q (drop i l) ≡ 0 = ap (symbolsTo q) (ap (λ (t : ℕ). drop t l) e ∙ drop-length l) in
     omega arith
 
--- All of them: a list of symbols.
+-- All of them are symbols.
+pub all-symbols : (q : ℕ) (l : List ℕ) → Symbols q l → symbolsTo q l ≡ length l
+unfolding symbolsTo
+all-symbols q [] S = refl
+all-symbols q (x ∷ l) S =
+    ap (λ (t : Bool). pick t (suc (symbolsTo q l)) 0) (lt-ltb x q (S .below 0 (omega arith)))
+    ∙ ap suc (all-symbols q l (record { below = λ i h. S .below (suc i) (omega arith) }))
+
 pub symbols-all : (q : ℕ) (l : List ℕ) → symbolsTo q l ≡ length l → Symbols q l
 unfolding symbolsTo
 symbols-all q [] e = no-symbols q

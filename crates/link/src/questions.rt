@@ -1,5 +1,7 @@
 // The questions of 01, asked in order by every call: the answer is the first "no".
 ghost use mathlib.Core.Path.{_≡_};
+ghost use Prim.Native.Nat.{_+_, _≤_};
+ghost use Rattle.field.specs.Symbols.{Symbols};
 ghost use Rattle.link.specs.Questions.{answer, firstNo, symbolsTo, frameQuestions, decodingQuestions, encodingQuestions, displayQuestions, marksQuestions};
 use super::Answer;
 use super::MOST_BLOCKS;
@@ -32,8 +34,27 @@ fn wide(symbol: u8) -> usize
     symbol as usize
 }
 
+fn larger(a: u8, b: u8) -> u8
+    ensures { λ r. ⌜ (a ≤ r) × (b ≤ r) ⌝ }
+{
+    if a < b { b } else { a }
+}
+
+// The largest byte, which no byte exceeds. No early exit: the compiler looks at many bytes at once.
+fn largest(bytes: &[u8]) -> u8
+    ensures { λ r. ⌜ Symbols (r + 1) (now (bytes .entry)) ⌝ }
+{
+    let mut most: u8 = 0;
+    let mut i: usize = 0;
+    while i < bytes.len() {
+        most = larger(most, bytes[i]);
+        i += 1;
+    }
+    most
+}
+
 // The place of the first byte that is not below q, or the length where there is none.
-pub fn first_not_below(q: usize, bytes: &[u8]) -> usize
+fn search_not_below(q: usize, bytes: &[u8]) -> usize
     ensures { λ r. ⌜ r ≡ symbolsTo q (now (bytes .entry)) ⌝ }
 {
     let mut i: usize = 0;
@@ -44,6 +65,16 @@ pub fn first_not_below(q: usize, bytes: &[u8]) -> usize
         i += 1;
     }
     i
+}
+
+// The same; where every byte is below q, no byte is looked at by itself.
+pub fn first_not_below(q: usize, bytes: &[u8]) -> usize
+    ensures { λ r. ⌜ r ≡ symbolsTo q (now (bytes .entry)) ⌝ }
+{
+    if wide(largest(bytes)) < q {
+        return bytes.len();
+    }
+    search_not_below(q, bytes)
 }
 
 // Questions 1, 2 and 3 of a frame of this many symbols.

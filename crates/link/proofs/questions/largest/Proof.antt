@@ -1,0 +1,61 @@
+-- `link::questions::largest`: no byte before i exceeds the largest so far.
+use mathlib.Core.Path.{_≡_, sym, subst}
+use mathlib.Core.List.{List}
+use Prim.Native.Nat.{ℕ, _+_, _-_, _≤_, _<_}
+use native.Mathlib.Omega.{arith}
+use native.Mathlib.Decide.{ℕ-discrete}
+use denote.Ref.{now}
+use lib.ListN.{length, getD}
+use Rattle.link.proofs.questions.largest.Statement.{statement}
+use Rattle.link.proofs.questions.largest.Tie as tie
+
+abbrev Inv-loop : tie.InvT-loop
+Inv-loop bytes most₀ i₀ most i = (i ≤ length bytes) × ((a : ℕ) → a < i → getD bytes a 0 ≤ most)
+
+abbrev μ-loop : tie.MeasureT-loop
+μ-loop bytes most₀ i₀ most i = length bytes - i
+
+one-more : (bytes : List ℕ) (i most next : ℕ) → ((a : ℕ) → a < i → getD bytes a 0 ≤ most) → most ≤ next → getD bytes i 0 ≤ next
+    → (a : ℕ) → a < i + 1 → getD bytes a 0 ≤ next
+one-more bytes i most next before grown here a h = at (ℕ-discrete a i)
+  where
+    at : Dec (a ≡ i) → getD bytes a 0 ≤ next
+    at (yes e) = subst (λ (t : ℕ). getD bytes t 0 ≤ next) (sym e) here
+    at (no d) = omega (arith, before a (omega arith))
+
+loop-holds : tie.Need-loop-holds Inv-loop μ-loop
+loop-holds c = (omega arith, λ a h. absurd (omega arith))
+
+shared-slice-read-larger : tie.Need-shared-slice-read-larger Inv-loop μ-loop
+shared-slice-read-larger c = omega arith
+
+larger-requires : tie.Need-larger-requires Inv-loop μ-loop
+larger-requires c κs = tt
+
+add-i : tie.Need-add-i Inv-loop μ-loop
+add-i c = omega arith
+
+loop-less : tie.Need-loop-less Inv-loop μ-loop
+loop-less c = omega arith
+
+loop-again : tie.Need-loop-again Inv-loop μ-loop
+loop-again c =
+    let l = c .before .before .before .loop in
+    (omega arith, one-more (now (c .before .before .before .before .before .args .bytes)) (l .i) (l .most) _ (l .inv .1) (c .larger .ensures .0) (c .larger .ensures .1))
+
+returns : tie.Need-returns Inv-loop μ-loop
+returns c = record { below = λ a h. omega (arith, c .before .loop .inv .1 a (omega arith)) }
+
+pub largest-spec : {M : Type 1} → statement M
+largest-spec =
+    tie.close
+    (tie.spec
+    Inv-loop
+    μ-loop
+    loop-holds
+    shared-slice-read-larger
+    larger-requires
+    add-i
+    loop-less
+    loop-again
+    returns)
