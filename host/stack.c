@@ -21,21 +21,21 @@ enum {
     STACK = 256 * 1024,
     LIMIT = 64 * 1024,
     UNTOUCHED = 0xaa,
-    MOST_INFORMATION = MOST_BLOCKS * 3,
-    MOST_SYMBOLS = (MOST_BLOCKS + 2) * 7,
+    ROOM = 64 * 1024,
 };
 
 /* The stack grows from the end of this area towards its first byte. */
 static _Alignas(4096) unsigned char stack[STACK];
 
-static uint8_t order[MOST_INFORMATION], message[MOST_INFORMATION];
-static uint8_t sent[MOST_SYMBOLS], reception[MOST_SYMBOLS], repaired[MOST_SYMBOLS];
+static uint8_t order[ROOM], message[ROOM], sent[ROOM], reception[ROOM], repaired[ROOM];
 
-/* Encodes, decodes and marks the longest order of a setting; true if it came back. */
+/* Encodes, decodes and marks the longest order of a setting; true if it has room and came back. */
 static bool comes_back(const struct setting *setting)
 {
     size_t order_length = message_length(setting, MOST_BLOCKS);
     size_t length = transmission_length(setting, MOST_BLOCKS);
+    if (length > ROOM)
+        return false;
     for (size_t i = 0; i < order_length; i++)
         order[i] = (uint8_t)(i * 5 % setting->q);
     struct orderlink_answer encoded =

@@ -123,8 +123,7 @@ mod tests {
     #[test]
     fn repair_finds_the_one_codeword_within_the_limit() {
         let random = &mut Random::new(10);
-        for setting in 1..=3 {
-            let code = Code::of(setting).unwrap();
+        for (setting, code) in (1..).map_while(|number| Some((number, Code::of(number)?))) {
             for l in 0..=code.m {
                 let codewords = codewords(code, l);
                 for _ in 0..2_000_000 / codewords.len().max(500) {

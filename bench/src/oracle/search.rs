@@ -1,6 +1,6 @@
 //! The messages that fit a reception, found by trying all of them.
 
-use super::definition::Setting;
+use super::definition::{Setting, SETTINGS};
 use std::sync::OnceLock;
 
 /// What every information block contributes to the sent block j places later, for each j.
@@ -102,7 +102,8 @@ fn earlier_part(setting: &Setting, contributions: &Contributions, chosen: &[usiz
 
 /// The contributions of a setting, made once.
 fn contributions(setting: &Setting) -> &'static Contributions {
-    static TABLES: [OnceLock<Contributions>; 3] = [const { OnceLock::new() }; 3];
+    static TABLES: [OnceLock<Contributions>; SETTINGS.len()] =
+        [const { OnceLock::new() }; SETTINGS.len()];
     TABLES[setting.number as usize - 1].get_or_init(|| {
         let information = all_blocks(setting.q, setting.k);
         let contribution = |j| information.iter().map(|u| setting.contribution(u, j)).collect();
