@@ -19,8 +19,8 @@ use Rattle.frame.proofs.Guesses.{windowAt, added-zero}
 use Rattle.frame.proofs.Turn.{window-clean}
 use Rattle.frame.proofs.Progress.{progress-found, progress-none}
 
-module _ (p : Setting) (S : Sound p) (T : ℕ) (reception : List ℕ) (R : Symbols (p .q) reception) (long : length reception ≡ (T + p .m) * p .n)
-    (j : ℕ) (message left : List ℕ) (P : Progress p T reception j message left) (l : j < T) (information : List ℕ) where
+module _ {p : Setting} (S : Sound p) {T : ℕ} {reception : List ℕ} (R : Symbols (p .q) reception) (long : length reception ≡ (T + p .m) * p .n)
+    {j : ℕ} {message left : List ℕ} (P : Progress p T reception j message left) (l : j < T) where
   abbrev window : List ℕ
   window = take (j * p .n + windowLength p - j * p .n) (drop (j * p .n) left)
 
@@ -30,37 +30,37 @@ module _ (p : Setting) (S : Sound p) (T : ℕ) (reception : List ℕ) (R : Symbo
       ap (λ (t : ℕ). take t (drop (j * p .n) left)) wide
 
   -- No information is near: no message fits, whatever the areas hold.
-  pub advance-none : (i : ℕ) (message' left' : List ℕ) {found : ℕ} → Levels p window information found → found ≡ 0 → Advanced p T reception i message' left' false
-  advance-none i message' left' (served found some few area first) e = absurd (omega arith)
-  advance-none i message' left' (none-serves far) e =
+  pub advance-none : {i found : ℕ} {information message' left' : List ℕ} → Levels p window information found → found ≡ 0 → Advanced p T reception i message' left' false
+  advance-none (served found some few area first) e = absurd (omega arith)
+  advance-none (none-serves far) e =
       stopped (progress-none p S T reception R long j message left P l (λ y Y near. far y Y (subst (λ (w : List ℕ). Near p w (p .m) y) (sym same-window) near)))
 
   -- Little is left of the window: the guess of its first block is right.
-  pub advance-clean : length window ≡ windowLength p → (cost : ℕ) → cost ≡ zeroCost (p .q) window → cost < distancesTo (p .n) (p .k) (p .m)
+  pub advance-clean : length window ≡ windowLength p → {cost : ℕ} → cost ≡ zeroCost (p .q) window → cost < distancesTo (p .n) (p .k) (p .m)
       → Advanced p T reception (j + 1) message left true
-  advance-clean long-window cost counted few =
+  advance-clean long-window counted few =
       advanced (progress-found p S T reception R long j message left P (λ r. 0) message left l
       (λ y Y near r u. window-clean p S window long-window (omega arith) y Y (subst (λ (w : List ℕ). Near p w (p .m) y) (sym same-window) near) r u)
       (added-zero p T j (λ r. 0) message left S (P .areas) (λ r. refl)))
 
   -- What was found went into the message.
-  pub advance-found : {found : ℕ} (message' left' : List ℕ) → Levels p window information found → (found ≡ 0 → ⊥)
+  pub advance-found : {found : ℕ} {information message' left' : List ℕ} → Levels p window information found → (found ≡ 0 → ⊥)
       → Added p T j (λ r. getD information r 0) message left message' left' → Advanced p T reception (j + 1) message' left' true
-  advance-found message' left' (served found some few area first) e D =
+  advance-found {information = information} {message' = message'} {left' = left'} (served found some few area first) e D =
       advanced (progress-found p S T reception R long j message left P (λ r. getD information r 0) message' left' l
       (λ y Y near r u. first y Y (subst (λ (w : List ℕ). Near p w (p .m) y) (sym same-window) near) r u) D)
-  advance-found message' left' (none-serves far) e D = absurd (e refl)
+  advance-found (none-serves far) e D = absurd (e refl)
 
-module _ (p : Setting) (T : ℕ) (reception : List ℕ) (j : ℕ) (message left : List ℕ) where
+module _ {p : Setting} {T : ℕ} {reception : List ℕ} {j : ℕ} {message left : List ℕ} where
   -- A turn that did not stop has advanced..
   pub advance-more : {r : Bool} → Advanced p T reception j message left r → not r ≡ false → Progress p T reception j message left
   advance-more (advanced progress) h = progress
   advance-more (stopped far) h = absurd (false-not-true (sym h))
 
   -- .. and one that stopped shows that no message fits, whatever the areas hold.
-  pub advance-stopped : {r : Bool} (i : ℕ) (message' left' : List ℕ) → Advanced p T reception j message left r → not r ≡ true → Advanced p T reception i message' left' false
-  advance-stopped i message' left' (advanced progress) h = absurd (false-not-true h)
-  advance-stopped i message' left' (stopped far) h = stopped far
+  pub advance-stopped : {r : Bool} {i : ℕ} {message' left' : List ℕ} → Advanced p T reception j message left r → not r ≡ true → Advanced p T reception i message' left' false
+  advance-stopped (advanced progress) h = absurd (false-not-true h)
+  advance-stopped (stopped far) h = stopped far
 
   pub stopped-none : {r : Bool} → Advanced p T reception j message left r → not r ≡ true → NoneFits p T reception
   stopped-none (advanced progress) h = absurd (false-not-true h)

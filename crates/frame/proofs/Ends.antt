@@ -56,7 +56,7 @@ module _ (p : Setting) (S : Sound p) (T : ℕ) (reception message left : List �
   pub left-altered : altered p T reception (transmission p message) ≡ countOf ((T + p .m) * p .n) (λ i. not (eqb (getD left i 0) 0))
   left-altered = countOf-ext ((T + p .m) * p .n) _ _ (λ i h. ap not (left-test i h))
 
-module _ (p : Setting) (S : Sound p) (T : ℕ) (reception message left : List ℕ) (R : Symbols (p .q) reception) (long : length reception ≡ (T + p .m) * p .n)
+module _ {p : Setting} (S : Sound p) {T : ℕ} {reception message left : List ℕ} (R : Symbols (p .q) reception) (long : length reception ≡ (T + p .m) * p .n)
     (blocks : 1 ≤ T) (P : Progress p T reception T message left) where
   whole : Message p T message
   whole = record { blocks = blocks; long = P .areas .message-long; symbols = P .areas .message-symbols }

@@ -17,27 +17,27 @@ use Rattle.block.specs.Step.{Step, near, far}
 use Rattle.frame.specs.Window.{Tried, serves, fails}
 use Rattle.frame.proofs.Levels.{part-cost}
 
-module _ (p : Setting) (l : ℕ) (block information : List ℕ) where
-  -- The block step's information has symbols below q, if it answered "near".
-  pub step-below : {r : Bool} → Step p l block information r → not r ≡ false → AllBelow (p .q) information
-  step-below (near below close) h = below
-  step-below (far none) h = absurd (false-not-true (sym h))
+-- The block step's information has symbols below q, if it answered "near".
+pub step-below : {p : Setting} {l : ℕ} {block information : List ℕ} {r : Bool} → Step p l block information r → not r ≡ false → AllBelow (p .q) information
+step-below (near below close) h = below
+step-below (far none) h = absurd (false-not-true (sym h))
 
-module _ (p : Setting) (S : Sound p) (window : List ℕ) (l : ℕ) (level : l ≤ p .m) (information : List ℕ) where
-  abbrev block : List ℕ
-  block = take (l * p .n + p .n - l * p .n) (drop (l * p .n) window)
+-- Block l of a window, as it is lent.
+abbrev blockAt : Setting → List ℕ → ℕ → List ℕ
+blockAt p window l = take (l * p .n + p .n - l * p .n) (drop (l * p .n) window)
 
-  pub tried-far : {r : Bool} → Step p l block information r → not r ≡ true → Tried p window l information false
+module _ {p : Setting} (S : Sound p) {window : List ℕ} {l : ℕ} (level : l ≤ p .m) {information : List ℕ} where
+  pub tried-far : {r : Bool} → Step p l (blockAt p window l) information r → not r ≡ true → Tried p window l information false
   tried-far (near below close) e = absurd (false-not-true e)
   tried-far (far none) e = fails (λ y Y h. rw (part-cost p l (l * p .n) l window y refl) at (none y (λ b r u v. Y b r)))
 
-  pub tried-refused : {r : Bool} → Step p l block information r → not r ≡ false
+  pub tried-refused : {r : Bool} → Step p l (blockAt p window l) information r → not r ≡ false
       → distancesTo (p .n) (p .k) l ≤ windowCost p window l (view (p .k) information) → Tried p window l information false
   tried-refused (near below close) h bad =
       fails (λ y Y good. level-refused p S window y (view (p .k) information) Y (λ s r. below (s * p .k + r)) l level good
       (rw (part-cost p l (l * p .n) l window (view (p .k) information) refl) at close) bad)
   tried-refused (far none) h bad = absurd (false-not-true (sym h))
 
-  pub tried-serves : {r : Bool} → Step p l block information r → not r ≡ false
+  pub tried-serves : {r : Bool} → Step p l (blockAt p window l) information r → not r ≡ false
       → windowCost p window l (view (p .k) information) < distancesTo (p .n) (p .k) l → Tried p window l information true
-  tried-serves step h good = serves (step-below p l block information step h) good
+  tried-serves step h good = serves (step-below step h) good

@@ -22,7 +22,7 @@ window-clean p S window long few y Y near r l =
     let same : zeroCost (p .q) window ≡ windowCost p window (p .m) (λ s r. 0) = zero-cost p S window long in
     first-certain p S window y (λ s r. 0) Y (λ s r. positive p S) (p .m) (omega arith) near (omega arith) r l
 
-module _ (p : Setting) (window information : List ℕ) where
+module _ {p : Setting} {window information : List ℕ} where
   pub levels-below : {found : ℕ} → Levels p window information found → (found ≡ 0 → ⊥) → AllBelow (p .q) information
   levels-below (served found some few below first) d = below
   levels-below (none-serves far) d = absurd (d refl)

@@ -49,7 +49,7 @@ module _ (q : ℕ) (reception before : List ℕ) where
           ∙ ap (λ (t : ℕ). sub (opsOf q) (getD reception t 0) (getD before t 0)) (sym s)
       at a (no d) h = getD-set-other after i a v 0 d ∙ R .inside a (omega arith)
 
-module _ (p : Setting) (T : ℕ) (reception message left : List ℕ) where
+module _ {p : Setting} {T : ℕ} {reception message left : List ℕ} where
   -- What the frame's reader leaves, if it found a message..
   pub left-symbols : {r : Bool} → FrameRead p T reception message left r → not r ≡ false → Symbols (p .q) left
   left-symbols (fits F symbols long residual) h = symbols
@@ -60,16 +60,16 @@ module _ (p : Setting) (T : ℕ) (reception message left : List ℕ) where
   left-long (none far) h = absurd (false-not-true (sym h))
 
   -- .. and if it found none.
-  pub frame-decoded-none : {r : Bool} (a : Answer) (cleared emptied : List ℕ) → FrameRead p T reception message left r → not r ≡ true → a ≡ answer 7 0 0
+  pub frame-decoded-none : {r : Bool} {a : Answer} {cleared emptied : List ℕ} → FrameRead p T reception message left r → not r ≡ true → a ≡ answer 7 0 0
       → cleared ≡ replicate (T * p .k) 0 → emptied ≡ replicate ((T + p .m) * p .n) 0 → FrameDecoded p T reception a cleared emptied
-  frame-decoded-none a cleared emptied (fits F symbols long residual) h e f g = absurd (false-not-true h)
-  frame-decoded-none a cleared emptied (none far) h e f g = none-fits far e f g
+  frame-decoded-none (fits F symbols long residual) h e f g = absurd (false-not-true h)
+  frame-decoded-none (none far) h e f g = none-fits far e f g
 
-  pub frame-decoded-found : Sound p → {r : Bool} (restored : List ℕ) (weight : ℕ) → Symbols (p .q) reception → length reception ≡ (T + p .m) * p .n
+  pub frame-decoded-found : Sound p → {r : Bool} {restored : List ℕ} {weight : ℕ} → Symbols (p .q) reception → length reception ≡ (T + p .m) * p .n
       → FrameRead p T reception message left r → not r ≡ false → weight ≡ countOf (length left) (λ i. not (eqb (getD left i 0) 0))
       → Restored (p .q) (length left) reception left restored → FrameDecoded p T reception (answer 0 0 weight) message restored
-  frame-decoded-found S restored weight R long (none far) h counted back = absurd (false-not-true (sym h))
-  frame-decoded-found S restored weight R long (fits F symbols same residual) h counted back =
+  frame-decoded-found S R long (none far) h counted back = absurd (false-not-true (sym h))
+  frame-decoded-found S {restored = restored} R long (fits F symbols same residual) h counted back =
       found F
       (ap (answer 0 0) (counted ∙ (ap (λ (t : ℕ). countOf t (λ i. not (eqb (getD left i 0) 0))) (same ∙ long)
       ∙ sym (left-altered p S T reception message left R (F .message-of) residual))))

@@ -25,31 +25,28 @@ read-windows-requires c κs =
       c .before .before .before .before .before .before .before .before .before .before .before .before .before .before .distances-to .ensures,
       entry .pre .2,
       entry .pre .3,
-      begin (a .p) (entry .pre .0 .sound) (a .blocks) (now (a .reception)) (now (a .left)) (c .before .before .before .before .before .before .before .before .before .before .before .before .clear .last .0) (now (a .message)) (c .before .before .before .before .before .before .before .before .copy .last .1 .0)
+      begin _ (entry .pre .0 .sound) _ _ (now (a .left)) _ (now (a .message)) _
           (entry .pre .3) (entry .pre .2) (entry .pre .4) (c .before .before .before .before .before .before .before .before .before .before .before .before .clear .ensures) (entry .pre .5) (c .before .before .before .before .before .before .before .before .copy .ensures .1),
       entry .pre .6,
     )
 
 returns : tie.Need-returns
 returns c =
-    let a = c .before .before .before .before .before .before .before .before .before .before .before .before .before .before .before .before .before .before .before .before .before .before .before .before .before .before .before .before .before .before .before .before .before .before .before .before .before .args in
     let windows = c .before .before .before .before .before .before .before .before .before .before .before .before .before .read-windows in
-    none (stopped-none (a .p) (a .blocks) (now (a .reception)) (a .blocks) (windows .last .1 .1 .1 .1 .1 .1 .0) (windows .last .1 .1 .1 .1 .1 .1 .1 .0) (windows .ensures) (c .if1 .taken))
+    none (stopped-none (windows .ensures) (c .if1 .taken))
 
 compare-windows-requires : tie.Need-compare-windows-requires
 compare-windows-requires c κs =
     let entry = c .before .before .before .before .before .before .before .before .before .before .before .before .before .before .before .before .before .before .before .before .before .before .before .before .before .before .before .before .before .before .before .before .before .before .before .before .before .before in
-    let a = entry .args in
     let windows = c .before .before .before .before .before .before .before .before .before .before .before .before .before .before .read-windows in
-    (entry .pre .0 .sound, c .before .before .before .before .before .before .before .before .before .before .before .before .before .before .before .before .before .before .before .before .before .before .before .before .before .before .before .before .before .distances-to .ensures, (advance-more (a .p) (a .blocks) (now (a .reception)) (a .blocks) (windows .last .1 .1 .1 .1 .1 .1 .0) (windows .last .1 .1 .1 .1 .1 .1 .1 .0) (windows .ensures) (c .before .if1 .left)) .areas .left-long)
+    (entry .pre .0 .sound, c .before .before .before .before .before .before .before .before .before .before .before .before .before .before .before .before .before .before .before .before .before .before .before .before .before .before .before .before .before .distances-to .ensures, (advance-more (windows .ensures) (c .before .if1 .left)) .areas .left-long)
 
 returns-2 : tie.Need-returns-2
 returns-2 c =
     let entry = c .before .before .before .before .before .before .before .before .before .before .before .before .before .before .before .before .before .before .before .before .before .before .before .before .before .before .before .before .before .before .before .before .before .before .before .before .before .before .before in
-    let a = entry .args in
     let windows = c .before .before .before .before .before .before .before .before .before .before .before .before .before .before .before .read-windows in
-    frame-compared (a .p) (entry .pre .0 .sound) (a .blocks) (now (a .reception)) (windows .last .1 .1 .1 .1 .1 .1 .0) (windows .last .1 .1 .1 .1 .1 .1 .1 .0) (entry .pre .3) (entry .pre .2) (entry .pre .1)
-    (advance-more (a .p) (a .blocks) (now (a .reception)) (a .blocks) (windows .last .1 .1 .1 .1 .1 .1 .0) (windows .last .1 .1 .1 .1 .1 .1 .1 .0) (windows .ensures) (c .before .before .if1 .left)) (c .compare-windows .ensures)
+    frame-compared (entry .pre .0 .sound) (entry .pre .3) (entry .pre .2) (entry .pre .1)
+    (advance-more (windows .ensures) (c .before .before .if1 .left)) (c .compare-windows .ensures)
 
 pub read-spec : {M : Type 1} → statement M
 read-spec =

@@ -1,5 +1,4 @@
 -- `frame::reading::settle`: what window j says of block j.
-use mathlib.Core.List.{[]}
 use Prim.Native.Nat.{_+_, _*_, _≤_}
 use native.Mathlib.Omega.{arith}
 use denote.Ref.{now}
@@ -49,8 +48,7 @@ returns : tie.Need-returns
 returns c =
     let entry = c .before .before .before .before .before .before .before .before .before .before .before .before .before .before .before in
     let a = entry .args in
-    advance-clean (a .p) (entry .pre .0 .sound) (a .blocks) (now (a .reception)) (entry .pre .3) (entry .pre .2) (a .j) (now (a .message)) (now (a .left)) (entry .pre .5) (entry .pre .4) []
-    (part-length (windowLength (a .p)) (a .j * a .p .n) (now (a .left)) (room entry)) _ (c .before .cost .ensures (a .p .q)) (omega (arith, c .if1 .taken, entry .pre .1))
+    advance-clean (entry .pre .0 .sound) (entry .pre .3) (entry .pre .2) (entry .pre .5) (entry .pre .4) (part-length (windowLength (a .p)) (a .j * a .p .n) (now (a .left)) (room entry)) (c .before .cost .ensures (a .p .q)) (omega (arith, c .if1 .taken, entry .pre .1))
 
 sub-find-level : tie.Need-sub-find-level
 sub-find-level c = search needs
@@ -74,18 +72,16 @@ find-level-requires c κs =
 returns-2 : tie.Need-returns-2
 returns-2 c =
     let entry = c .before .before .before .before .before .before .before .before .before .before .before .before .before .before .before .before .before .before .before .before .before .before .before .before .before .before .before .before .before .before .before in
-    let a = entry .args in
-    advance-none (a .p) (entry .pre .0 .sound) (a .blocks) (now (a .reception)) (entry .pre .3) (entry .pre .2) (a .j) (now (a .message)) (now (a .left)) (entry .pre .5) (entry .pre .4) (c .before .before .before .before .before .before .before .before .before .find-level .last .1 .1 .1 .1 .1 .1 .1 .0) (a .j + 1) (now (a .message)) (now (a .left)) (c .before .before .before .before .before .before .before .before .before .find-level .ensures) (c .if2 .taken)
+    advance-none (entry .pre .0 .sound) (entry .pre .3) (entry .pre .2) (entry .pre .5) (entry .pre .4) (c .before .before .before .before .before .before .before .before .before .find-level .ensures) (c .if2 .taken)
 
 add-found-requires : tie.Need-add-found-requires
 add-found-requires c κs =
     let entry = c .before .before .before .before .before .before .before .before .before .before .before .before .before .before .before .before .before .before .before .before .before .before .before .before .before .before .before .before .before .before .before .before .before .before in
-    let a = entry .args in
     let found = c .before .before .before .before .before .before .before .before .before .before .before .before .find-level in
-    let below = levels-below (a .p) _ (found .last .1 .1 .1 .1 .1 .1 .1 .0) (found .ensures) (c .before .before .before .if2 .left) in (
+    let below = levels-below (found .ensures) (c .before .before .before .if2 .left) in (
       entry .pre .0,
       record { below = λ i l. below i },
-      levels-few (a .p) _ (found .last .1 .1 .1 .1 .1 .1 .1 .0) (found .ensures),
+      levels-few (found .ensures),
       omega (arith, entry .pre .0 .sound .room, found .kept .1 .1 .1 .1 .1 .1 .1 .0, entry .pre .6 .information-long),
       entry .pre .4,
       entry .pre .5 .areas,
@@ -94,8 +90,7 @@ add-found-requires c κs =
 returns-3 : tie.Need-returns-3
 returns-3 c =
     let entry = c .before .before .before .before .before .before .before .before .before .before .before .before .before .before .before .before .before .before .before .before .before .before .before .before .before .before .before .before .before .before .before .before .before .before .before .before .before .before .before in
-    let a = entry .args in
-    advance-found (a .p) (entry .pre .0 .sound) (a .blocks) (now (a .reception)) (entry .pre .3) (entry .pre .2) (a .j) (now (a .message)) (now (a .left)) (entry .pre .5) (entry .pre .4) (c .before .before .before .before .before .before .before .before .before .before .before .before .before .before .before .before .before .find-level .last .1 .1 .1 .1 .1 .1 .1 .0) (c .before .before .before .before .add-found .last .1 .1 .1 .1 .1 .1 .1 .0) (c .before .before .before .before .add-found .last .1 .1 .1 .1 .1 .1 .1 .1 .0) (c .before .before .before .before .before .before .before .before .before .before .before .before .before .before .before .before .before .find-level .ensures) (c .before .before .before .before .before .before .before .before .if2 .left) (c .before .before .before .before .add-found .ensures)
+    advance-found (entry .pre .0 .sound) (entry .pre .3) (entry .pre .2) (entry .pre .5) (entry .pre .4) (c .before .before .before .before .before .before .before .before .before .before .before .before .before .before .before .before .before .find-level .ensures) (c .before .before .before .before .before .before .before .before .if2 .left) (c .before .before .before .before .add-found .ensures)
 
 pub settle-spec : {M : Type 1} → statement M
 settle-spec =

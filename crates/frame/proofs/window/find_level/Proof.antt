@@ -1,10 +1,10 @@
 -- `frame::window::find_level`: once the levels from l on have failed, every near sequence is near at level l - 1.
-use mathlib.Core.Path.{_≡_, sym, subst, _∙_}
+use mathlib.Core.Path.{_≡_, refl, sym, subst, _∙_}
 use Prim.Native.Nat.{suc, _+_, _-_, _≤_}
 use native.Mathlib.Omega.{arith}
 use denote.Ref.{now}
+use lib.ListN.{length}
 use Rattle.code.proofs.Settings.{sizes}
-use Rattle.block.specs.Area.{Working}
 use Rattle.block.proofs.Working.{working-kept}
 use Rattle.frame.specs.Window.{Levels}
 use Rattle.frame.proofs.Reached.{Reached, reached-start, reached-next, reached-served, reached-none}
@@ -13,7 +13,8 @@ use Rattle.frame.proofs.window.find_level.Tie as tie
 
 abbrev Inv-loop : tie.InvT-loop
 Inv-loop p products rows window series₀ locator₀ values₀ information₀ blocks₀ series locator values information blocks =
-    (blocks ≤ p .m + 1) × Reached p window blocks × Working p series locator values information
+    (blocks ≤ p .m + 1) × Reached p window blocks
+    × (length series ≡ length series₀) × (length locator ≡ length locator₀) × (length values ≡ length values₀) × (length information ≡ length information₀)
 
 abbrev μ-loop : tie.MeasureT-loop
 μ-loop p products rows window series₀ locator₀ values₀ information₀ blocks₀ series locator values information blocks = blocks
@@ -22,25 +23,16 @@ add-blocks : tie.Need-add-blocks Inv-loop μ-loop
 add-blocks c = let entry = c .before .before .before .before .before .before .before in omega (arith, sizes (entry .args .p) (entry .pre .0 .sound) .memory-most)
 
 loop-holds : tie.Need-loop-holds Inv-loop μ-loop
-loop-holds c = let entry = c .before .before .before .before .before .before .before in (omega arith, reached-start (entry .args .p) (now (entry .args .window)), entry .pre .3)
+loop-holds c = let entry = c .before .before .before .before .before .before .before in (omega arith, reached-start (entry .args .p) (now (entry .args .window)), refl, refl, refl, refl)
 
 sub-l : tie.Need-sub-l Inv-loop μ-loop
 sub-l c = omega arith
 
 try-level-requires : tie.Need-try-level-requires Inv-loop μ-loop
-try-level-requires c κs = let entry = c .before .before .before .before .before .before .before .before .before .before .before .before .before in (entry .pre .0, entry .pre .1, entry .pre .2, omega arith, c .before .before .before .before .before .loop .inv .2)
-
-same-length : tie.Need-same-length Inv-loop μ-loop
-same-length c = c .before .before .before .before .before .before .before .before .before .try-level .kept .1 .1 .1 .1 .1 .0 ∙ (c .before .before .before .before .before .before .before .before .before .before .before .before .before .before .before .loop .inv .2 .series-long ∙ sym (c .before .before .before .before .before .before .before .before .before .before .before .before .before .before .before .before .before .before .before .before .before .before .before .pre .3 .series-long))
-
-same-length-2 : tie.Need-same-length-2 Inv-loop μ-loop
-same-length-2 c = c .before .before .before .before .before .before .before .before .before .try-level .kept .1 .1 .1 .1 .1 .1 .0 ∙ (c .before .before .before .before .before .before .before .before .before .before .before .before .before .before .before .loop .inv .2 .locator-long ∙ sym (c .before .before .before .before .before .before .before .before .before .before .before .before .before .before .before .before .before .before .before .before .before .before .before .pre .3 .locator-long))
-
-same-length-3 : tie.Need-same-length-3 Inv-loop μ-loop
-same-length-3 c = c .before .before .before .before .before .before .before .before .before .try-level .kept .1 .1 .1 .1 .1 .1 .1 .0 ∙ (c .before .before .before .before .before .before .before .before .before .before .before .before .before .before .before .loop .inv .2 .values-long ∙ sym (c .before .before .before .before .before .before .before .before .before .before .before .before .before .before .before .before .before .before .before .before .before .before .before .pre .3 .values-long))
-
-same-length-4 : tie.Need-same-length-4 Inv-loop μ-loop
-same-length-4 c = c .before .before .before .before .before .before .before .before .before .try-level .kept .1 .1 .1 .1 .1 .1 .1 .1 .0 ∙ (c .before .before .before .before .before .before .before .before .before .before .before .before .before .before .before .loop .inv .2 .information-long ∙ sym (c .before .before .before .before .before .before .before .before .before .before .before .before .before .before .before .before .before .before .before .before .before .before .before .pre .3 .information-long))
+try-level-requires c κs =
+    let entry = c .before .before .before .before .before .before .before .before .before .before .before .before .before in
+    let l = c .before .before .before .before .before .loop in
+    (entry .pre .0, entry .pre .1, entry .pre .2, omega arith, working-kept (entry .args .p) (entry .pre .3) (l .inv .2) (l .inv .3) (l .inv .4) (l .inv .5))
 
 returns : tie.Need-returns Inv-loop μ-loop
 returns c =
@@ -48,8 +40,8 @@ returns c =
     let l = c .before .before .before .before .before .before .before .before .before .before .before .before .before .before .before .loop in
     let tried = c .before .before .before .before .before .before .before .before .before .try-level in
     let back : l .blocks ≡ suc (l .blocks - 1) = omega (arith, c .before .before .before .before .before .before .before .before .before .before .before .before .before .before .loop-test .taken) in
-    subst (Levels (entry .args .p) (now (entry .args .window)) (tried .last .1 .1 .1 .1 .1 .1 .1 .1 .0)) (sym back)
-    (reached-served (entry .args .p) (entry .pre .0 .sound) (now (entry .args .window)) (tried .last .1 .1 .1 .1 .1 .1 .1 .1 .0) (l .blocks - 1) (omega arith)
+    subst (Levels (entry .args .p) (now (entry .args .window)) _) (sym back)
+    (reached-served (entry .args .p) (entry .pre .0 .sound) (now (entry .args .window)) _ (l .blocks - 1) (omega arith)
     (tried .ensures) (c .if1 .taken) (subst (Reached (entry .args .p) (now (entry .args .window))) back (l .inv .1)))
 
 loop-less : tie.Need-loop-less Inv-loop μ-loop
@@ -62,22 +54,13 @@ loop-again c =
     let tried = c .before .before .before .before .before .before .before .before .before .try-level in
     let back : l .blocks ≡ suc (l .blocks - 1) = omega (arith, c .before .before .before .before .before .before .before .before .before .before .before .before .before .before .loop-test .taken) in (
       omega arith,
-      reached-next (entry .args .p) (entry .pre .0 .sound) (now (entry .args .window)) (tried .last .1 .1 .1 .1 .1 .1 .1 .1 .0) (l .blocks - 1)
+      reached-next (entry .args .p) (entry .pre .0 .sound) (now (entry .args .window)) _ (l .blocks - 1)
           (tried .ensures) (c .if1 .left) (subst (Reached (entry .args .p) (now (entry .args .window))) back (l .inv .1)),
-      working-kept (entry .args .p) (l .inv .2) (tried .kept .1 .1 .1 .1 .1 .0) (tried .kept .1 .1 .1 .1 .1 .1 .0) (tried .kept .1 .1 .1 .1 .1 .1 .1 .0) (tried .kept .1 .1 .1 .1 .1 .1 .1 .1 .0),
+      tried .kept .1 .1 .1 .1 .1 .0 ∙ l .inv .2,
+      tried .kept .1 .1 .1 .1 .1 .1 .0 ∙ l .inv .3,
+      tried .kept .1 .1 .1 .1 .1 .1 .1 .0 ∙ l .inv .4,
+      tried .kept .1 .1 .1 .1 .1 .1 .1 .1 .0 ∙ l .inv .5,
     )
-
-same-length-5 : tie.Need-same-length-5 Inv-loop μ-loop
-same-length-5 c = c .before .loop .inv .2 .series-long ∙ sym (c .before .before .before .before .before .before .before .before .before .pre .3 .series-long)
-
-same-length-6 : tie.Need-same-length-6 Inv-loop μ-loop
-same-length-6 c = c .before .loop .inv .2 .locator-long ∙ sym (c .before .before .before .before .before .before .before .before .before .pre .3 .locator-long)
-
-same-length-7 : tie.Need-same-length-7 Inv-loop μ-loop
-same-length-7 c = c .before .loop .inv .2 .values-long ∙ sym (c .before .before .before .before .before .before .before .before .before .pre .3 .values-long)
-
-same-length-8 : tie.Need-same-length-8 Inv-loop μ-loop
-same-length-8 c = c .before .loop .inv .2 .information-long ∙ sym (c .before .before .before .before .before .before .before .before .before .pre .3 .information-long)
 
 returns-2 : tie.Need-returns-2 Inv-loop μ-loop
 returns-2 c =
@@ -95,15 +78,9 @@ find-level-spec =
     loop-holds
     sub-l
     try-level-requires
-    same-length
-    same-length-2
-    same-length-3
-    same-length-4
+    (omega arith) (omega arith) (omega arith) (omega arith)
     returns
     loop-less
     loop-again
-    same-length-5
-    same-length-6
-    same-length-7
-    same-length-8
+    (omega arith) (omega arith) (omega arith) (omega arith)
     returns-2)

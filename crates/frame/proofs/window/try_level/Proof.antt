@@ -47,15 +47,14 @@ repair-requires c κs =
 returns : tie.Need-returns
 returns c =
     let entry = c .before .before .before .before .before .before .before .before .before .before .before .before .before .before .before .before .before .before .before .before .before in
-    let a = entry .args in
-    tried-far (a .p) (entry .pre .0 .sound) (now (a .window)) (a .l) (entry .pre .3) (c .before .before .before .before .before .before .before .before .before .repair .last .1 .1 .1 .1 .1 .1 .1 .1 .0) (c .before .before .before .before .before .before .before .before .before .repair .ensures) (c .if1 .taken)
+    tried-far (entry .pre .0 .sound) (entry .pre .3) (c .before .before .before .before .before .before .before .before .before .repair .ensures) (c .if1 .taken)
 
 rebuilt-cost-requires : tie.Need-rebuilt-cost-requires
 rebuilt-cost-requires c κs =
     let entry = c .before .before .before .before .before .before .before .before .before .before .before .before .before .before .before .before .before .before .before .before .before .before in
     let a = entry .args in (
       entry .pre .0,
-      step-below (a .p) (a .l) _ (c .before .before .before .before .before .before .before .before .before .before .repair .last .1 .1 .1 .1 .1 .1 .1 .1 .0) (c .before .before .before .before .before .before .before .before .before .before .repair .ensures) (c .before .if1 .left),
+      step-below (c .before .before .before .before .before .before .before .before .before .before .repair .ensures) (c .before .if1 .left),
       omega (arith, level-fits (a .p) (entry .pre .0 .sound) (a .l) (entry .pre .3), c .before .before .before .before .before .before .before .before .before .before .repair .kept .1 .1 .1 .1 .1 .1 .1 .1 .0, entry .pre .4 .information-long),
       entry .pre .3,
       entry .pre .1,
@@ -67,15 +66,13 @@ distances-to-requires c κs = search needs
 returns-2 : tie.Need-returns-2
 returns-2 c =
     let entry = c .before .before .before .before .before .before .before .before .before .before .before .before .before .before .before .before .before .before .before .before .before .before .before .before .before in
-    let a = entry .args in
-    tried-serves (a .p) (entry .pre .0 .sound) (now (a .window)) (a .l) (entry .pre .3) (c .before .before .before .before .before .before .before .before .before .before .before .before .before .repair .last .1 .1 .1 .1 .1 .1 .1 .1 .0) (c .before .before .before .before .before .before .before .before .before .before .before .before .before .repair .ensures) (c .before .before .before .before .if1 .left)
+    tried-serves (entry .pre .0 .sound) (entry .pre .3) (c .before .before .before .before .before .before .before .before .before .before .before .before .before .repair .ensures) (c .before .before .before .before .if1 .left)
     (omega (arith, c .if2 .taken, c .before .before .rebuilt-cost .ensures, c .before .distances-to .ensures))
 
 returns-3 : tie.Need-returns-3
 returns-3 c =
     let entry = c .before .before .before .before .before .before .before .before .before .before .before .before .before .before .before .before .before .before .before .before .before .before .before .before .before in
-    let a = entry .args in
-    tried-refused (a .p) (entry .pre .0 .sound) (now (a .window)) (a .l) (entry .pre .3) (c .before .before .before .before .before .before .before .before .before .before .before .before .before .repair .last .1 .1 .1 .1 .1 .1 .1 .1 .0) (c .before .before .before .before .before .before .before .before .before .before .before .before .before .repair .ensures) (c .before .before .before .before .if1 .left)
+    tried-refused (entry .pre .0 .sound) (entry .pre .3) (c .before .before .before .before .before .before .before .before .before .before .before .before .before .repair .ensures) (c .before .before .before .before .if1 .left)
     (omega (arith, c .if2 .left, c .before .before .rebuilt-cost .ensures, c .before .distances-to .ensures))
 
 pub try-level-spec : {M : Type 1} → statement M

@@ -28,10 +28,8 @@ no-requires c κs = search needs
 returns : tie.Need-returns
 returns c =
     let entry = c .before .before .before .before .before .before .before .before .before .before .before .before .before .before .before .before .before .before .before .before .before .before .before .before .before .before .before .before .before .before .before .before .before .before .before .before .before in
-    let a = entry .args in
     let read = c .before .before .before .before .before .before .before .before .before .before .before .before .before .before .before .before .before .before .before .before .before .before .read in
-    frame-decoded-none (a .p) (a .blocks) (now (a .reception)) (read .last .1 .1 .1 .1 .1 .0) (read .last .1 .1 .1 .1 .1 .1 .0) (c .no .result) (c .before .before .before .before .before .before .before .clear .last .0) (c .before .before .before .clear2 .last .0)
-    (read .ensures) (c .before .before .before .before .before .before .before .before .before .if1 .taken) (c .no .ensures)
+    frame-decoded-none (read .ensures) (c .before .before .before .before .before .before .before .before .before .if1 .taken) (c .no .ensures)
     (c .before .before .before .before .before .before .before .clear .ensures ∙ ap (λ (t : ℕ). replicate t 0) (read .kept .1 .1 .1 .1 .1 .0 ∙ entry .pre .5))
     (c .before .before .before .clear2 .ensures ∙ ap (λ (t : ℕ). replicate t 0) (read .kept .1 .1 .1 .1 .1 .1 .0 ∙ (entry .pre .6 ∙ entry .pre .3)))
 
@@ -41,12 +39,11 @@ weight-requires c κs = search needs
 restore-requires : tie.Need-restore-requires
 restore-requires c κs =
     let entry = c .before .before .before .before .before .before .before .before .before .before .before .before .before .before .before .before .before .before .before .before .before .before .before .before .before .before .before .before .before .before .before in
-    let a = entry .args in
     let read = c .before .before .before .before .before .before .before .before .before .before .before .before .before .before .before .before .read in (
       entry .pre .0 .sound .good,
       entry .pre .4,
-      left-symbols (a .p) (a .blocks) (now (a .reception)) (read .last .1 .1 .1 .1 .1 .0) (read .last .1 .1 .1 .1 .1 .1 .0) (read .ensures) (c .before .before .before .if1 .left),
-      left-long (a .p) (a .blocks) (now (a .reception)) (read .last .1 .1 .1 .1 .1 .0) (read .last .1 .1 .1 .1 .1 .1 .0) (read .ensures) (c .before .before .before .if1 .left),
+      left-symbols (read .ensures) (c .before .before .before .if1 .left),
+      left-long (read .ensures) (c .before .before .before .if1 .left),
     )
 
 cast-t37 : tie.Need-cast-t37
@@ -66,10 +63,8 @@ cast-t37 c =
 returns-2 : tie.Need-returns-2
 returns-2 c =
     let entry = c .before .before .before .before .before .before .before .before .before .before .before .before .before .before .before .before .before .before .before .before .before .before .before .before .before .before .before .before .before .before .before .before .before .before in
-    let a = entry .args in
     let read = c .before .before .before .before .before .before .before .before .before .before .before .before .before .before .before .before .before .before .before .read in
-    frame-decoded-found (a .p) (a .blocks) (now (a .reception)) (read .last .1 .1 .1 .1 .1 .0) (read .last .1 .1 .1 .1 .1 .1 .0) (entry .pre .0 .sound) (c .before .before .restore .last .1 .1 .0) (c .before .before .before .before .weight .result)
-    (entry .pre .4) (entry .pre .3) (read .ensures) (c .before .before .before .before .before .before .if1 .left) (c .before .before .before .before .weight .ensures) (c .before .before .restore .ensures)
+    frame-decoded-found (entry .pre .0 .sound) (entry .pre .4) (entry .pre .3) (read .ensures) (c .before .before .before .before .before .before .if1 .left) (c .before .before .before .before .weight .ensures) (c .before .before .restore .ensures)
 
 pub decode-lent-spec : {M : Type 1} → statement M
 decode-lent-spec =
