@@ -21,8 +21,8 @@ use Rattle.block.specs.Step.{Information, Step, near, far}
 use Rattle.block.proofs.Spectra.{found-longer}
 use Rattle.block.proofs.CandidateBelow.{length-of-near, read-of-near}
 
-module _ (p : Setting) (S : Sound p) (l : ℕ) (level : l ≤ p .m) (block : List ℕ) (long : length block ≡ p .n) (symbols : Symbols (p .q) block)
-    (series locator former found : List ℕ) (degree point : ℕ) (B : Begun p l block series locator former degree point) where
+module _ {p : Setting} (S : Sound p) {l : ℕ} (level : l ≤ p .m) {block : List ℕ} (long : length block ≡ p .n) (symbols : Symbols (p .q) block)
+    {series locator former : List ℕ} {degree point : ℕ} (B : Begun p l block series locator former degree point) {found : List ℕ} where
   -- A locator of too high a degree: every information is far.
   pub step-long : levelDistance (p .n) (p .k) l ≤ 2 * degree → Step p l block found false
   step-long h =
@@ -31,7 +31,7 @@ module _ (p : Setting) (S : Sound p) (l : ℕ) (level : l ≤ p .m) (block : Lis
       λ close. omega (arith, length-of-near p S l level block long symbols x information series locator former degree close (B .located) (B .spectral)) in
       omega arith)
 
-  module _ (cost : ℕ) (C : Candidate p l block locator degree found) (counted : cost ≡ levelCost p (at block) l (view (p .k) found)) where
+  module _ {cost : ℕ} (C : Candidate p l block locator degree found) (counted : cost ≡ levelCost p (at block) l (view (p .k) found)) where
     pub step-near : cost < levelDistance (p .n) (p .k) l → Step p l block found true
     step-near h = near (C .reads .below) (omega arith)
 

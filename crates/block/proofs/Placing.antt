@@ -23,8 +23,8 @@ module _ (q : ℕ) (good : Good q) where
   unit-below l u (suc i) = subst (λ (t : ℕ). t < q) (sym (u .rest (suc i) (omega arith))) (zero-below q good)
 
   -- Before the first place both locators are 1.
-  pub placed-start : (series l f : List ℕ) → AllBelow q series → at series 0 ≡ 1 → Unit l → Unit f → Placed q series 0 0 0 1 l f
-  placed-start series l f h first u v =
+  pub placed-start : {series l f : List ℕ} → AllBelow q series → at series 0 ≡ 1 → Unit l → Unit f → Placed q series 0 0 0 1 l f
+  placed-start {series} {l} {f} h first u v =
       record {
         locator-below = unit-below l u;
         former-below = unit-below f v;
@@ -32,7 +32,7 @@ module _ (q : ℕ) (good : Good q) where
         located = start-below q (opsOf q) B (at series) (at l) (at f) h (unit-below l u) (unit-below f v) first (u .first) (v .first) (u .rest) (v .rest);
       }
 
-  module _ (series locator former : List ℕ) (s next L p scale rest failure : ℕ) (step : suc s ≡ next) (hs : AllBelow q series) (h : Placed q series s L p scale locator former)
+  module _ {series locator former : List ℕ} {s next L p scale rest failure : ℕ} (step : suc s ≡ next) (hs : AllBelow q series) (h : Placed q series s L p scale locator former)
       (sums : Is q rest (tail (opsOf q) L (at locator) (at series) next)) (fails : Is q failure (opsOf q .add (at series next) rest)) where
     failure-is : failure ≡ opsOf q .add (at series (suc s)) (tail (opsOf q) L (at locator) (at series) (suc s))
     failure-is =
@@ -52,7 +52,7 @@ module _ (q : ℕ) (good : Good q) where
               (h .located) (sym failure-is ∙ e ∙ sym (B .zero-is)));
         }
 
-    module _ (factor : ℕ) (locator' : List ℕ) (multiplied : Is q factor (opsOf q .mul failure scale))
+    module _ {factor : ℕ} {locator' : List ℕ} (multiplied : Is q factor (opsOf q .mul failure scale))
         (M : Multiple q factor (next - p) (p - L + 1) former locator locator') where
       at-place : next - p + p ≡ suc s
       at-place = omega (arith, step, h .located .placed)
@@ -73,9 +73,9 @@ module _ (q : ℕ) (good : Good q) where
                 (h .located) failure-is (multiplied .same) at-place enough (M .subtracted) (omega (arith, step)));
           }
 
-      pub placed-lengthened : (scale' : ℕ) → L + L < next → (failure ≡ 0 → ⊥) → Is q scale' (opsOf q .inv failure)
+      pub placed-lengthened : {scale' : ℕ} → L + L < next → (failure ≡ 0 → ⊥) → Is q scale' (opsOf q .inv failure)
           → Placed q series next (next - L) next scale' locator' locator
-      placed-lengthened scale' l nonzero inverts =
+      placed-lengthened l nonzero inverts =
           record {
             locator-below = M .below;
             former-below = h .locator-below;

@@ -6,10 +6,10 @@ use lib.ListN.{length}
 use Rattle.code.specs.declared.Setting.{Setting}
 use Rattle.block.specs.Area.{Working}
 
-pub working-kept : (p : Setting) {series locator values information series' locator' values' information' : List ℕ} → Working p series locator values information
+pub working-kept : {p : Setting} {series locator values information series' locator' values' information' : List ℕ} → Working p series locator values information
     → length series' ≡ length series → length locator' ≡ length locator → length values' ≡ length values → length information' ≡ length information
     → Working p series' locator' values' information'
-working-kept p W s l v i =
+working-kept W s l v i =
     record {
       series-long = s ∙ W .series-long;
       locator-long = l ∙ W .locator-long;

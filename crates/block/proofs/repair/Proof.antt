@@ -2,6 +2,7 @@
 use mathlib.Core.Path.{_∙_}
 use native.Mathlib.Omega.{arith}
 use Rattle.code.proofs.Settings.{sizes, level-fits}
+use Rattle.block.proofs.Working.{working-kept}
 use Rattle.block.proofs.Answers.{step-long, step-near, step-far}
 use borrow.Author.Needs.{needs}
 use Rattle.block.proofs.repair.Statement.{statement}
@@ -31,22 +32,16 @@ mul-if1 c =
 returns : tie.Need-returns
 returns c =
     let entry = c .before .before .before .before .before .before .before .before .before .before .before .before .before .before .before .before .before .before .before .before .before .before .before in
-    step-long (entry .args .p) (entry .pre .0 .sound) (entry .args .l) (entry .pre .3) _ (entry .pre .1) (entry .pre .2) _ _ _ _ _ _ (c .before .before .before .before .before .before .before .before .before .before .begin .ensures) (omega arith)
+    step-long (entry .pre .0 .sound) (entry .pre .3) (entry .pre .1) (entry .pre .2) (c .before .before .before .before .before .before .before .before .before .before .begin .ensures) (omega arith)
 
 read-candidate-requires : tie.Need-read-candidate-requires
 read-candidate-requires c κs =
     let entry = c .before .before .before .before .before .before .before .before .before .before .before .before .before .before .before .before .before .before .before .before .before .before .before .before .before .before .before in
-    let room = entry .pre .4 in
     let kept = c .before .before .before .before .before .before .before .before .before .before .before .before .before .before .begin .kept in (
       entry .pre .0,
       entry .pre .2,
       entry .pre .3,
-      record {
-        series-long = kept .1 .1 .1 .1 .0 ∙ room .series-long;
-        locator-long = kept .1 .1 .1 .1 .1 .0 ∙ room .locator-long;
-        values-long = kept .1 .1 .1 .1 .1 .1 .0 ∙ room .values-long;
-        information-long = kept .1 .1 .1 .1 .1 .1 .1 .0 ∙ room .information-long;
-      },
+      working-kept (entry .pre .4) (kept .1 .1 .1 .1 .0) (kept .1 .1 .1 .1 .1 .0) (kept .1 .1 .1 .1 .1 .1 .0) (kept .1 .1 .1 .1 .1 .1 .1 .0),
       c .before .before .before .before .before .before .before .before .before .before .before .before .before .before .begin .ensures,
     )
 
@@ -60,12 +55,12 @@ cost-requires c κs =
 returns-2 : tie.Need-returns-2
 returns-2 c =
     let entry = c .before .before .before .before .before .before .before .before .before .before .before .before .before .before .before .before .before .before .before .before .before .before .before .before .before .before .before .before .before .before .before .before .before .before .before .before .before in
-    step-near (entry .args .p) (entry .pre .0 .sound) (entry .args .l) (entry .pre .3) _ (entry .pre .1) (entry .pre .2) _ _ _ _ _ _ (c .before .before .before .before .before .before .before .before .before .before .before .before .before .before .before .before .before .before .before .before .before .before .before .before .begin .ensures) _ (c .before .before .before .before .before .before .before .before .before .read-candidate .ensures) (c .before .cost .ensures) (omega arith)
+    step-near (entry .pre .0 .sound) (entry .pre .3) (entry .pre .1) (entry .pre .2) (c .before .before .before .before .before .before .before .before .before .before .before .before .before .before .before .before .before .before .before .before .before .before .before .before .begin .ensures) (c .before .before .before .before .before .before .before .before .before .read-candidate .ensures) (c .before .cost .ensures) (omega arith)
 
 returns-3 : tie.Need-returns-3
 returns-3 c =
     let entry = c .before .before .before .before .before .before .before .before .before .before .before .before .before .before .before .before .before .before .before .before .before .before .before .before .before .before .before .before .before .before .before .before .before .before .before .before .before in
-    step-far (entry .args .p) (entry .pre .0 .sound) (entry .args .l) (entry .pre .3) _ (entry .pre .1) (entry .pre .2) _ _ _ _ _ _ (c .before .before .before .before .before .before .before .before .before .before .before .before .before .before .before .before .before .before .before .before .before .before .before .before .begin .ensures) _ (c .before .before .before .before .before .before .before .before .before .read-candidate .ensures) (c .before .cost .ensures) (omega arith)
+    step-far (entry .pre .0 .sound) (entry .pre .3) (entry .pre .1) (entry .pre .2) (c .before .before .before .before .before .before .before .before .before .before .before .before .before .before .before .before .before .before .before .before .before .before .before .before .begin .ensures) (c .before .before .before .before .before .before .before .before .before .read-candidate .ensures) (c .before .cost .ensures) (omega arith)
 
 pub repair-spec : {M : Type 1} → statement M
 repair-spec =

@@ -48,12 +48,9 @@ answer-lines-requires c κs = (
   },
 )
 
--- What is left of the text is not empty, so something of it is read.
-left : (c : tie.After-answer-lines Inv-loop μ-loop) → length (take (length (now (c .before .before .before .before .before .before .before .before .before .before .before .before .before .before .before .args .text)) - c .before .before .before .before .before .before .before .before .loop .from) (drop (c .before .before .before .before .before .before .before .before .loop .from) (now (c .before .before .before .before .before .before .before .before .before .before .before .before .before .before .before .args .text)))) ≡ length (now (c .before .before .before .before .before .before .before .before .before .before .before .before .before .before .before .args .text)) - c .before .before .before .before .before .before .before .before .loop .from
-left c =
-    let text = now (c .before .before .before .before .before .before .before .before .before .before .before .before .before .before .before .args .text) in
-    let from = c .before .before .before .before .before .before .before .before .loop .from in
-    length-take-le (length text - from) (drop from text) (omega (arith, length-drop from text))
+-- What is left of the text from a place on.
+left : (text : List ℕ) (from : ℕ) → length (take (length text - from) (drop from text)) ≡ length text - from
+left text from = length-take-le (length text - from) (drop from text) (omega (arith, length-drop from text))
 
 slice-reshare-prefix-write-all : tie.Need-slice-reshare-prefix-write-all Inv-loop μ-loop
 slice-reshare-prefix-write-all c = omega (arith, c .before .before .before .before .before .before .before .before .before .before .answer-lines .ensures .within .waiting)
@@ -68,20 +65,22 @@ returns : tie.Need-returns Inv-loop μ-loop
 returns c = (omega arith, λ begun H e. absurd (subst (λ (b : Bool). T (not b)) e tt))
 
 add-from : tie.Need-add-from Inv-loop μ-loop
-add-from c = omega (arith, left (c .before .before .before .before .before .before .before .before .before .before .before .before .before .before), c .before .before .before .before .before .before .before .before .before .before .before .before .before .before .answer-lines .ensures .within .place)
+add-from c = omega (arith, left (now (c .before .before .before .before .before .before .before .before .before .before .before .before .before .before .before .before .before .before .before .before .before .before .before .before .before .before .before .before .before .args .text)) (c .before .before .before .before .before .before .before .before .before .before .before .before .before .before .before .before .before .before .before .before .before .before .loop .from), c .before .before .before .before .before .before .before .before .before .before .before .before .before .before .answer-lines .ensures .within .place)
 
 loop-less : tie.Need-loop-less Inv-loop μ-loop
 loop-less c =
+    let text = now (c .before .before .before .before .before .before .before .before .before .before .before .before .before .before .before .before .before .before .before .before .before .before .before .before .before .before .before .before .before .args .text) in
+    let l = c .before .before .before .before .before .before .before .before .before .before .before .before .before .before .before .before .before .before .before .before .before .before .loop in
     let done = c .before .before .before .before .before .before .before .before .before .before .before .before .before .before .answer-lines in
-    let read : 0 < done .result .from = done .ensures .on (omega (arith, left (c .before .before .before .before .before .before .before .before .before .before .before .before .before .before))) in
-    omega (arith, read, left (c .before .before .before .before .before .before .before .before .before .before .before .before .before .before), done .ensures .within .place)
+    let read : 0 < done .result .from = done .ensures .on (omega (arith, left text (l .from))) in
+    omega (arith, read, left text (l .from), done .ensures .within .place)
 
 loop-again : tie.Need-loop-again Inv-loop μ-loop
 loop-again c =
     let a = c .before .before .before .before .before .before .before .before .before .before .before .before .before .before .before .before .before .before .before .before .before .before .before .before .before .before .before .before .before .args in
     let l = c .before .before .before .before .before .before .before .before .before .before .before .before .before .before .before .before .before .before .before .before .before .before .loop in
     let done = c .before .before .before .before .before .before .before .before .before .before .before .before .before .before .answer-lines in
-    let few : done .result .from ≤ length (now (a .text)) - l .from = omega (arith, left (c .before .before .before .before .before .before .before .before .before .before .before .before .before .before), done .ensures .within .place) in (
+    let few : done .result .from ≤ length (now (a .text)) - l .from = omega (arith, left (now (a .text)) (l .from), done .ensures .within .place) in (
       omega arith,
       omega arith,
       omega arith,

@@ -27,7 +27,7 @@ returns : tie.Need-returns
 returns c =
     let entry = c .before .before .before .before .before .before .before .before .before in
     let step : suc (entry .args .next - 1) ≡ entry .args .next = omega arith in
-    placed-kept _ (entry .pre .0) _ _ _ _ _ _ _ _ _ _ step (entry .pre .2) (entry .pre .8) (c .before .before .before .tail .ensures) (c .before .add .ensures) (c .if1 .taken)
+    placed-kept _ (entry .pre .0) step (entry .pre .2) (entry .pre .8) (c .before .before .before .tail .ensures) (c .before .add .ensures) (c .if1 .taken)
 
 multiply-requires : tie.Need-multiply-requires
 multiply-requires c κs = search needs
@@ -45,21 +45,21 @@ add-if2 : tie.Need-add-if2
 add-if2 c = search needs
 
 -- The former locator, moved up to the place, lies within the locator.
-room : (c : tie.After-multiply) → c .before .before .before .before .before .before .before .before .before .before .args .next - c .before .before .before .before .before .before .before .before .before .before .args .progress .place + (c .before .before .before .before .before .before .before .before .before .before .args .progress .place - c .before .before .before .before .before .before .before .before .before .before .args .progress .degree + 1) ≤ length (now (c .before .before .before .before .before .before .before .before .before .before .args .series))
-room c = let entry = c .before .before .before .before .before .before .before .before .before .before in omega (arith, entry .pre .8 .located .grown, entry .pre .8 .located .placed, entry .pre .4)
+room : (c : tie.Start) → c .args .next - c .args .progress .place + (c .args .progress .place - c .args .progress .degree + 1) ≤ length (now (c .args .series))
+room c = omega (arith, c .pre .8 .located .grown, c .pre .8 .located .placed, c .pre .4)
 
 subtract-multiple-requires : tie.Need-subtract-multiple-requires
 subtract-multiple-requires c κs =
     let entry = c .before .before .before .before .before .before .before .before .before .before .before .before .before in
-    let inside = room (c .before .before .before) in
+    let inside = room entry in
     (entry .pre .0, entry .pre .1, c .before .before .before .multiply .ensures .below, entry .pre .8 .former-below, omega (arith, inside, entry .pre .6), entry .pre .8 .locator-below, omega (arith, inside, entry .pre .5))
 
 returns-2 : tie.Need-returns-2
 returns-2 c =
     let entry = c .before .before .before .before .before .before .before .before .before .before .before .before .before .before .before .before in
     let step : suc (entry .args .next - 1) ≡ entry .args .next = omega arith in
-    placed-corrected _ (entry .pre .0) _ _ _ _ _ _ _ _ _ _ step (entry .pre .2) (entry .pre .8) (c .before .before .before .before .before .before .before .before .before .before .tail .ensures) (c .before .before .before .before .before .before .before .before .add .ensures)
-    _ _ (c .before .before .before .before .before .before .multiply .ensures) (c .before .before .subtract-multiple .ensures) (c .before .before .before .before .before .if2 .taken)
+    placed-corrected _ (entry .pre .0) step (entry .pre .2) (entry .pre .8) (c .before .before .before .before .before .before .before .before .before .before .tail .ensures) (c .before .before .before .before .before .before .before .before .add .ensures)
+    (c .before .before .before .before .before .before .multiply .ensures) (c .before .before .subtract-multiple .ensures) (c .before .before .before .before .before .if2 .taken)
 
 exchange-requires : tie.Need-exchange-requires
 exchange-requires c κs =
@@ -69,7 +69,7 @@ exchange-requires c κs =
       c .before .before .before .before .multiply .ensures .below,
       entry .pre .8 .locator-below,
       entry .pre .8 .former-below,
-      omega (arith, room (c .before .before .before .before), entry .pre .5),
+      omega (arith, room entry, entry .pre .5),
       omega (arith, entry .pre .5, entry .pre .6),
       omega (arith, entry .pre .5, entry .pre .7),
     )
@@ -85,8 +85,8 @@ returns-3 c =
     let entry = c .before .before .before .before .before .before .before .before .before .before .before .before .before .before .before .before .before .before .before .before .before .before in
     let step : suc (entry .args .next - 1) ≡ entry .args .next = omega arith in
     subst (Placed _ _ _ _ _ _ _) (sym (c .before .before .before .before .before .before .before .exchange .ensures .1))
-    (placed-lengthened _ (entry .pre .0) _ _ _ _ _ _ _ _ _ _ step (entry .pre .2) (entry .pre .8) (c .before .before .before .before .before .before .before .before .before .before .before .before .before .before .before .before .tail .ensures) (c .before .before .before .before .before .before .before .before .before .before .before .before .before .before .add .ensures)
-    _ _ (c .before .before .before .before .before .before .before .before .before .before .before .before .multiply .ensures) (c .before .before .before .before .before .before .before .exchange .ensures .0) _ (c .before .before .before .before .before .before .before .before .before .before .before .if2 .left) (c .before .before .before .before .before .before .before .before .before .before .before .before .before .if1 .left) (c .inverse .ensures))
+    (placed-lengthened _ (entry .pre .0) step (entry .pre .2) (entry .pre .8) (c .before .before .before .before .before .before .before .before .before .before .before .before .before .before .before .before .tail .ensures) (c .before .before .before .before .before .before .before .before .before .before .before .before .before .before .add .ensures)
+    (c .before .before .before .before .before .before .before .before .before .before .before .before .multiply .ensures) (c .before .before .before .before .before .before .before .exchange .ensures .0) (c .before .before .before .before .before .before .before .before .before .before .before .if2 .left) (c .before .before .before .before .before .before .before .before .before .before .before .before .before .if1 .left) (c .inverse .ensures))
 
 pub advance-spec : {M : Type 1} → statement M
 advance-spec =

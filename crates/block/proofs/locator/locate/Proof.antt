@@ -30,7 +30,7 @@ loop-holds c =
       c .before .before .before .before .before .before .unit .kept .0 ∙ p .6,
       c .before .before .unit2 .kept .0 ∙ p .7,
       p .8,
-      placed-start _ (p .0) _ _ _ (p .2) (p .3) (c .before .before .before .before .before .before .unit .ensures) (c .before .before .unit2 .ensures),
+      placed-start _ (p .0) (p .2) (p .3) (c .before .before .before .before .before .before .unit .ensures) (c .before .before .unit2 .ensures),
     )
 
 advance-requires : tie.Need-advance-requires Inv-loop μ-loop

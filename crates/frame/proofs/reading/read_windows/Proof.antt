@@ -34,7 +34,7 @@ turn-requires : tie.Need-turn-requires Inv-loop μ-loop
 turn-requires c κs =
     let entry = c .before .before .before .before .before .before .before .before .before .before .before .before .before .before .before .before .before .before in
     let l = c .before .before .before .before .before .before .before .loop in
-    (entry .pre .0, c .before .before .before .before .before .before .before .before .inverse .ensures .below, entry .pre .1, entry .pre .2, entry .pre .3, c .before .before .before .before .before .before .loop-test .taken, l .inv .1, working-kept (entry .args .p) (entry .pre .5) (l .inv .2) (l .inv .3) (l .inv .4) (l .inv .5))
+    (entry .pre .0, c .before .before .before .before .before .before .before .before .inverse .ensures .below, entry .pre .1, entry .pre .2, entry .pre .3, c .before .before .before .before .before .before .loop-test .taken, l .inv .1, working-kept (entry .pre .5) (l .inv .2) (l .inv .3) (l .inv .4) (l .inv .5))
 
 same-length : tie.Need-same-length Inv-loop μ-loop
 same-length c = omega (arith, c .before .before .before .before .before .before .before .before .before .before .before .before .before .turn .kept, c .before .before .before .before .before .before .before .before .before .before .before .before .before .before .before .before .before .before .before .before .before .loop .inv .1 .areas, c .before .before .before .before .before .before .before .before .before .before .before .before .before .before .before .before .before .before .before .before .before .before .before .before .before .before .before .before .before .before .before .before .pre .4 .areas)

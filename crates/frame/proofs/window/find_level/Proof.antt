@@ -32,7 +32,7 @@ try-level-requires : tie.Need-try-level-requires Inv-loop μ-loop
 try-level-requires c κs =
     let entry = c .before .before .before .before .before .before .before .before .before .before .before .before .before in
     let l = c .before .before .before .before .before .loop in
-    (entry .pre .0, entry .pre .1, entry .pre .2, omega arith, working-kept (entry .args .p) (entry .pre .3) (l .inv .2) (l .inv .3) (l .inv .4) (l .inv .5))
+    (entry .pre .0, entry .pre .1, entry .pre .2, omega arith, working-kept (entry .pre .3) (l .inv .2) (l .inv .3) (l .inv .4) (l .inv .5))
 
 returns : tie.Need-returns Inv-loop μ-loop
 returns c =

@@ -13,16 +13,16 @@ use Rattle.frame.proofs.window.try_level.Statement.{statement}
 use Rattle.frame.proofs.window.try_level.Tie as tie
 
 -- Block l lies within the window.
-inside : (c : tie.After-shared-slice-known) → c .before .args .l * c .before .args .p .n + c .before .args .p .n ≤ length (now (c .before .args .window))
+inside : (c : tie.Start) → c .args .l * c .args .p .n + c .args .p .n ≤ length (now (c .args .window))
 inside c =
-    let top : c .before .args .l + 1 ≤ c .before .args .p .m + 1 = omega (arith, c .before .pre .3) in
-    omega (arith, mul-le-mul-right (c .before .args .p .n) top, c .before .pre .1)
+    let top : c .args .l + 1 ≤ c .args .p .m + 1 = omega (arith, c .pre .3) in
+    omega (arith, mul-le-mul-right (c .args .p .n) top, c .pre .1)
 
 mul-start : tie.Need-mul-start
-mul-start c = omega (arith, inside (c .before .before .before .before .before))
+mul-start c = omega (arith, inside (c .before .before .before .before .before .before))
 
 add-end : tie.Need-add-end
-add-end c = omega (arith, inside (c .before .before .before .before .before))
+add-end c = omega (arith, inside (c .before .before .before .before .before .before))
 
 sub-repair : tie.Need-sub-repair
 sub-repair c = search needs
@@ -31,14 +31,14 @@ part-repair-start : tie.Need-part-repair-start
 part-repair-start c = search needs
 
 part-repair-end : tie.Need-part-repair-end
-part-repair-end c = inside (c .before .before .before .before .before)
+part-repair-end c = inside (c .before .before .before .before .before .before)
 
 repair-requires : tie.Need-repair-requires
 repair-requires c κs =
     let entry = c .before .before .before .before .before .before .before .before .before .before .before in
     let a = entry .args in (
       entry .pre .0,
-      part-length (a .p .n) (a .l * a .p .n) (now (a .window)) (inside (c .before .before .before .before .before .before .before .before .before .before)),
+      part-length (a .p .n) (a .l * a .p .n) (now (a .window)) (inside entry),
       symbols-part (a .p .q) (a .l * a .p .n) (a .l * a .p .n + a .p .n) (now (a .window)) (entry .pre .2),
       entry .pre .3,
       entry .pre .4,

@@ -2,7 +2,6 @@
 use mathlib.Core.Path.{ap, _∙_}
 use Prim.Native.Nat.{ℕ}
 use native.Mathlib.Omega.{arith}
-use denote.Ref.{now}
 use lib.ListN.{length, replicate}
 use Rattle.code.proofs.Settings.{sizes}
 use Rattle.block.specs.Area.{at}
