@@ -42,7 +42,6 @@ positive B = omega (arith, B .one-below)
 -- The number α has order n: α^0 .. α^(n-1) are distinct numbers below q, and α^n = 1; n times 1 is -1.
 pub record OrderBelow (q : ℕ) (o : Ops ℕ) (n α : ℕ) : Type 0 where
   pub root-below : α < q
-  pub power-below : (i : ℕ) → power o α i < q
   pub distinct : (i j : ℕ) → i < n → j < n → power o α i ≡ power o α j → i ≡ j
   pub full : power o α n ≡ 1
   pub ones : sum o n (λ i. 1) ≡ o .neg 1

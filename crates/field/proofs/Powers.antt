@@ -305,7 +305,6 @@ module _ {q n : ℕ} {add : ℕ → ℕ → ℕ} {neg double : ℕ → ℕ} {pow
     order-with ones =
         record {
           root-below = double-below 1 one-below;
-          power-below = λ i. subst (λ (x : ℕ). x < q) (sym (power-is i)) (alpha-below i);
           distinct =
               λ i j hi hj e.
               sym (mod-eq-of-lt hi) ∙ sym (exponent-of i) ∙ ap (at exponents) (sym (power-is i) ∙ e ∙ power-is j)
