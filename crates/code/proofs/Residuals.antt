@@ -45,9 +45,9 @@ module _ (p : Setting) (S : Sound p) where
   sub-below a b la lb = laws p S .add-below a (opsOf (p .q) .neg b) la (laws p S .neg-below b lb)
 
   -- Adding u × x takes v × x out, where v + u = 0.
-  pub add-opposite : (a v u x : ℕ) → a < p .q → v < p .q → u < p .q → x < p .q → opsOf (p .q) .add v u ≡ 0
+  pub add-opposite : (a v u x : ℕ) → v < p .q → u < p .q → x < p .q → opsOf (p .q) .add v u ≡ 0
       → opsOf (p .q) .add a (opsOf (p .q) .mul u x) ≡ sub (opsOf (p .q)) a (opsOf (p .q) .mul v x)
-  add-opposite a v u x la lv lu lx e =
+  add-opposite a v u x lv lu lx e =
       let K = fieldOf p S in
       let opposite : (u, lu) ≡ K .ops .neg (v, lv) = neg-unique K (v, lv) (u, lu) (number-injective _ _ (keeps p S .on-add (v, lv) (u, lu) ∙ e ∙ sym (number-zero p S))) in
       ap (opsOf (p .q) .add a) (sym (keeps p S .on-mul (u, lu) (x, lx)) ∙ ap (λ (t : Element (p .q)). number (K .ops .mul t (x, lx))) opposite ∙ ap number (neg-mul K (v, lv) (x, lx))

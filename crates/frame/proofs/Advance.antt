@@ -41,7 +41,7 @@ module _ {p : Setting} (S : Sound p) {T : ℕ} {reception : List ℕ} (R : Symbo
   advance-clean long-window counted few =
       advanced (progress-found p S T reception R long j message left P (λ r. 0) message left l
       (λ y Y near r u. window-clean p S window long-window (omega arith) y Y (subst (λ (w : List ℕ). Near p w (p .m) y) (sym same-window) near) r u)
-      (added-zero p T j (λ r. 0) message left S (P .areas) (λ r. refl)))
+      (added-zero S (P .areas) (λ r. refl)))
 
   -- What was found went into the message.
   pub advance-found : {found : ℕ} {information message' left' : List ℕ} → Levels p window information found → (found ≡ 0 → ⊥)

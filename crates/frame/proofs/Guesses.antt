@@ -1,5 +1,5 @@
 -- Changes of the guessed message, and what is left after them.
--- Holds: `windowAt`, `window-room`, `symbol-room`, `block-room`, `blocks-few`; `revised-lengths`, `revised-none`, `revised-then`; `adjusted`; `Adding` (the first r symbols of a block were added) and its steps; `added-past`, `added-zero`, `added-then`.
+-- Holds: `windowAt`, `window-room`, `symbol-room`, `block-room`, `blocks-few`; `revised-none`, `revised-then`; `adjusted`; `Adding` (the first r symbols of a block were added) and its steps; `added-past`, `added-zero`, `added-then`.
 use mathlib.Core.Path.{_≡_, refl, sym, ap, ap₂, subst, _∙_}
 use mathlib.Core.Bool.{Bool, true, false}
 use mathlib.Core.List.{List}
@@ -57,19 +57,14 @@ blocks-few p S T message left A =
     let same : T + p .m ≤ T + p .m = omega arith in
     omega (arith, mul-le-mul same (block-positive p S), A .left-long)
 
-module _ (p : Setting) (T : ℕ) where
-  -- Areas of one frame have the same lengths.
-  pub revised-lengths : (message left message' left' : List ℕ) → Areas p T message left → Areas p T message' left'
-      → (length message' ≡ length message) × (length left' ≡ length left)
-  revised-lengths message left message' left' A B = (B .message-long ∙ sym (A .message-long), B .left-long ∙ sym (A .left-long))
-
-  pub revised-none : (i : ℕ) (message left : List ℕ) → Areas p T message left → Revised p T i message left message left
-  revised-none i message left A = record { areas = A; before = λ a l. refl; residual = λ w W R. R }
+module _ {p : Setting} {T : ℕ} where
+  pub revised-none : {i : ℕ} {message left : List ℕ} → Areas p T message left → Revised p T i message left message left
+  revised-none A = record { areas = A; before = λ a l. refl; residual = λ w W R. R }
 
   -- Changes from block i on, and then from a later block on.
-  pub revised-then : (i j : ℕ) (message left message' left' message'' left'' : List ℕ) → i ≤ j
-      → Revised p T i message left message' left' → Revised p T j message' left' message'' left'' → Revised p T i message left message'' left''
-  revised-then i j message left message' left' message'' left'' low A B =
+  pub revised-then : {i j : ℕ} {message left message' left' message'' left'' : List ℕ}
+      → Revised p T i message left message' left' → Revised p T j message' left' message'' left'' → i ≤ j → Revised p T i message left message'' left''
+  revised-then A B low =
       record {
         areas = B .areas;
         before = λ a l. B .before a (omega (arith, mul-le-mul-right (p .k) low)) ∙ A .before a l;
@@ -148,7 +143,7 @@ module _ (p : Setting) (S : Sound p) (T j r v : ℕ) (message left : List ℕ) (
           ∙ put-inside (j * p .n) (windowLength p) left window' left-room window-long ((s - j) * p .n + i) (digits-lt top e)
           ∙ L .inside (s - j) i top e
           ∙ ap (plusRow p r u (s - j) i) (window-view (p .n) (p .m) left j (s - j) i b e ∙ ap (λ (t : ℕ). view (p .n) left t i) back)
-          ∙ add-opposite p S (view (p .n) left s i) v u (rowSymbol (codeOf p) (s - j) r i) (symbol-below (p .q) left (A .left-symbols) (positive p S) (s * p .n + i)) lv lu
+          ∙ add-opposite p S (view (p .n) left s i) v u (rowSymbol (codeOf p) (s - j) r i) lv lu
           (rowSymbol-below p S (s - j) r i) opposite
           ∙ ap (sub (opsOf (p .q)) (view (p .n) left s i)) (sym (timesG-only p S r v (s - j) i lr lv))
           ∙ sym (ap₂ (λ (c d : Bool). pick c (pick d (sub (opsOf (p .q)) (view (p .n) left s i) (timesG (codeOf p) x (s - j) i)) (view (p .n) left s i)) (view (p .n) left s i))
@@ -203,14 +198,14 @@ pub record Adding (p : Setting) (T j : ℕ) (x : ℕ → ℕ) (r : ℕ) (message
   pub symbol : (a : ℕ) → a < r → getD message' (j * p .k + a) 0 ≡ opsOf (p .q) .add (getD message (j * p .k + a) 0) (x a)
   pub rest : (a : ℕ) → j * p .k + r ≤ a → getD message' a 0 ≡ getD message a 0
 
-module _ (p : Setting) (T j : ℕ) (x : ℕ → ℕ) (message left : List ℕ) where
+module _ {p : Setting} {T j : ℕ} {x : ℕ → ℕ} {message left : List ℕ} where
   pub adding-none : Areas p T message left → Adding p T j x 0 message left message left
-  adding-none A = record { revised = revised-none p T j message left A; symbol = λ a l. absurd (omega arith); rest = λ a l. refl }
+  adding-none A = record { revised = revised-none A; symbol = λ a l. absurd (omega arith); rest = λ a l. refl }
 
   -- A zero symbol changes nothing.
-  pub adding-zero : (S : Sound p) (r : ℕ) (message' left' : List ℕ) → Areas p T message left → x r ≡ 0
-      → Adding p T j x r message left message' left' → Adding p T j x (r + 1) message left message' left'
-  adding-zero S r message' left' A e D =
+  pub adding-zero : (S : Sound p) {r : ℕ} {message' left' : List ℕ} → Areas p T message left
+      → Adding p T j x r message left message' left' → x r ≡ 0 → Adding p T j x (r + 1) message left message' left'
+  adding-zero S {r} {message'} A D e =
       record { revised = D .revised; symbol = λ a l. at a (ℕ-discrete a r) l; rest = λ a l. D .rest a (omega arith) }
     where
       at : (a : ℕ) → Dec (a ≡ r) → a < r + 1 → getD message' (j * p .k + a) 0 ≡ opsOf (p .q) .add (getD message (j * p .k + a) 0) (x a)
@@ -221,12 +216,12 @@ module _ (p : Setting) (T j : ℕ) (x : ℕ → ℕ) (message left : List ℕ) w
           ∙ ap (opsOf (p .q) .add (getD message (j * p .k + a) 0)) (sym (ap x s ∙ e))
       at a (no d) l = D .symbol a (omega arith)
 
-  pub adding-more : (r v : ℕ) (message' left' message'' left'' : List ℕ) → j < T → r < p .k → v ≡ x r
-      → Adding p T j x r message left message' left' → Adjusted p T j r v message' left' message'' left''
+  pub adding-more : {r v : ℕ} {message' left' message'' left'' : List ℕ} → j < T → r < p .k
+      → Adding p T j x r message left message' left' → Adjusted p T j r v message' left' message'' left'' → v ≡ x r
       → Adding p T j x (r + 1) message left message'' left''
-  adding-more r v message' left' message'' left'' lj lr e D B =
+  adding-more {r} {message' = message'} {left' = left'} {message'' = message''} lj lr D B e =
       record {
-        revised = revised-then p T j j message left message' left' message'' left'' (omega arith) (D .revised) (B .revised);
+        revised = revised-then (D .revised) (B .revised) (omega arith);
         symbol = λ a l. at a (ℕ-discrete a r) l;
         rest = λ a l. elsewhere a (omega arith) ∙ D .rest a (omega arith);
       }
@@ -244,27 +239,27 @@ module _ (p : Setting) (T j : ℕ) (x : ℕ → ℕ) (message left : List ℕ) w
           ∙ ap (λ (t : ℕ). opsOf (p .q) .add (getD message (j * p .k + t) 0) (x t)) (sym s)
       at a (no d) l = elsewhere (j * p .k + a) (λ e. d (omega arith)) ∙ D .symbol a (omega arith)
 
-  pub adding-all : (r : ℕ) (message' left' : List ℕ) → p .k ≤ r → Adding p T j x r message left message' left' → Added p T j x message left message' left'
-  adding-all r message' left' all D = record { revised = D .revised; symbol = λ a l u. D .symbol a (omega arith) }
+  pub adding-all : {r : ℕ} {message' left' : List ℕ} → Adding p T j x r message left message' left' → p .k ≤ r → Added p T j x message left message' left'
+  adding-all D all = record { revised = D .revised; symbol = λ a l u. D .symbol a (omega arith) }
 
   -- There is no block j.
   pub added-past : Areas p T message left → T ≤ j → Added p T j x message left message left
-  added-past A past = record { revised = revised-none p T j message left A; symbol = λ a l u. absurd (omega arith) }
+  added-past A past = record { revised = revised-none A; symbol = λ a l u. absurd (omega arith) }
 
   -- A zero block changes nothing.
   pub added-zero : Sound p → Areas p T message left → ((r : ℕ) → x r ≡ 0) → Added p T j x message left message left
   added-zero S A zeros =
       record {
-        revised = revised-none p T j message left A;
+        revised = revised-none A;
         symbol = λ r l u. sym (ap (opsOf (p .q) .add (getD message (j * p .k + r) 0)) (zeros r)
             ∙ laws p S .plus-zero (getD message (j * p .k + r) 0) (symbol-below (p .q) message (A .message-symbols) (positive p S) (j * p .k + r)));
       }
 
   -- Later changes leave block j as it is.
-  pub added-then : (i : ℕ) (message' left' message'' left'' : List ℕ) → j + 1 ≤ i
-      → Added p T j x message left message' left' → Revised p T i message' left' message'' left'' → Added p T j x message left message'' left''
-  added-then i message' left' message'' left'' later D B =
+  pub added-then : {i : ℕ} {message' left' message'' left'' : List ℕ}
+      → Added p T j x message left message' left' → Revised p T i message' left' message'' left'' → j + 1 ≤ i → Added p T j x message left message'' left''
+  added-then D B later =
       record {
-        revised = revised-then p T j i message left message' left' message'' left'' (omega arith) (D .revised) B;
+        revised = revised-then (D .revised) B (omega arith);
         symbol = λ a l u. B .before (j * p .k + a) (omega (arith, mul-le-mul-right (p .k) later)) ∙ D .symbol a l u;
       }

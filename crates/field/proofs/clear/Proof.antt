@@ -37,9 +37,6 @@ loop-again c =
       ap (λ (t : List ℕ). set t (l .i) 0) (l .inv .2) ∙ fill-more (l .i) 0 (now (c .before .before .args .area)) (omega arith),
     )
 
-same-length : tie.Need-same-length Inv-loop μ-loop
-same-length c = c .before .loop .inv .1
-
 returns : tie.Need-returns Inv-loop μ-loop
 returns c =
     let area = now (c .before .before .args .area) in
@@ -59,5 +56,5 @@ clear-spec =
     add-i
     loop-less
     loop-again
-    same-length
+    (omega arith)
     returns)

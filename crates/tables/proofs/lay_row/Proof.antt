@@ -45,9 +45,6 @@ loop-again c =
           ∙ ap (paste (now (a .area)) (a .at) (now (a .row))) (sym (add-one (l .i)))),
     )
 
-same-length : tie.Need-same-length Inv-loop μ-loop
-same-length c = c .before .loop .inv .1
-
 returns : tie.Need-returns Inv-loop μ-loop
 returns c =
     let full : c .before .loop .i ≡ length (now (c .before .before .args .row)) = omega arith in
@@ -66,5 +63,5 @@ lay-row-spec =
     add-i
     loop-less
     loop-again
-    same-length
+    (omega arith)
     returns)

@@ -56,9 +56,6 @@ loop-again c =
       filled-more 7 2 table (l .a) (l .area) _ (l .inv .2) room (omega arith) (c .before .before .lay-row .ensures),
     )
 
-same-length : tie.Need-same-length Inv-loop μ-loop
-same-length c = c .before .loop .inv .1
-
 returns : tie.Need-returns Inv-loop μ-loop
 returns c =
     let full : c .before .loop .a ≡ 6 = omega arith in
@@ -82,5 +79,5 @@ rows-2-spec =
     add-a
     loop-less
     loop-again
-    same-length
+    (omega arith)
     returns)

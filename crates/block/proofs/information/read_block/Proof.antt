@@ -54,9 +54,6 @@ loop-again c =
     let point = back-more _ (p .0 .sound .good) (l .j) _ _ _ (p .5) (l .inv .2) (c .before .before .multiply .ensures) in
     (omega arith, simp length-set (l .inv .1), point, block-more _ (p .0 .sound) _ (p .1) _ (l .j) _ _ _ _ (omega (arith, l .inv .1, p .4)) (omega arith) (l .inv .3) point (c .symbol .ensures))
 
-same-length : tie.Need-same-length Inv-loop μ-loop
-same-length c = c .before .loop .inv .1
-
 returns : tie.Need-returns Inv-loop μ-loop
 returns c =
     let l = c .before .loop in
@@ -78,5 +75,5 @@ read-block-spec =
     slice-write-information
     loop-less
     loop-again
-    same-length
+    (omega arith)
     returns)

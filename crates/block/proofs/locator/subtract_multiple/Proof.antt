@@ -49,9 +49,6 @@ loop-again c =
     let l = c .before .before .before .before .before .loop in
     (omega arith, simp length-set (l .inv .1), multiple-more _ _ _ _ _ (l .i) (l .target) _ _ (l .inv .2) (omega (arith, l .inv .1)) (c .before .before .multiply .ensures) (c .subtract .ensures))
 
-same-length : tie.Need-same-length Inv-loop μ-loop
-same-length c = c .before .loop .inv .1
-
 returns : tie.Need-returns Inv-loop μ-loop
 returns c =
     let l = c .before .loop in
@@ -74,5 +71,5 @@ subtract-multiple-spec =
     add-i
     loop-less
     loop-again
-    same-length
+    (omega arith)
     returns)

@@ -42,9 +42,6 @@ loop-again c =
     let l = c .before .before .before .loop in
     (omega arith, simp length-set (l .inv .1), point-more _ _ _ _ (l .inv .2) (c .multiply .ensures), spectrum-more _ _ _ _ _ _ (l .inv .3) (omega (arith, p .4, l .inv .1)) (l .inv .2) (c .before .value .ensures))
 
-same-length : tie.Need-same-length Inv-loop μ-loop
-same-length c = c .before .loop .inv .1
-
 returns : tie.Need-returns Inv-loop μ-loop
 returns c =
     let l = c .before .loop in
@@ -64,5 +61,5 @@ add-values-spec =
     slice-write-series
     loop-less
     loop-again
-    same-length
+    (omega arith)
     returns)

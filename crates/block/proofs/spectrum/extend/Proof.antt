@@ -53,12 +53,6 @@ loop-again c =
     let l = c .before .before .before .before .before .before .loop in
     (omega arith, simp length-set (l .inv .1), simp length-set (l .inv .2), continued-more _ _ _ _ _ _ _ _ _ _ _ (l .inv .3) (omega (arith, l .inv .1)) (omega (arith, l .inv .2)) (c .before .before .before .tail .ensures) (c .add .ensures) (c .before .before .negate .ensures))
 
-same-length : tie.Need-same-length Inv-loop μ-loop
-same-length c = c .before .loop .inv .1
-
-same-length-2 : tie.Need-same-length-2 Inv-loop μ-loop
-same-length-2 c = c .before .loop .inv .2
-
 returns : tie.Need-returns Inv-loop μ-loop
 returns c =
     let l = c .before .loop in
@@ -83,6 +77,5 @@ extend-spec =
     add-u
     loop-less
     loop-again
-    same-length
-    same-length-2
+    (omega arith) (omega arith)
     returns)

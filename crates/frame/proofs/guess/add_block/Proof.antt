@@ -7,7 +7,7 @@ use lib.ListN.{getD}
 use Rattle.field.proofs.Symbols.{symbol-below}
 use Rattle.code.proofs.Numbers.{positive}
 use Rattle.code.proofs.Settings.{sizes}
-use Rattle.frame.proofs.Guesses.{Adding, adding-none, adding-zero, adding-more, adding-all, added-past, revised-lengths}
+use Rattle.frame.proofs.Guesses.{Adding, adding-none, adding-zero, adding-more, adding-all, added-past}
 use Rattle.frame.proofs.guess.add_block.Statement.{statement}
 use Rattle.frame.proofs.guess.add_block.Tie as tie
 
@@ -21,14 +21,12 @@ abbrev μ-loop : tie.MeasureT-loop
 returns : tie.Need-returns Inv-loop μ-loop
 returns c =
     let entry = c .before .before .before .before .before in
-    let a = entry .args in
-    added-past (a .p) (a .blocks) (a .i) (λ r. getD (now (a .information)) (a .from + r) 0) (now (a .message)) (now (a .left)) (entry .pre .3) (c .if1 .taken)
+    added-past (entry .pre .3) (c .if1 .taken)
 
 loop-holds : tie.Need-loop-holds Inv-loop μ-loop
 loop-holds c =
     let entry = c .before .before .before .before .before in
-    let a = entry .args in
-    (omega arith, adding-none (a .p) (a .blocks) (a .i) (λ r. getD (now (a .information)) (a .from + r) 0) (now (a .message)) (now (a .left)) (entry .pre .3))
+    (omega arith, adding-none (entry .pre .3))
 
 add-v : tie.Need-add-v Inv-loop μ-loop
 add-v c = omega (arith, c .before .before .before .before .before .before .before .pre .2)
@@ -45,11 +43,9 @@ loop-less c = omega arith
 loop-again : tie.Need-loop-again Inv-loop μ-loop
 loop-again c =
     let entry = c .before .before .before .before .before .before .before .before .before in
-    let a = entry .args in
     let l = c .before .before .before .loop in (
       omega arith,
-      adding-zero (a .p) (a .blocks) (a .i) (λ r. getD (now (a .information)) (a .from + r) 0) (now (a .message)) (now (a .left)) (entry .pre .0 .sound) (l .next) (l .message) (l .left)
-          (entry .pre .3) (c .if2 .taken) (l .inv .1),
+      adding-zero (entry .pre .0 .sound) (entry .pre .3) (l .inv .1) (c .if2 .taken),
     )
 
 adjust-requires : tie.Need-adjust-requires Inv-loop μ-loop
@@ -74,27 +70,13 @@ loop-again-2 c =
     let l = c .before .before .before .before .before .before .before .before .before .before .loop in
     let some : a .i < a .blocks = omega (arith, c .before .before .before .before .before .before .before .before .before .before .before .if1 .left) in (
       omega arith,
-      adding-more (a .p) (a .blocks) (a .i) (λ r. getD (now (a .information)) (a .from + r) 0) (now (a .message)) (now (a .left)) (l .next)
-          (getD (now (a .information)) (a .from + l .next) 0) (l .message) (l .left) (c .before .before .before .before .adjust .last .1 .1 .1 .1 .1 .1 .1 .0) (c .before .before .before .before .adjust .last .1 .1 .1 .1 .1 .1 .1 .1 .0)
-          some (c .before .before .before .before .before .before .before .before .before .loop-test .taken) refl (l .inv .1) (c .before .before .before .before .adjust .ensures),
+      adding-more some (c .before .before .before .before .before .before .before .before .before .loop-test .taken) (l .inv .1) (c .before .before .before .before .adjust .ensures) refl,
     )
-
-same-length : tie.Need-same-length Inv-loop μ-loop
-same-length c =
-    let entry = c .before .before .before .before .before .before .before in
-    revised-lengths (entry .args .p) (entry .args .blocks) (now (entry .args .message)) (now (entry .args .left)) (c .before .loop .message) (c .before .loop .left) (entry .pre .3) (c .before .loop .inv .1 .revised .areas) .0
-
-same-length-2 : tie.Need-same-length-2 Inv-loop μ-loop
-same-length-2 c =
-    let entry = c .before .before .before .before .before .before .before in
-    revised-lengths (entry .args .p) (entry .args .blocks) (now (entry .args .message)) (now (entry .args .left)) (c .before .loop .message) (c .before .loop .left) (entry .pre .3) (c .before .loop .inv .1 .revised .areas) .1
 
 returns-2 : tie.Need-returns-2 Inv-loop μ-loop
 returns-2 c =
-    let entry = c .before .before .before .before .before .before .before in
-    let a = entry .args in
     let l = c .before .loop in
-    adding-all (a .p) (a .blocks) (a .i) (λ r. getD (now (a .information)) (a .from + r) 0) (now (a .message)) (now (a .left)) (l .next) (l .message) (l .left) (omega arith) (l .inv .1)
+    adding-all (l .inv .1) (omega arith)
 
 pub add-block-spec : {M : Type 1} → statement M
 add-block-spec =
@@ -112,6 +94,5 @@ add-block-spec =
     adjust-requires
     loop-less-2
     loop-again-2
-    same-length
-    same-length-2
+    (omega arith) (omega arith)
     returns-2)

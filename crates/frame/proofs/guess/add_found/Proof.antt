@@ -7,7 +7,7 @@ use denote.Ref.{now}
 use lib.ListN.{getD}
 use Rattle.code.proofs.Settings.{sizes}
 use Rattle.frame.specs.Frame.{Revised, Added}
-use Rattle.frame.proofs.Guesses.{revised-none, revised-then, revised-lengths, added-then, blocks-few}
+use Rattle.frame.proofs.Guesses.{revised-none, revised-then, added-then, blocks-few}
 use Rattle.frame.proofs.guess.add_found.Statement.{statement}
 use Rattle.frame.proofs.guess.add_found.Tie as tie
 
@@ -25,8 +25,7 @@ add-block-requires c κs =
 
 loop-holds : tie.Need-loop-holds Inv-loop μ-loop
 loop-holds c =
-    let a = c .before .before .before .before .before .before .before .before .before .before .before .args in
-    (omega arith, revised-none (a .p) (a .blocks) (a .j + 1) (c .before .before .before .before .add-block .last .1 .1 .1 .1 .1 .1 .1 .0) (c .before .before .before .before .add-block .last .1 .1 .1 .1 .1 .1 .1 .1 .0) (c .before .before .before .before .add-block .ensures .revised .areas))
+    (omega arith, revised-none (c .before .before .before .before .add-block .ensures .revised .areas))
 
 add-add-block : tie.Need-add-add-block Inv-loop μ-loop
 add-add-block c =
@@ -54,31 +53,16 @@ loop-less c = omega arith
 
 loop-again : tie.Need-loop-again Inv-loop μ-loop
 loop-again c =
-    let a = c .before .before .before .before .before .before .before .before .before .before .before .before .before .before .before .before .before .before .before .before .args in
     let l = c .before .before .before .before .before .before .before .before .loop in (
       omega arith,
-      revised-then (a .p) (a .blocks) (a .j + 1) (a .j + l .a) (c .before .before .before .before .before .before .before .before .before .before .before .before .before .add-block .last .1 .1 .1 .1 .1 .1 .1 .0) (c .before .before .before .before .before .before .before .before .before .before .before .before .before .add-block .last .1 .1 .1 .1 .1 .1 .1 .1 .0) (l .message) (l .left) (c .before .before .before .before .add-block2 .last .1 .1 .1 .1 .1 .1 .1 .0) (c .before .before .before .before .add-block2 .last .1 .1 .1 .1 .1 .1 .1 .1 .0)
-          (omega arith) (l .inv .1) (c .before .before .before .before .add-block2 .ensures .revised),
+      revised-then (l .inv .1) (c .before .before .before .before .add-block2 .ensures .revised) (omega arith),
     )
-
-same-length : tie.Need-same-length Inv-loop μ-loop
-same-length c =
-    let entry = c .before .before .before .before .before .before .before .before .before .before .before .before .before in
-    revised-lengths (entry .args .p) (entry .args .blocks) (now (entry .args .message)) (now (entry .args .left)) (c .before .loop .message) (c .before .loop .left) (entry .pre .5) (c .before .loop .inv .1 .areas) .0
-
-same-length-2 : tie.Need-same-length-2 Inv-loop μ-loop
-same-length-2 c =
-    let entry = c .before .before .before .before .before .before .before .before .before .before .before .before .before in
-    revised-lengths (entry .args .p) (entry .args .blocks) (now (entry .args .message)) (now (entry .args .left)) (c .before .loop .message) (c .before .loop .left) (entry .pre .5) (c .before .loop .inv .1 .areas) .1
 
 returns : tie.Need-returns Inv-loop μ-loop
 returns c =
     let a = c .before .before .before .before .before .before .before .before .before .before .before .before .before .args in
     let from-start = fun-ext (λ (r : ℕ). ap (λ (t : ℕ). getD (now (a .information)) t 0) (zero-add r)) in
-    added-then (a .p) (a .blocks) (a .j) (λ r. getD (now (a .information)) r 0) (now (a .message)) (now (a .left)) (a .j + 1)
-    (c .before .before .before .before .before .before .add-block .last .1 .1 .1 .1 .1 .1 .1 .0) (c .before .before .before .before .before .before .add-block .last .1 .1 .1 .1 .1 .1 .1 .1 .0) (c .before .loop .message) (c .before .loop .left) (omega arith)
-    (subst (λ (x : ℕ → ℕ). Added (a .p) (a .blocks) (a .j) x (now (a .message)) (now (a .left)) (c .before .before .before .before .before .before .add-block .last .1 .1 .1 .1 .1 .1 .1 .0) (c .before .before .before .before .before .before .add-block .last .1 .1 .1 .1 .1 .1 .1 .1 .0)) from-start (c .before .before .before .before .before .before .add-block .ensures))
-    (c .before .loop .inv .1)
+    added-then (subst (λ (x : ℕ → ℕ). Added (a .p) (a .blocks) (a .j) x (now (a .message)) (now (a .left)) (c .before .before .before .before .before .before .add-block .last .1 .1 .1 .1 .1 .1 .1 .0) (c .before .before .before .before .before .before .add-block .last .1 .1 .1 .1 .1 .1 .1 .1 .0)) from-start (c .before .before .before .before .before .before .add-block .ensures)) (c .before .loop .inv .1) (omega arith)
 
 pub add-found-spec : {M : Type 1} → statement M
 add-found-spec =
@@ -94,6 +78,5 @@ add-found-spec =
     add-a
     loop-less
     loop-again
-    same-length
-    same-length-2
+    (omega arith) (omega arith)
     returns)

@@ -40,9 +40,7 @@ guess-from-end-requires c κs = search needs
 
 returns-4 : tie.Need-returns-4
 returns-4 c =
-    let a = c .before .before .before .before .before .before .before .before .before .before .before .before .before .before .before .before .before .before .before .before .before .before .before .before .args in
-    revised-then (a .p) (a .blocks) (a .i) (a .i) (now (a .message)) (now (a .left)) (c .before .before .before .before .before .before .before .before .before .before .before .before .before .before .guess-from-start .last .1 .1 .1 .1 .1 .1 .0) (c .before .before .before .before .before .before .before .before .before .before .before .before .before .before .guess-from-start .last .1 .1 .1 .1 .1 .1 .1 .0)
-    (c .before .before .before .before .guess-from-end .last .1 .1 .1 .1 .1 .0) (c .before .before .before .before .guess-from-end .last .1 .1 .1 .1 .1 .1 .0) (omega arith) (c .before .before .before .before .before .before .before .before .before .before .before .before .before .before .guess-from-start .ensures) (c .before .before .before .before .guess-from-end .ensures)
+    revised-then (c .before .before .before .before .before .before .before .before .before .before .before .before .before .before .guess-from-start .ensures) (c .before .before .before .before .guess-from-end .ensures) (omega arith)
 
 pub guess-block-spec : {M : Type 1} → statement M
 guess-block-spec =

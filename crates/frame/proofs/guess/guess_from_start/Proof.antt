@@ -7,7 +7,7 @@ use Rattle.field.proofs.Symbols.{symbol-below}
 use Rattle.code.proofs.Numbers.{positive}
 use Rattle.code.proofs.Settings.{information-fits, sizes}
 use Rattle.frame.specs.Frame.{Revised}
-use Rattle.frame.proofs.Guesses.{revised-none, revised-then, revised-lengths, block-room}
+use Rattle.frame.proofs.Guesses.{revised-none, revised-then, block-room}
 use Rattle.frame.proofs.guess.guess_from_start.Statement.{statement}
 use Rattle.frame.proofs.guess.guess_from_start.Tie as tie
 
@@ -24,8 +24,7 @@ mul-start c =
 
 loop-holds : tie.Need-loop-holds Inv-loop μ-loop
 loop-holds c =
-    let a = c .before .before .before .before .args in
-    (omega arith, revised-none (a .p) (a .blocks) (a .i) (now (a .message)) (now (a .left)) (c .before .before .before .before .pre .3))
+    (omega arith, revised-none (c .before .before .before .before .pre .3))
 
 -- The first k symbols of block i are there.
 inside : (c : tie.In-loop Inv-loop μ-loop) → c .before .before .before .before .before .before .args .i * c .before .before .before .before .before .before .args .p .n + c .before .loop .r < length (c .before .loop .left)
@@ -42,7 +41,7 @@ inside c =
 add-multiply : tie.Need-add-multiply Inv-loop μ-loop
 add-multiply c =
     let entry = c .before .before .before .before .before .before in
-    omega (arith, inside c, revised-lengths (entry .args .p) (entry .args .blocks) (now (entry .args .message)) (now (entry .args .left)) (c .before .loop .message) (c .before .loop .left) (entry .pre .3) (c .before .loop .inv .1 .areas) .1)
+    omega (arith, inside c, entry .pre .3, c .before .loop .inv .1 .areas)
 
 slice-read-multiply : tie.Need-slice-read-multiply Inv-loop μ-loop
 slice-read-multiply c = inside (c .before)
@@ -71,22 +70,10 @@ loop-less c = omega arith
 
 loop-again : tie.Need-loop-again Inv-loop μ-loop
 loop-again c =
-    let a = c .before .before .before .before .before .before .before .before .before .before .before .before .before .before .before .args in
     let l = c .before .before .before .before .before .before .before .before .before .before .loop in (
       omega arith,
-      revised-then (a .p) (a .blocks) (a .i) (a .i) (now (a .message)) (now (a .left)) (l .message) (l .left) (c .before .before .before .before .adjust .last .1 .1 .1 .1 .1 .1 .1 .0) (c .before .before .before .before .adjust .last .1 .1 .1 .1 .1 .1 .1 .1 .0)
-          (omega arith) (l .inv .1) (c .before .before .before .before .adjust .ensures .revised),
+      revised-then (l .inv .1) (c .before .before .before .before .adjust .ensures .revised) (omega arith),
     )
-
-same-length : tie.Need-same-length Inv-loop μ-loop
-same-length c =
-    let entry = c .before .before .before .before .before .before in
-    revised-lengths (entry .args .p) (entry .args .blocks) (now (entry .args .message)) (now (entry .args .left)) (c .before .loop .message) (c .before .loop .left) (entry .pre .3) (c .before .loop .inv .1 .areas) .0
-
-same-length-2 : tie.Need-same-length-2 Inv-loop μ-loop
-same-length-2 c =
-    let entry = c .before .before .before .before .before .before in
-    revised-lengths (entry .args .p) (entry .args .blocks) (now (entry .args .message)) (now (entry .args .left)) (c .before .loop .message) (c .before .loop .left) (entry .pre .3) (c .before .loop .inv .1 .areas) .1
 
 returns : tie.Need-returns Inv-loop μ-loop
 returns c = c .before .loop .inv .1
@@ -106,6 +93,5 @@ guess-from-start-spec =
     add-r
     loop-less
     loop-again
-    same-length
-    same-length-2
+    (omega arith) (omega arith)
     returns)

@@ -4,7 +4,7 @@ use native.Mathlib.Omega.{arith}
 use denote.Ref.{now}
 use Rattle.code.proofs.Settings.{sizes}
 use Rattle.frame.specs.Frame.{Revised}
-use Rattle.frame.proofs.Guesses.{revised-none, revised-then, revised-lengths, blocks-few}
+use Rattle.frame.proofs.Guesses.{revised-none, revised-then, blocks-few}
 use Rattle.frame.proofs.guess.guess_window.Statement.{statement}
 use Rattle.frame.proofs.guess.guess_window.Tie as tie
 
@@ -16,8 +16,7 @@ abbrev μ-loop : tie.MeasureT-loop
 
 loop-holds : tie.Need-loop-holds Inv-loop μ-loop
 loop-holds c =
-    let a = c .before .before .before .args in
-    revised-none (a .p) (a .blocks) (a .j) (now (a .message)) (now (a .left)) (c .before .before .before .pre .3)
+    revised-none (c .before .before .before .pre .3)
 
 add-guess-block : tie.Need-add-guess-block Inv-loop μ-loop
 add-guess-block c =
@@ -36,20 +35,8 @@ loop-less c = omega arith
 
 loop-again : tie.Need-loop-again Inv-loop μ-loop
 loop-again c =
-    let a = c .before .before .before .before .before .before .before .before .before .before .before .before .args in
     let l = c .before .before .before .before .before .before .before .before .loop in
-    revised-then (a .p) (a .blocks) (a .j) (a .j + l .s) (now (a .message)) (now (a .left)) (l .message) (l .left) (c .before .before .before .before .guess-block .last .1 .1 .1 .1 .1 .1 .0) (c .before .before .before .before .guess-block .last .1 .1 .1 .1 .1 .1 .1 .0)
-    (omega arith) (l .inv) (c .before .before .before .before .guess-block .ensures)
-
-same-length : tie.Need-same-length Inv-loop μ-loop
-same-length c =
-    let entry = c .before .before .before .before .before in
-    revised-lengths (entry .args .p) (entry .args .blocks) (now (entry .args .message)) (now (entry .args .left)) (c .before .loop .message) (c .before .loop .left) (entry .pre .3) (c .before .loop .inv .areas) .0
-
-same-length-2 : tie.Need-same-length-2 Inv-loop μ-loop
-same-length-2 c =
-    let entry = c .before .before .before .before .before in
-    revised-lengths (entry .args .p) (entry .args .blocks) (now (entry .args .message)) (now (entry .args .left)) (c .before .loop .message) (c .before .loop .left) (entry .pre .3) (c .before .loop .inv .areas) .1
+    revised-then (l .inv) (c .before .before .before .before .guess-block .ensures) (omega arith)
 
 returns : tie.Need-returns Inv-loop μ-loop
 returns c = c .before .loop .inv
@@ -66,6 +53,5 @@ guess-window-spec =
     add-s
     loop-less
     loop-again
-    same-length
-    same-length-2
+    (omega arith) (omega arith)
     returns)

@@ -89,7 +89,6 @@ loop-less c = omega arith
 
 loop-again : tie.Need-loop-again Inv-loop μ-loop
 loop-again c =
-    let a = c .before .before .before .before .before .before .before .args in
     let l = c .before .before .before .before .loop in
     (omega arith, omega (arith, l .inv .1), λ q i u. more q i u (decLt i (l .j)))
   where

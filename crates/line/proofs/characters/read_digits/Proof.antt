@@ -46,9 +46,6 @@ loop-again c =
       mapped-more digitOf (now (entry .args .characters)) (loop .loop .area) (loop .loop .i) (c .digit .result) inside room (c .digit .ensures) (loop .loop .inv .2),
     )
 
-same-length : tie.Need-same-length Inv-loop μ-loop
-same-length c = c .before .loop .inv .1
-
 returns : tie.Need-returns Inv-loop μ-loop
 returns c =
     let entry = c .before .before .before .before in
@@ -71,5 +68,5 @@ read-digits-spec =
     add-i
     loop-less
     loop-again
-    same-length
+    (omega arith)
     returns)

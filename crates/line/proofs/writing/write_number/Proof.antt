@@ -42,9 +42,6 @@ loop-again c =
           (c .before .loop-test .taken) (loop .loop .inv .0) (c .last-digit .ensures) (loop .loop .inv .2),
     )
 
-same-length : tie.Need-same-length Inv-loop μ-loop
-same-length c = c .before .loop .inv .1
-
 returns : tie.Need-returns Inv-loop μ-loop
 returns c =
     let entry = c .before .before .before in
@@ -63,5 +60,5 @@ write-number-spec =
     slice-write-area
     loop-less
     loop-again
-    same-length
+    (omega arith)
     returns)

@@ -47,9 +47,6 @@ loop-again c =
       mapped-more characterOf (now (entry .args .symbols)) (loop .loop .area) (loop .loop .i) (c .character .result) inside room (c .character .ensures) (loop .loop .inv .2),
     )
 
-same-length : tie.Need-same-length Inv-loop μ-loop
-same-length c = c .before .loop .inv .1
-
 returns : tie.Need-returns Inv-loop μ-loop
 returns c =
     let entry = c .before .before .before .before in
@@ -72,5 +69,5 @@ write-symbols-spec =
     add-i
     loop-less
     loop-again
-    same-length
+    (omega arith)
     returns)

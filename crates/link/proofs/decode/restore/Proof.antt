@@ -51,9 +51,6 @@ loop-again c =
       restored-more (a .q) (now (a .reception)) (now (a .left)) (l .i) (l .left) (c .subtract .result) (l .inv .1) (omega (arith, l .inv .1 .long)) (c .subtract .ensures .same),
     )
 
-same-length : tie.Need-same-length Inv-loop μ-loop
-same-length c = c .before .loop .inv .1 .long
-
 returns : tie.Need-returns Inv-loop μ-loop
 returns c =
     let a = c .before .before .before .before .args in
@@ -74,5 +71,5 @@ restore-spec =
     add-i
     loop-less
     loop-again
-    same-length
+    (omega arith)
     returns)

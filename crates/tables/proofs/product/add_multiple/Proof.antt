@@ -50,9 +50,6 @@ loop-again c =
     let inside : l .i < length (now (a .block)) = omega (arith, c .before .before .before .loop-test .taken, l .inv .1 .long) in
     (omega arith, multiple-more (a .q) (a .v) (now (a .row)) (now (a .block)) (l .i) (l .block) (c .add-product .result) (l .inv .1) inside (c .add-product .ensures))
 
-same-length : tie.Need-same-length Inv-loop μ-loop
-same-length c = c .before .loop .inv .1 .long
-
 returns : tie.Need-returns Inv-loop μ-loop
 returns c =
     let a = c .before .before .before .before .args in
@@ -74,5 +71,5 @@ add-multiple-spec =
     add-i
     loop-less
     loop-again
-    same-length
+    (omega arith)
     returns)

@@ -74,9 +74,6 @@ loop-again c =
           (l .inv .1) (inside (c .before .before .before .before)) (l .inv .2) (c .before .before .add-row .ensures),
     )
 
-same-length : tie.Need-same-length Inv-loop μ-loop
-same-length c = c .before .loop .inv .2 .long
-
 returns : tie.Need-returns Inv-loop μ-loop
 returns c =
     let a = c .before .before .before .before .args in
@@ -98,5 +95,5 @@ add-rows-spec =
     add-j
     loop-less
     loop-again
-    same-length
+    (omega arith)
     returns)
