@@ -19,7 +19,7 @@ use Rattle.block.specs.Area.{at}
 use Rattle.block.specs.Candidate.{zerosAt, Begun, Candidate}
 use Rattle.block.specs.Step.{Information, Step, near, far}
 use Rattle.block.proofs.Spectra.{found-longer}
-use Rattle.block.proofs.CandidateBelow.{length-of-near, read-of-near}
+use Rattle.block.proofs.CandidateBelow.{degree-of-near, read-of-near}
 
 module _ {p : Setting} (S : Sound p) {l : ℕ} (level : l ≤ p .m) {block : List ℕ} (long : length block ≡ p .n) (symbols : Symbols (p .q) block)
     {series locator former : List ℕ} {degree point : ℕ} (B : Begun p l block series locator former degree point) {found : List ℕ} where
@@ -28,7 +28,7 @@ module _ {p : Setting} (S : Sound p) {l : ℕ} (level : l ≤ p .m) {block : Lis
   step-long h =
       far (λ x information.
       let never : levelCost p (at block) l x < levelDistance (p .n) (p .k) l → ⊥ =
-      λ close. omega (arith, length-of-near p S l level block long symbols x information series locator former degree close (B .located) (B .spectral)) in
+      λ close. omega (arith, degree-of-near p S l level block long symbols x information series locator former degree close (B .located) (B .spectral)) in
       omega arith)
 
   module _ {cost : ℕ} (C : Candidate p l block locator degree found) (counted : cost ≡ levelCost p (at block) l (view (p .k) found)) where

@@ -1,6 +1,6 @@
 -- If a combination is near the received block, the information read off the continued spectrum is its information. Over any field,
 -- α of order n and (l+1)k ≤ n; r = n - (l+1)k is the number of zeros of the level-l code.
--- Holds: `length-of-near`, `values-of-near`, `information-of-near`.
+-- Holds: `degree-of-near`, `values-of-near`, `information-of-near`.
 use mathlib.Core.Path.{_≡_, sym, ap, ap₂, _∙_}
 use Prim.Native.Nat.{ℕ, zero, suc, _+_, _-_, _*_, _≤_, _<_}
 use native.Mathlib.Nat.{mul-le-mul-right}
@@ -18,7 +18,7 @@ use Rattle.code.proofs.Blocks.{codeOver, combination-vanishes}
 use Rattle.code.proofs.LevelCode.{information-of-spectrum}
 use Rattle.code.proofs.Recovery.{recovered-part}
 use Rattle.block.specs.Locator.{Located, Extended}
-use Rattle.block.proofs.ErrorSpectrum.{spectrum, length-of-light, difference-is-rest}
+use Rattle.block.proofs.ErrorSpectrum.{spectrum, degree-of-light, difference-is-rest}
 
 module _ {F : Type 0} (K : Field F) (α : F) (n k m : ℕ) (order : Order (K .ops) n α) (l : ℕ) (fits : (l + 1) * k ≤ n) where
   infixl 60 _⊕_
@@ -54,10 +54,10 @@ module _ {F : Type 0} (K : Field F) (α : F) (n k m : ℕ) (order : Order (K .op
         ∙ ap (λ (t : F). sub (K .ops) (spectrum K n α order v s) t) (sym (combination-vanishes K α n k m l x s fits h))
         ∙ sym (spectrum-error s)
 
-    -- The locator is no longer than the error is heavy.
-    pub length-of-near : L ≤ w
+    -- The locator's degree is at most the error's weight.
+    pub degree-of-near : L ≤ w
     unfolding error sent
-    length-of-near = length-of-light K n α order (n - (l + 1) * k) error c known-error L p scale σ τ located w light small
+    degree-of-near = degree-of-light K n α order (n - (l + 1) * k) error c known-error L p scale σ τ located w light small
 
     -- The whole spectrum of v, and how the locator continued that of its error.
     module _ (whole : (s : ℕ) → s < n → c (suc s) ≡ spectrum K n α order v s)

@@ -1,5 +1,5 @@
 -- The same on the numbers below q, as the code has it: if the information x is near, it is the information that was read.
--- Holds: `recovered-more`, `length-of-near`, `read-of-near`.
+-- Holds: `recovered-more`, `degree-of-near`, `read-of-near`.
 use mathlib.Core.Path.{_≡_, refl, sym, ap, subst, _∙_}
 use mathlib.Core.List.{List}
 use Prim.Native.Nat.{ℕ, suc, _+_, _-_, _*_, _≤_, _<_}
@@ -34,7 +34,7 @@ use Rattle.block.specs.Information.{Read}
 use Rattle.block.specs.Step.{Information}
 use Rattle.block.proofs.LocatorBelow.{K, el, up, down, raise, fall, add-down, neg-down, tail-down, located-up}
 use Rattle.block.proofs.ErrorSpectrum.{spectrum}
-use Rattle.block.proofs.Candidate.{length-of-near as length-of-near-field, information-of-near}
+use Rattle.block.proofs.Candidate.{degree-of-near as degree-of-near-field, information-of-near}
 
 module _ (p : Setting) (S : Sound p) where
   abbrev q : ℕ
@@ -115,10 +115,10 @@ module _ (p : Setting) (S : Sound p) where
             below (located .placed .locator-below) (located .placed .former-below) (located .placed .scale-below)
             (subst (λ (t : ℕ). Located o (at series) t L (located .place) (located .scale) (at locator) (at former)) all-known (located .placed .located))
 
-        pub length-of-near : SpectrumOf q block (p .n - (l + 1) * p .k) series → 2 * L < levelDistance (p .n) (p .k) l
+        pub degree-of-near : SpectrumOf q block (p .n - (l + 1) * p .k) series → 2 * L < levelDistance (p .n) (p .k) l
         unfolding error
-        length-of-near spectral =
-            let short = length-of-near-field (fieldOf p S) (rootOf p S) (p .n) (p .k) (p .m) (orderAt p S) l fits (received p S block) (lifted p S x)
+        degree-of-near spectral =
+            let short = degree-of-near-field (fieldOf p S) (rootOf p S) (p .n) (p .k) (p .m) (orderAt p S) l fits (received p S block) (lifted p S x)
             (weight (K q o B .ops) (p .n) error) (omega arith) (omega (arith, error-light))
             (up q o B (at series)) (values-up (p .n - (l + 1) * p .k) spectral)
             L (located .place) (el q o B (located .scale)) (up q o B (at locator)) (up q o B (at former)) (locator-up (spectral .below)) in

@@ -1,7 +1,7 @@
 -- From the locator to the spectrum of the error, over any field with α of order n.
 -- The block y_i = e_i ψ(α^i), ψ the mirrored locator, has few nonzero symbols and many zeros in its spectrum, so it is zero.
 -- A light block e (2 × weight at most r) whose spectrum is known at α^0 .. α^(r-1): the locator of what is known annihilates the whole spectrum.
--- Holds: `light-annihilated` (the distance lemma again), `length-of-light`, `recurs-of-light`, and `extension-is-spectrum`: the recurrence gives all of it.
+-- Holds: `light-annihilated` (the distance lemma again), `degree-of-light`, `recurs-of-light`, and `extension-is-spectrum`: the recurrence gives all of it.
 use mathlib.Core.Path.{_≡_, refl, sym, ap, ap₂, subst, _∙_}
 use mathlib.Core.Bool.{Bool, true, not}
 use Prim.Native.Nat.{ℕ, zero, suc, _+_, _-_, _≤_, _<_}
@@ -32,7 +32,7 @@ module _ {F : Type 0} (K : Field F) (n : ℕ) (α : F) (order : Order (K .ops) n
   abbrev pub spectrum : (ℕ → F) → ℕ → F
   spectrum e s = valueOf (K .ops) n e (power (K .ops) α s)
 
-  -- σ_0 E_(L+s) + .. + σ_L E_s: coefficient L+s of the product of a series of length L with a spectrum.
+  -- σ_0 E_(L+s) + .. + σ_L E_s: coefficient L+s of the product of a series of degree L with a spectrum.
   abbrev pub against : ℕ → (ℕ → F) → (ℕ → F) → ℕ → F
   against L σ e s = sum (K .ops) (suc L) (λ a. σ a ⊗ spectrum e (L + s - a))
 
@@ -81,7 +81,7 @@ module _ {F : Type 0} (K : Field F) (n : ℕ) (α : F) (order : Order (K .ops) n
   -- What is known: c_1 .. c_r are the first r values of e's spectrum, and a locator for them.
   module _ (r : ℕ) (e c : ℕ → F) (known : (s : ℕ) → s < r → c (suc s) ≡ spectrum e s)
       (L p : ℕ) (scale : F) (σ τ : ℕ → F) (located : Located (K .ops) c r L p scale σ τ) where
-    -- A product with c, at a place above the length that is known, is one with the spectrum.
+    -- A product with c, at a place above the degree where c is known, is one with the spectrum.
     against-known : (M : ℕ) (ρ : ℕ → F) → ((a : ℕ) → M < a → ρ a ≡ 𝟘) → (s : ℕ) → M + s < r → against M ρ e s ≡ convolution (K .ops) ρ c (suc (M + s))
     against-known M ρ short s l =
         sum-ext (K .ops) (suc M) (λ a. ρ a ⊗ spectrum e (M + s - a)) (λ a. ρ a ⊗ c (suc (M + s) - a))
@@ -91,9 +91,9 @@ module _ {F : Type 0} (K : Field F) (n : ℕ) (α : F) (order : Order (K .ops) n
         place : (a : ℕ) → a < suc M → suc (M + s - a) ≡ suc (M + s) - a
         place a h = omega arith
 
-    -- The locator is no longer than the weight of e: else the former locator would annihilate the place at which it fails.
-    pub length-of-light : (w : ℕ) → weight (K .ops) n e ≤ w → w + w ≤ r → L ≤ w
-    length-of-light w light small =
+    -- The locator's degree is at most the weight of e: else the former locator would annihilate the place at which it fails.
+    pub degree-of-light : (w : ℕ) → weight (K .ops) n e ≤ w → w + w ≤ r → L ≤ w
+    degree-of-light w light small =
         let never : w < L → ⊥ = λ h. K .one-nonzero (sym (located .former-fails) ∙ ap (λ (t : F). scale ⊗ t) (former h) ∙ mul-zero K scale) in omega arith
       where
         former : w < L → convolution (K .ops) τ c p ≡ 𝟘
@@ -110,8 +110,8 @@ module _ {F : Type 0} (K : Field F) (n : ℕ) (α : F) (order : Order (K .ops) n
     pub recurs-of-light : (w : ℕ) → weight (K .ops) n e ≤ w → w + w ≤ r → (s : ℕ) → against L σ e s ≡ 𝟘
     recurs-of-light w light small =
         light-annihilated L σ e w light
-        (λ s l. against-known L σ (located .short) s (omega (arith, length-of-light w light small))
-        ∙ located .annihilates (suc (L + s)) (omega arith) (omega (arith, length-of-light w light small)))
+        (λ s l. against-known L σ (located .short) s (omega (arith, degree-of-light w light small))
+        ∙ located .annihilates (suc (L + s)) (omega arith) (omega (arith, degree-of-light w light small)))
 
     against-tail : (j : ℕ) → L ≤ j → against L σ e (j - L) ≡ spectrum e j ⊕ tail (K .ops) L σ (spectrum e) j
     unfolding tail
@@ -140,7 +140,7 @@ module _ {F : Type 0} (K : Field F) (n : ℕ) (α : F) (order : Order (K .ops) n
           at : Dec (s < r) → ((t : ℕ) → t < bound → t < r + m → d (suc t) ≡ spectrum e t) → d (suc s) ≡ spectrum e s
           at (yes h) earlier = extended .kept (suc s) h ∙ known s h
           at (no outside) earlier =
-              let reach : L ≤ s = omega (arith, length-of-light w light small) in
+              let reach : L ≤ s = omega (arith, degree-of-light w light small) in
               let place : r + 1 + (s - r) ≡ suc s = omega arith in
               subst (λ (t : ℕ). d t ≡ ⊖ tail (K .ops) L σ d t) place (extended .recurs (s - r) (omega arith))
               ∙ ap (λ (t : F). ⊖ t) (tails s reach l (λ t u. earlier t (omega arith)))

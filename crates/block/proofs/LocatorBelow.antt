@@ -1,6 +1,6 @@
 -- The steps of the locator on numbers below q, carried over from the field of the pairs (number, below q).
 -- Holds: `raise` and `fall` (equations up to the field and down again), `up` (a sequence of numbers as one of elements), `sum-down`, `convolution-down`, `tail-down`,
--- `located-up`; the steps `start-below`, `kept-below`, `corrected-below`, `lengthened-below`.
+-- `located-up`; the steps `start-below`, `kept-below`, `corrected-below`, `grown-below`.
 use mathlib.Core.Path.{_≡_, sym, ap, ap₂, subst, _∙_}
 use Prim.Native.Nat.{ℕ, zero, suc, _+_, _-_, _≤_, _<_}
 use native.Mathlib.Omega.{arith}
@@ -11,7 +11,7 @@ use Rattle.algebra.proofs.Sums.{sum-ext}
 use Rattle.algebra.proofs.Naturality.{sum-natural}
 use Rattle.algebra.proofs.Below.{FieldBelow, positive, Below, number, number-injective, element, number-element, fieldBelow, number-keeps}
 use Rattle.block.specs.Locator.{convolution, tail, Located, Subtracted}
-use Rattle.block.proofs.LocatorStep.{convolution-tail, located-start, located-kept, located-corrected, located-lengthened}
+use Rattle.block.proofs.LocatorStep.{convolution-tail, located-start, located-kept, located-corrected, located-grown}
 
 module _ (q : ℕ) (o : Ops ℕ) (B : FieldBelow q o) where
   abbrev pub K : Field (Below q)
@@ -156,11 +156,11 @@ module _ (q : ℕ) (o : Ops ℕ) (B : FieldBelow q o) where
         located-down c σ' τ scale bc bσ' bτ bs
         (located-corrected K (up c) s L p (el scale) (up σ) (up τ) (located-up c σ τ scale bc bσ bτ bs h) shift count (up σ') at-place enough subtracted-up l)
 
-    pub lengthened-below : L + L ≤ s → (failure ≡ 0 → ⊥) → Located o c (suc s) (suc s - L) (suc s) (o .inv failure) σ' σ
+    pub grown-below : L + L ≤ s → (failure ≡ 0 → ⊥) → Located o c (suc s) (suc s - L) (suc s) (o .inv failure) σ' σ
     unfolding product
-    lengthened-below l nonzero =
+    grown-below l nonzero =
         located-down c σ' σ (o .inv failure) bc bσ' bσ (B .inv-below failure bd)
-        (located-lengthened K (up c) s L p (el scale) (up σ) (up τ) (located-up c σ τ scale bc bσ bτ bs h) shift count (up σ') at-place enough subtracted-up
+        (located-grown K (up c) s L p (el scale) (up σ) (up τ) (located-up c σ τ scale bc bσ bτ bs h) shift count (up σ') at-place enough subtracted-up
         (el (o .inv failure)) l
         (mul-comm K (el (o .inv failure)) (convolution (K .ops) (up σ) (up c) (suc s))
         ∙ raise _ _ (mul-down _ _ failure-down (down (o .inv failure) (B .inv-below failure bd))) one-down (B .inverse failure bd nonzero ∙ sym (B .one-is))))

@@ -1,5 +1,5 @@
 -- Berlekamp and Massey's algorithm, one place at a time, over any field.
--- Holds: `located-start`; the three outcomes at a place: `located-kept`, `located-corrected`, `located-lengthened`; `convolution-short`, `convolution-tail`; `located-ext`.
+-- Holds: `located-start`; the three outcomes at a place: `located-kept`, `located-corrected`, `located-grown`; `convolution-short`, `convolution-tail`; `located-ext`.
 use mathlib.Core.Path.{_≡_, refl, sym, ap, ap₂, _∙_}
 use Prim.Native.Nat.{ℕ, zero, suc, _+_, _-_, _≤_, _<_}
 use native.Mathlib.Nat.{add-suc as nat-add-suc}
@@ -200,7 +200,7 @@ module _ {F : Type 0} (K : Field F) where
       corrected-first : σ' 0 ≡ 𝟙
       corrected-first = S .before 0 (omega (arith, located .placed)) ∙ located .first
 
-      -- The length stays where it reaches far enough ..
+      -- The degree stays where it reaches far enough ..
       pub located-corrected : s < L + L → Located (K .ops) c (suc s) L p scale σ' τ
       located-corrected h =
           record {
@@ -215,9 +215,9 @@ module _ {F : Type 0} (K : Field F) where
           }
 
       -- .. and else grows, and the locator so far is the new former one.
-      pub located-lengthened : (scale' : F) → L + L ≤ s → scale' ⊗ convolution (K .ops) σ c (suc s) ≡ 𝟙
+      pub located-grown : (scale' : F) → L + L ≤ s → scale' ⊗ convolution (K .ops) σ c (suc s) ≡ 𝟙
           → Located (K .ops) c (suc s) (suc s - L) (suc s) scale' σ' σ
-      located-lengthened scale' h e =
+      located-grown scale' h e =
           record {
             grown = omega arith;
             placed = omega arith;

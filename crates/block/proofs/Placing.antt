@@ -12,7 +12,7 @@ use Rattle.block.specs.Area.{AllBelow, at}
 use Rattle.block.specs.Locator.{tail, Located}
 use Rattle.block.specs.Progress.{Unit, Multiple, Placed}
 use Rattle.block.proofs.Accumulated.{zero-below}
-use Rattle.block.proofs.LocatorBelow.{start-below, kept-below, corrected-below, lengthened-below}
+use Rattle.block.proofs.LocatorBelow.{start-below, kept-below, corrected-below, grown-below}
 
 module _ (q : ℕ) (good : Good q) where
   B : FieldBelow q (opsOf q)
@@ -83,7 +83,7 @@ module _ (q : ℕ) (good : Good q) where
             located =
                 subst (λ (t : ℕ). Located (opsOf q) (at series) next (next - L) next t (at locator') (at locator)) (sym (inverts .same))
                 (subst (λ (t : ℕ). Located (opsOf q) (at series) t (t - L) t (opsOf q .inv failure) (at locator') (at locator)) step
-                (lengthened-below q (opsOf q) B (at series) (at locator) (at former) (at locator') scale failure factor (next - p) (p - L + 1)
+                (grown-below q (opsOf q) B (at series) (at locator) (at former) (at locator') scale failure factor (next - p) (p - L + 1)
                 hs (h .locator-below) (h .former-below) (M .below) (h .scale-below) (fails .below) (multiplied .below)
                 (h .located) failure-is (multiplied .same) at-place enough (M .subtracted) (omega (arith, step)) nonzero));
           }

@@ -1,6 +1,6 @@
 -- Sequences and the recurrence that the locator makes them follow (Berlekamp and Massey's algorithm).
 -- A series c with c_0 = 1 holds the known part of a spectrum from c_1 on. The locator σ of degree at most L annihilates it as far as it is known:
--- coefficient j of the product σ × c is zero for L < j ≤ s. The former locator is the one before the length last changed, at place p.
+-- coefficient j of the product σ × c is zero for L < j ≤ s. The former locator is the one before the degree last changed, at place p.
 -- Holds: `convolution`, `tail`, `Located`, `Subtracted`, `Extended`.
 use mathlib.Core.Path.{_≡_}
 use Prim.Native.Nat.{ℕ, zero, suc, _+_, _-_, _≤_, _<_}

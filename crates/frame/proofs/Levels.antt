@@ -51,6 +51,6 @@ pub block-most : {r : ℕ} (p : Setting) (block : ℕ → ℕ) (l : ℕ) (y : �
 unfolding blockCost
 block-most p block l y e = omega (arith, cost-most (p .q) (p .n) block (combination (codeOf p) l y))
 
--- No area has more nonzero symbols than symbols.
+-- Sequences differ in no more symbols than they have.
 pub few : {r : ℕ} (n : ℕ) (a b : ℕ → ℕ) → r ≡ distance n a b → r ≤ n
 few n a b e = subst (λ (t : ℕ). t ≤ n) (sym e) (countOf-le n (λ i. not (eqb (a i) (b i))))

@@ -11,7 +11,7 @@ use Rattle.code.specs.Transmission.{view}
 use Rattle.code.specs.Reading.{Below, levelCost, windowCost}
 use Rattle.block.specs.Area.{AllBelow}
 
--- Blocks 0 .. l of the window are near what y rebuilds: "at most half of (d_0 + .. + d_l - 1), rounded down, symbols" differ, without the rounding.
+-- Blocks 0 .. l of the window are near what y rebuilds: "in at most half of (d_0 + .. + d_l - 1), rounded down", symbols they differ, without the rounding.
 abbrev pub Near : Setting → List ℕ → ℕ → (ℕ → ℕ → ℕ) → Type 0
 Near p window l y = windowCost p window l y < distancesTo (p .n) (p .k) l
 

@@ -1,6 +1,6 @@
--- What answering a line promises (01, "Lines at the planning desk"). Holds: `refusal` and `success`, the two kinds of output line; `mostAnswer`; `outputLine`,
--- `Answers`, which of them a line gets; `Placed` and `Shown`, a text in a lent area; `AnswerShown`; `Working`, the working areas, `roomIn`, `RoomForAll`, `FrameLeft`;
--- `Answered`, a whole call. `Written` is what its parts ask of one another.
+-- What answering a line promises (01, "Lines at the planning desk"). Holds: `refusal`, `opening` and `success`, the two kinds of output line; `messageLength`, `messageIn`;
+-- `mostAnswer`; `outputLine`, `Answers`, which of them a line gets; `Placed` and `Shown`, a text in a lent area; `AnswerShown`; `Working`, `working`, the working areas,
+-- `hasRoom`, `roomIn`, `RoomForAll`, `FrameLeft`; `Answered`, a whole call. `Written` is what its parts ask of one another.
 use mathlib.Core.Path.{_≡_}
 use mathlib.Core.Bool.{Bool, true, false, _&&_}
 use mathlib.Core.List.{List, _++_, map}

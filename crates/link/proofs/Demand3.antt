@@ -1,6 +1,6 @@
 -- Demand 3, third sentence, about what decoding calls returned: stated over decoding's own promise, two results of it. The first two sentences are
 -- `first-differing-block` and `at-most-one-fits` of Rattle.code.proofs.Demand3.
--- Holds: `returned-messages-agree`, and what a call on a decodable reception returns, `decodable-returns`.
+-- Holds: `Returned`, `decodable-returns` (what a call on a decodable reception returns); `returned-messages-agree`.
 use mathlib.Core.Path.{_≡_, sym, ap, subst, _∙_}
 use mathlib.Core.List.{List, _++_}
 use Prim.Native.Nat.{ℕ, _+_, _*_, _≤_, _<_}

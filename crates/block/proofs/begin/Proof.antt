@@ -46,7 +46,9 @@ locate-requires c κs =
     )
 
 returns : tie.Need-returns
-returns c = search needs
+returns c =
+    let read = c .before .before .before .before .before .before .before .before .before .before .before .before .before .add-values .ensures in
+    record { spectral = read .1; next = read .0; located = c .before .before .before .before .before .before .locate .ensures }
 
 pub begin-spec : {M : Type 1} → statement M
 begin-spec =
