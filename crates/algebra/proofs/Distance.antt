@@ -14,7 +14,8 @@ use lib.ListN.{length, getD}
 use borrow.Author.Tests.{eq-eqb, ne-eqb, lt-ltb, le-ltb}
 use Rattle.algebra.specs.Ops.{Ops, sub, pick}
 use Rattle.algebra.specs.Sum.{power}
-use Rattle.algebra.specs.Polynomial.{value, valueOf, fromRoots}
+use Rattle.algebra.specs.Polynomial.{value, fromRoots}
+use Rattle.algebra.specs.parts.Values.{valueOf}
 use Rattle.algebra.specs.Weight.{total, countOf, weight}
 use Rattle.algebra.proofs.Laws.{Field, Tested, is-zero, non-zero, mul-zero, zero-mul, mul-comm, mul-eq-zero, eq-of-sub, add-neg}
 use Rattle.algebra.proofs.Order.{Order}

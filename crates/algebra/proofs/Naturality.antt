@@ -5,7 +5,8 @@ use mathlib.Core.List.{List, [], _∷_, map}
 use Prim.Native.Nat.{ℕ, zero, suc}
 use Rattle.algebra.specs.Ops.{Ops}
 use Rattle.algebra.specs.Sum.{sum, power}
-use Rattle.algebra.specs.Polynomial.{valueOf, falling, timesRoot, timesRootAfter, fromRoots}
+use Rattle.algebra.specs.Polynomial.{timesRoot, timesRootAfter, fromRoots}
+use Rattle.algebra.specs.parts.Values.{valueOf, falling}
 
 -- A map that keeps the operations.
 pub record Homomorphism {F G : Type 0} (o : Ops F) (p : Ops G) (h : F → G) : Type 0 where

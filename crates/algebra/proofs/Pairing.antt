@@ -6,7 +6,8 @@ use Prim.Native.Nat.{ℕ, zero}
 use lib.ListN.{length, getD}
 use Rattle.algebra.specs.Ops.{Ops}
 use Rattle.algebra.specs.Sum.{sum, power}
-use Rattle.algebra.specs.Polynomial.{value, valueOf}
+use Rattle.algebra.specs.Polynomial.{value}
+use Rattle.algebra.specs.parts.Values.{valueOf}
 use Rattle.algebra.proofs.Laws.{Field, mul-zero, ring}
 use Rattle.algebra.proofs.Sums.{sum-ext, sum-add, sum-scale, sum-zeros, sum-first}
 use Rattle.algebra.proofs.Polynomials.{valueOf-twist, valueOf-at-one}

@@ -8,7 +8,8 @@ use native.Mathlib.Omega.{arith}
 use lib.ListN.{length, getD, replicate}
 use Rattle.algebra.specs.Ops.{Ops, sub}
 use Rattle.algebra.specs.Sum.{sum, power}
-use Rattle.algebra.specs.Polynomial.{value, valueOf, timesRoot, timesRootAfter, fromRoots}
+use Rattle.algebra.specs.Polynomial.{value, timesRoot, timesRootAfter, fromRoots}
+use Rattle.algebra.specs.parts.Values.{valueOf}
 use Rattle.algebra.proofs.Laws.{Field, add-zero, zero-add, mul-zero, zero-mul, mul-one, add-neg, mul-eq-zero, eq-of-sub, ring}
 use Rattle.algebra.proofs.Sums.{sum-ext, sum-scale, sum-first}
 use Rattle.algebra.proofs.Powers.{power-of-one}

@@ -8,7 +8,7 @@ use native.Mathlib.Omega.{arith}
 use native.Mathlib.Decide.{decLt}
 use Rattle.algebra.specs.Ops.{Ops, sub}
 use Rattle.algebra.specs.Sum.{power}
-use Rattle.algebra.specs.Polynomial.{valueOf, falling}
+use Rattle.algebra.specs.parts.Values.{valueOf, falling}
 use Rattle.algebra.proofs.Laws.{Field, add-cancel, add-comm, add-neg, one-mul, mul-assoc, mul-left-comm, neg-zero, mul-eq-zero, eq-of-sub, ring}
 use Rattle.algebra.proofs.Order.{Order}
 use Rattle.algebra.proofs.Powers.{power-power, power-of-one, root-nonzero}

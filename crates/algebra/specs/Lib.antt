@@ -3,3 +3,4 @@ pub mod Ops
 pub mod Sum
 pub mod Polynomial
 pub mod Weight
+pub mod parts

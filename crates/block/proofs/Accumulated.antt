@@ -14,7 +14,7 @@ use Rattle.field.specs.Fields.{Good, opsOf, alpha}
 use Rattle.field.specs.Symbols.{Is, Symbols}
 use Rattle.field.proofs.Laws.{lawsOf, orderOf}
 use Rattle.code.proofs.Lists.{getD-zeros}
-use Rattle.block.specs.Area.{AllBelow}
+use Rattle.block.specs.parts.Area.{AllBelow}
 
 pub zero-below : (q : ℕ) → Good q → 0 < q
 zero-below q good = omega (arith, lawsOf q good .one-below)

@@ -11,13 +11,13 @@ use Rattle.field.specs.Symbols.{Symbols}
 use Rattle.code.specs.declared.Setting.{Setting}
 use Rattle.code.specs.Code.{levelDistance}
 use Rattle.code.specs.Transmission.{view}
-use Rattle.code.specs.Cost.{symbolCost, blockCost}
+use Rattle.code.specs.parts.Cost.{symbolCost, blockCost}
 use Rattle.code.specs.Settings.{codeOf, Sound}
-use Rattle.code.specs.Reading.{levelCost}
+use Rattle.code.specs.parts.Reading.{levelCost}
 use Rattle.code.proofs.Blocks.{combination-ext}
-use Rattle.block.specs.Area.{at}
-use Rattle.block.specs.Candidate.{zerosAt, Begun, Candidate}
-use Rattle.block.specs.Step.{Information, Step, near, far}
+use Rattle.block.specs.parts.Area.{at}
+use Rattle.block.specs.parts.Candidate.{zerosAt, Begun, Candidate}
+use Rattle.block.specs.parts.Step.{Information, Step, near, far}
 use Rattle.block.proofs.Spectra.{found-longer}
 use Rattle.block.proofs.CandidateBelow.{degree-of-near, read-of-near}
 

@@ -13,11 +13,11 @@ use Rattle.algebra.proofs.Order.{Order}
 use Rattle.algebra.proofs.Polynomials.{valueOf-sub}
 use Rattle.code.specs.Code.{Code}
 use Rattle.code.specs.Level.{combination}
-use Rattle.code.specs.Recovery.{Recovered}
+use Rattle.code.specs.parts.Recovery.{Recovered}
 use Rattle.code.proofs.Blocks.{codeOver, combination-vanishes}
 use Rattle.code.proofs.LevelCode.{information-of-spectrum}
 use Rattle.code.proofs.Recovery.{recovered-part}
-use Rattle.block.specs.Locator.{Located, Extended}
+use Rattle.block.specs.parts.Locator.{Located, Extended}
 use Rattle.block.proofs.ErrorSpectrum.{spectrum, degree-of-light, difference-is-rest}
 
 module _ {F : Type 0} (K : Field F) (α : F) (n k m : ℕ) (order : Order (K .ops) n α) (l : ℕ) (fits : (l + 1) * k ≤ n) where

@@ -17,21 +17,21 @@ use Rattle.code.specs.Code.{Code, levelDistance}
 use Rattle.code.specs.Generator.{timesG}
 use Rattle.code.specs.Transmission.{view}
 use Rattle.code.specs.Level.{combination}
-use Rattle.code.specs.Recovery.{ending, Recovered}
-use Rattle.code.specs.Cost.{symbolCost, blockCost}
+use Rattle.code.specs.parts.Recovery.{ending, Recovered}
+use Rattle.code.specs.parts.Cost.{symbolCost, blockCost}
 use Rattle.code.specs.Settings.{codeOf, Sound}
-use Rattle.code.specs.Reading.{levelCost}
+use Rattle.code.specs.parts.Reading.{levelCost}
 use Rattle.code.proofs.Certainty.{weight-apart}
 use Rattle.code.proofs.Cost.{cost-same, byteCost, bytes-apart}
 use Rattle.code.proofs.Recovery.{recovered-step}
 use Rattle.code.proofs.Numbers.{laws, fieldOf, rootOf, orderAt, overField, lifted, timesG-number, combination-number, ending-number, received, received-number, value-number}
 use Rattle.code.proofs.Settings.{level-fits, information-fits}
-use Rattle.block.specs.Area.{at}
-use Rattle.block.specs.Locator.{Located, Extended}
-use Rattle.block.specs.Progress.{Found}
-use Rattle.block.specs.Spectrum.{SpectrumOf, Continued}
-use Rattle.block.specs.Information.{Read}
-use Rattle.block.specs.Step.{Information}
+use Rattle.block.specs.parts.Area.{at}
+use Rattle.block.specs.parts.Locator.{Located, Extended}
+use Rattle.block.specs.parts.Progress.{Found}
+use Rattle.block.specs.parts.Spectrum.{SpectrumOf, Continued}
+use Rattle.block.specs.parts.Information.{Read}
+use Rattle.block.specs.parts.Step.{Information}
 use Rattle.block.proofs.LocatorBelow.{K, el, up, down, raise, fall, add-down, neg-down, tail-down, located-up}
 use Rattle.block.proofs.ErrorSpectrum.{spectrum}
 use Rattle.block.proofs.Candidate.{degree-of-near as degree-of-near-field, information-of-near}

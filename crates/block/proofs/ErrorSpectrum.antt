@@ -10,7 +10,7 @@ use native.Mathlib.Omega.{arith}
 use native.Mathlib.Decide.{decLt}
 use Rattle.algebra.specs.Ops.{Ops, sub}
 use Rattle.algebra.specs.Sum.{sum, power}
-use Rattle.algebra.specs.Polynomial.{valueOf}
+use Rattle.algebra.specs.parts.Values.{valueOf}
 use Rattle.algebra.specs.Weight.{weight}
 use Rattle.algebra.proofs.Laws.{Field, Tested, is-zero, non-zero, add-comm, mul-zero, one-mul, neg-unique, neg-neg, ring}
 use Rattle.algebra.proofs.Order.{Order}
@@ -19,7 +19,7 @@ use Rattle.algebra.proofs.Powers.{power-add}
 use Rattle.algebra.proofs.Polynomials.{valueOf-scale, valueOf-twist, valueOf-of-sum, valueOf-zeros}
 use Rattle.algebra.proofs.Weights.{countOf-mono, zero-uncounted}
 use Rattle.algebra.proofs.Distance.{zero-of-vanishing}
-use Rattle.block.specs.Locator.{convolution, tail, Located, Extended}
+use Rattle.block.specs.parts.Locator.{convolution, tail, Located, Extended}
 use Rattle.block.proofs.LocatorStep.{convolution-short}
 
 module _ {F : Type 0} (K : Field F) (n : ℕ) (α : F) (order : Order (K .ops) n α) where

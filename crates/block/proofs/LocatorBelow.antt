@@ -10,7 +10,7 @@ use Rattle.algebra.proofs.Laws.{Field, mul-comm}
 use Rattle.algebra.proofs.Sums.{sum-ext}
 use Rattle.algebra.proofs.Naturality.{sum-natural}
 use Rattle.algebra.proofs.Below.{FieldBelow, positive, Below, number, number-injective, element, number-element, fieldBelow, number-keeps}
-use Rattle.block.specs.Locator.{convolution, tail, Located, Subtracted}
+use Rattle.block.specs.parts.Locator.{convolution, tail, Located, Subtracted}
 use Rattle.block.proofs.LocatorStep.{convolution-tail, located-start, located-kept, located-corrected, located-grown}
 
 module _ (q : ℕ) (o : Ops ℕ) (B : FieldBelow q o) where

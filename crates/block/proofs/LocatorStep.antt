@@ -10,7 +10,7 @@ use Rattle.algebra.specs.Ops.{Ops, sub}
 use Rattle.algebra.specs.Sum.{sum}
 use Rattle.algebra.proofs.Laws.{Field, add-zero, zero-mul, one-mul, mul-assoc, ring}
 use Rattle.algebra.proofs.Sums.{sum-ext, sum-add, sum-scale, sum-zeros, sum-first, sum-split}
-use Rattle.block.specs.Locator.{convolution, tail, Located, Subtracted}
+use Rattle.block.specs.parts.Locator.{convolution, tail, Located, Subtracted}
 
 -- A convolution looks at the first j+1 terms of each side, over any operations.
 pub convolution-ext : {F : Type 0} (o : Ops F) (a b c d : ℕ → F) (j : ℕ) → ((i : ℕ) → i ≤ j → a i ≡ b i) → ((i : ℕ) → i ≤ j → c i ≡ d i)

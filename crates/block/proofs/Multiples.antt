@@ -10,8 +10,8 @@ use lib.Seq.{getD-set-same, getD-set-other}
 use Rattle.algebra.specs.Ops.{sub}
 use Rattle.field.specs.Fields.{opsOf}
 use Rattle.field.specs.Symbols.{Is}
-use Rattle.block.specs.Area.{AllBelow, at}
-use Rattle.block.specs.Progress.{Multiple}
+use Rattle.block.specs.parts.Area.{AllBelow, at}
+use Rattle.block.specs.parts.Progress.{Multiple}
 use Rattle.block.proofs.Accumulated.{below-set}
 
 module _ (q factor shift : ℕ) (source before : List ℕ) where

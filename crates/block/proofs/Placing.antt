@@ -8,9 +8,9 @@ use Rattle.algebra.proofs.Below.{FieldBelow}
 use Rattle.field.specs.Fields.{Good, opsOf}
 use Rattle.field.specs.Symbols.{Is}
 use Rattle.field.proofs.Laws.{lawsOf}
-use Rattle.block.specs.Area.{AllBelow, at}
-use Rattle.block.specs.Locator.{tail, Located}
-use Rattle.block.specs.Progress.{Unit, Multiple, Placed}
+use Rattle.block.specs.parts.Area.{AllBelow, at}
+use Rattle.block.specs.parts.Locator.{tail, Located}
+use Rattle.block.specs.parts.Progress.{Unit, Multiple, Placed}
 use Rattle.block.proofs.Accumulated.{zero-below}
 use Rattle.block.proofs.LocatorBelow.{start-below, kept-below, corrected-below, grown-below}
 

@@ -11,18 +11,18 @@ use lib.ListN.{length, set, replicate}
 use lib.Seq.{getD-set-same, getD-set-other}
 use Rattle.algebra.specs.Ops.{sub}
 use Rattle.algebra.specs.Sum.{power}
-use Rattle.algebra.specs.Polynomial.{falling}
+use Rattle.algebra.specs.parts.Values.{falling}
 use Rattle.field.specs.Fields.{Good, opsOf, alpha}
 use Rattle.field.specs.Symbols.{Is}
 use Rattle.field.proofs.Laws.{lawsOf}
 use Rattle.code.specs.declared.Setting.{Setting}
 use Rattle.code.specs.Generator.{timesG}
 use Rattle.code.specs.Transmission.{view}
-use Rattle.code.specs.Recovery.{ending, Recovered}
+use Rattle.code.specs.parts.Recovery.{ending, Recovered}
 use Rattle.code.specs.Settings.{codeOf, Sound}
 use Rattle.code.proofs.Blocks.{timesG-ext}
-use Rattle.block.specs.Area.{AllBelow, at}
-use Rattle.block.specs.Information.{lacking, BlockRead, Read}
+use Rattle.block.specs.parts.Area.{AllBelow, at}
+use Rattle.block.specs.parts.Information.{lacking, BlockRead, Read}
 use Rattle.block.proofs.Accumulated.{zero-below, zeros-below, below-set}
 use Rattle.block.proofs.CandidateBelow.{recovered-more}
 

@@ -15,10 +15,10 @@ use Rattle.algebra.proofs.Sums.{sum-ext}
 use Rattle.field.specs.Fields.{Good, opsOf, alpha}
 use Rattle.field.specs.Symbols.{Is}
 use Rattle.field.proofs.Laws.{lawsOf}
-use Rattle.block.specs.Area.{AllBelow, at}
-use Rattle.block.specs.Locator.{tail}
-use Rattle.block.specs.Progress.{Unit, Found}
-use Rattle.block.specs.Spectrum.{SpectrumOf, Continued}
+use Rattle.block.specs.parts.Area.{AllBelow, at}
+use Rattle.block.specs.parts.Locator.{tail}
+use Rattle.block.specs.parts.Progress.{Unit, Found}
+use Rattle.block.specs.parts.Spectrum.{SpectrumOf, Continued}
 use Rattle.block.proofs.Accumulated.{below-set}
 use Rattle.block.proofs.LocatorStep.{located-ext}
 use Rattle.block.proofs.Placing.{unit-below}

@@ -2,15 +2,15 @@
 ghost use mathlib.Core.Path.{_≡_};
 ghost use Prim.Native.Nat.{_+_, _*_, _≤_, _<_};
 ghost use lib.ListN.{length};
-ghost use Rattle.algebra.specs.Polynomial.{falling as fallingOf};
+ghost use Rattle.algebra.specs.parts.Values.{falling as fallingOf};
 ghost use Rattle.field.specs.Fields.{Good, opsOf, alpha};
 ghost use Rattle.field.specs.Symbols.{Is};
-ghost use Rattle.field.specs.Tables.{Lent};
+ghost use Rattle.field.specs.parts.Tables.{Lent};
 ghost use Rattle.code.specs.Transmission.{view};
-ghost use Rattle.code.specs.Reading.{levelCost};
-ghost use Rattle.tables.specs.Tables.{Ready};
-ghost use Rattle.block.specs.Area.{AllBelow, at};
-ghost use Rattle.block.specs.Information.{lacking, BlockRead, Read};
+ghost use Rattle.code.specs.parts.Reading.{levelCost};
+ghost use Rattle.tables.specs.parts.Tables.{Ready};
+ghost use Rattle.block.specs.parts.Area.{AllBelow, at};
+ghost use Rattle.block.specs.parts.Information.{lacking, BlockRead, Read};
 use code::Setting;
 use field::Tables;
 

@@ -11,12 +11,12 @@ ghost use mathlib.Core.Path.{_≡_};
 ghost use Prim.Native.Nat.{_≤_};
 ghost use lib.ListN.{length};
 ghost use Rattle.field.specs.Symbols.{Symbols};
-ghost use Rattle.field.specs.Tables.{Lent};
+ghost use Rattle.field.specs.parts.Tables.{Lent};
 ghost use Rattle.code.specs.Settings.{Sound};
-ghost use Rattle.tables.specs.Tables.{Ready};
-ghost use Rattle.block.specs.Area.{Working};
-ghost use Rattle.block.specs.Candidate.{Begun, Candidate};
-ghost use Rattle.block.specs.Step.{Step};
+ghost use Rattle.tables.specs.parts.Tables.{Ready};
+ghost use Rattle.block.specs.parts.Area.{Working};
+ghost use Rattle.block.specs.parts.Candidate.{Begun, Candidate};
+ghost use Rattle.block.specs.parts.Step.{Step};
 use code::Setting;
 use field::Tables;
 

@@ -4,10 +4,10 @@ ghost use Prim.Native.Nat.{_+_, _-_, _≤_, _<_};
 ghost use lib.ListN.{length};
 ghost use Rattle.field.specs.Fields.{Good, opsOf};
 ghost use Rattle.field.specs.Symbols.{Is};
-ghost use Rattle.field.specs.Tables.{Lent};
-ghost use Rattle.block.specs.Area.{AllBelow, at};
-ghost use Rattle.block.specs.Locator.{tail as tailOf};
-ghost use Rattle.block.specs.Progress.{Unit, Multiple, Placed, Found};
+ghost use Rattle.field.specs.parts.Tables.{Lent};
+ghost use Rattle.block.specs.parts.Area.{AllBelow, at};
+ghost use Rattle.block.specs.parts.Locator.{tail as tailOf};
+ghost use Rattle.block.specs.parts.Progress.{Unit, Multiple, Placed, Found};
 use field::Tables;
 
 // How far the search for the locator has come: its degree at most, the place where that last changed, and what undoes the former locator's failure there.

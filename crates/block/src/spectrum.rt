@@ -4,9 +4,9 @@ ghost use lib.ListN.{length};
 ghost use Rattle.algebra.specs.Sum.{power};
 ghost use Rattle.field.specs.Fields.{Good, opsOf, alpha};
 ghost use Rattle.field.specs.Symbols.{Is, Symbols};
-ghost use Rattle.field.specs.Tables.{Lent};
-ghost use Rattle.block.specs.Area.{AllBelow};
-ghost use Rattle.block.specs.Spectrum.{SpectrumOf, Continued};
+ghost use Rattle.field.specs.parts.Tables.{Lent};
+ghost use Rattle.block.specs.parts.Area.{AllBelow};
+ghost use Rattle.block.specs.parts.Spectrum.{SpectrumOf, Continued};
 use field::Tables;
 
 // Writes values `from` .. `to - 1` of the block's spectrum, its values at powers of α, after those before; answers with the point of the next one.

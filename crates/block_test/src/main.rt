@@ -8,7 +8,7 @@ ghost use lib.ListN.{length};
 ghost use Rattle.field.specs.Fields.{Good};
 ghost use Rattle.field.specs.Symbols.{Symbols};
 ghost use Rattle.code.specs.Settings.{isSetting, settingOf};
-ghost use Rattle.tables.specs.Tables.{Ready, longestBlock};
+ghost use Rattle.tables.specs.parts.Tables.{Ready, longestBlock};
 use code::Setting;
 use field::Tables;
 use libc::STDOUT_FILENO;

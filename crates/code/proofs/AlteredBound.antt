@@ -15,7 +15,7 @@ use Rattle.algebra.specs.Weight.{total}
 use Rattle.algebra.proofs.Weights.{total-ext, total-most, total-split, total-blocks}
 use Rattle.code.specs.declared.Setting.{Setting}
 use Rattle.code.specs.Code.{limit}
-use Rattle.code.specs.Windows.{transmission, altered, Fits}
+use Rattle.code.specs.Windows.{transmission, altered, mostAltered, Fits}
 
 -- The end of a stretch is part of it.
 total-end : (a b : ℕ) (f : ℕ → ℕ) → total b (λ i. f (a + i)) ≤ total (a + b) f
@@ -96,7 +96,7 @@ covered f n m T b first near = at (ℕ-discrete e 0)
 
 -- "It is at most t × ((T+m)/(m+1), rounded up)."
 pub altered-bound : (p : Setting) (T : ℕ) (reception x : List ℕ) → Fits p T reception x
-    → altered p T reception (transmission p x) ≤ limit (p .n) (p .k) (p .m) * ((T + p .m + p .m) / (p .m + 1))
+    → altered p T reception (transmission p x) ≤ mostAltered p T
 altered-bound p T reception x F =
     covered (λ i. pick (not (eqb (getD reception i 0) (getD (transmission p x) i 0))) 1 0) (p .n) (p .m) T (limit (p .n) (p .k) (p .m))
     (F .message-of .blocks) (F .near)

@@ -10,7 +10,8 @@ use native.Mathlib.Decide.{decLt}
 use lib.ListN.{length, getD, replicate, length-append, length-replicate, List·getD-eq-default}
 use Rattle.algebra.specs.Ops.{Ops}
 use Rattle.algebra.specs.Sum.{sum, power}
-use Rattle.algebra.specs.Polynomial.{value, valueOf}
+use Rattle.algebra.specs.Polynomial.{value}
+use Rattle.algebra.specs.parts.Values.{valueOf}
 use Rattle.algebra.proofs.Laws.{Field, mul-zero, mul-comm, ring}
 use Rattle.algebra.proofs.Order.{Order}
 use Rattle.algebra.proofs.Sums.{sum-ext, sum-scale, sum-zeros, sum-single}

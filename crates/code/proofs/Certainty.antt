@@ -22,7 +22,7 @@ use Rattle.code.specs.Code.{Code, levelDistance, distancesTo}
 use Rattle.code.specs.Generator.{rowSymbol, timesG}
 use Rattle.code.specs.Transmission.{earlier, sentSymbol}
 use Rattle.code.specs.Level.{combination}
-use Rattle.code.specs.Cost.{costTo}
+use Rattle.code.specs.parts.Cost.{costTo}
 use Rattle.code.proofs.Blocks.{codeOver, timesG-ext}
 use Rattle.code.proofs.LevelCode.{combination-weight}
 

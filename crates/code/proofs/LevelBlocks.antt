@@ -1,6 +1,6 @@
 -- 01's words on a level's block code, on lists of bytes: "It consists exactly of the blocks whose polynomials vanish at α^0 .. α^(n-(l+1)k-1). Its nonzero
 -- blocks have at least d_l nonzero symbols."
--- Holds: `Vanishes`, `InLevel`; `level-vanishes`, `vanishing-in-level` (exactly those blocks), `vanishing-heavy` (d_l); `LevelCode`, `level-blocks`, all three of every setting.
+-- Holds: `level-vanishes`, `vanishing-in-level` (exactly those blocks), `vanishing-heavy` (d_l); `level-blocks`, all three of every setting.
 use mathlib.Core.Path.{_≡_, sym, ap, _∙_}
 use mathlib.Core.Bool.{not}
 use mathlib.Core.List.{List}
@@ -9,33 +9,24 @@ use native.Mathlib.Omega.{arith}
 use lib.Dec.{T, eqb}
 use lib.ListN.{length, getD}
 use Rattle.algebra.specs.Sum.{power}
-use Rattle.algebra.specs.Polynomial.{value, valueOf}
+use Rattle.algebra.specs.Polynomial.{value}
+use Rattle.algebra.specs.parts.Values.{valueOf}
 use Rattle.algebra.specs.Weight.{countOf, weight}
 use Rattle.algebra.proofs.Polynomials.{valueOf-ext}
 use Rattle.algebra.proofs.Weights.{countOf-ext}
 use Rattle.algebra.proofs.Below.{Below as Element, number, number-injective}
 use Rattle.algebra.proofs.Distance.{zero-of-vanishing}
-use Rattle.field.specs.Fields.{opsOf, alpha}
+use Rattle.field.specs.Fields.{opsOf}
 use Rattle.field.specs.Symbols.{Symbols}
 use Rattle.code.specs.declared.Setting.{Setting}
 use Rattle.code.specs.Code.{Code, levelDistance}
-use Rattle.code.specs.Level.{combination}
-use Rattle.code.specs.Settings.{codeOf, Sound, isSetting, settingOf}
+use Rattle.code.specs.Level.{combination, InLevel, Vanishes, LevelBlocks}
+use Rattle.code.specs.Settings.{Sound, settingOf}
 use Rattle.code.proofs.Blocks.{combination-vanishes}
 use Rattle.code.proofs.LevelCode.{informationOf, level-code}
 use Rattle.code.proofs.Naturality.{combination-natural}
 use Rattle.code.proofs.Settings.{soundOf, level-fits}
 use Rattle.code.proofs.Numbers.{laws, fieldOf, rootOf, orderAt, overField, keeps, number-zero, mapped-code, lifted, combination-number, received, received-number, value-number}
-
--- The block's polynomial vanishes at α^0 .. α^(n-(l+1)k-1).
-abbrev pub Vanishes : Setting → ℕ → List ℕ → Type 0
-Vanishes p l block = (s : ℕ) → s < p .n - (l + 1) * p .k → value (opsOf (p .q)) block (power (opsOf (p .q)) alpha s) ≡ 0
-
--- "Level l's block code is spanned by the rows of G_0 to G_l": the block is a combination of l+1 information blocks.
-pub record InLevel (p : Setting) (l : ℕ) (block : List ℕ) : Type 0 where
-  pub information : ℕ → ℕ → ℕ
-  pub below : (b r : ℕ) → information b r < p .q
-  pub same : (i : ℕ) → i < p .n → getD block i 0 ≡ combination (codeOf p) l information i
 
 module _ (p : Setting) (S : Sound p) (l : ℕ) (fits : (l + 1) * p .k ≤ p .n) (block : List ℕ) (long : length block ≡ p .n) (symbols : Symbols (p .q) block) where
   vanishes-over : Vanishes p l block → (s : ℕ) → s < p .n - (l + 1) * p .k → valueOf (fieldOf p S .ops) (p .n) (received p S block) (power (fieldOf p S .ops) (rootOf p S) s) ≡ fieldOf p S .ops .zero
@@ -82,15 +73,7 @@ module _ (p : Setting) (S : Sound p) (l : ℕ) (fits : (l + 1) * p .k ≤ p .n) 
       x : ℕ → ℕ → Element (p .q)
       x = informationOf (fieldOf p S) (rootOf p S) (p .n) (p .k) (p .m) (orderAt p S) l (λ s. valueOf (fieldOf p S .ops) (p .n) (received p S block) (power (fieldOf p S .ops) (rootOf p S) s))
 
--- "It consists exactly of the blocks whose polynomials vanish at α^0 .. α^(n-(l+1)k-1). Its nonzero blocks have at least d_l nonzero symbols."
-pub record LevelCode (p : Setting) (l : ℕ) (block : List ℕ) : Type 0 where
-  pub vanishes : InLevel p l block → Vanishes p l block
-  pub exactly : Vanishes p l block → InLevel p l block
-  pub heavy : InLevel p l block → (i : ℕ) → i < p .n → (getD block i 0 ≡ 0 → ⊥)
-      → levelDistance (p .n) (p .k) l ≤ countOf (p .n) (λ i. not (eqb (getD block i 0) 0))
-
-pub level-blocks : (s : ℕ) → T (isSetting s) → (l : ℕ) → l ≤ settingOf s .m → (block : List ℕ) → length block ≡ settingOf s .n → Symbols (settingOf s .q) block
-    → LevelCode (settingOf s) l block
+pub level-blocks : LevelBlocks
 level-blocks s t l low block long symbols =
     record {
       vanishes = level-vanishes p S l fits block long symbols;

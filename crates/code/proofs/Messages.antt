@@ -12,9 +12,9 @@ use Rattle.algebra.proofs.Weights.{total-ext}
 use Rattle.code.specs.declared.Setting.{Setting}
 use Rattle.code.specs.Code.{distancesTo}
 use Rattle.code.specs.Transmission.{view, sentSymbol}
-use Rattle.code.specs.Cost.{symbolCost, costTo}
+use Rattle.code.specs.parts.Cost.{symbolCost, costTo}
 use Rattle.code.specs.Windows.{Message}
-use Rattle.code.specs.Reading.{messageCost, NearWindow}
+use Rattle.code.specs.parts.Reading.{messageCost, NearWindow}
 use Rattle.code.proofs.Certainty.{block-certain, agree-through}
 use Rattle.code.proofs.Lists.{equal-part}
 use Rattle.code.specs.Settings.{codeOf, Sound}

@@ -8,14 +8,14 @@ use lib.Dec.{leb}
 use lib.ListN.{getD, replicate, List·getD-map}
 use Rattle.algebra.specs.Ops.{Ops, pick}
 use Rattle.algebra.specs.Sum.{power}
-use Rattle.algebra.specs.Polynomial.{falling}
+use Rattle.algebra.specs.parts.Values.{falling}
 use Rattle.algebra.proofs.Sums.{sum-ext}
 use Rattle.algebra.proofs.Naturality.{Homomorphism, sum-natural, power-natural, falling-natural, fromRoots-natural}
 use Rattle.code.specs.Code.{Code}
 use Rattle.code.specs.Generator.{points, base, rowSymbol, timesG}
 use Rattle.code.specs.Transmission.{earlier, sentSymbol}
 use Rattle.code.specs.Level.{combination}
-use Rattle.code.specs.Recovery.{ending}
+use Rattle.code.specs.parts.Recovery.{ending}
 use Rattle.code.proofs.Blocks.{timesG-ext}
 
 -- The code with α mapped, over other operations.

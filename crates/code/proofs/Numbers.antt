@@ -8,7 +8,8 @@ use lib.Arith.{digits-div}
 use lib.ListN.{length, getD}
 use Rattle.algebra.specs.Ops.{sub}
 use Rattle.algebra.specs.Sum.{power}
-use Rattle.algebra.specs.Polynomial.{value, valueOf}
+use Rattle.algebra.specs.Polynomial.{value}
+use Rattle.algebra.specs.parts.Values.{valueOf}
 use Rattle.algebra.proofs.Laws.{Field}
 use Rattle.algebra.proofs.Order.{Order}
 use Rattle.algebra.proofs.Polynomials.{valueOf-ext, value-is-valueOf}
@@ -23,7 +24,7 @@ use Rattle.code.specs.Code.{Code}
 use Rattle.code.specs.Generator.{rowSymbol, timesG}
 use Rattle.code.specs.Transmission.{view, sentSymbol}
 use Rattle.code.specs.Level.{combination}
-use Rattle.code.specs.Recovery.{ending}
+use Rattle.code.specs.parts.Recovery.{ending}
 use Rattle.code.specs.Settings.{codeOf}
 use Rattle.code.specs.Windows.{transmission, Message}
 use Rattle.code.proofs.Blocks.{codeOver, combination-ext}

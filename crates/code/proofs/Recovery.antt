@@ -13,7 +13,8 @@ use lib.Seq.{getD-append-add}
 use borrow.Author.Tests.{eq-eqb, ne-eqb}
 use Rattle.algebra.specs.Ops.{Ops, sub, pick}
 use Rattle.algebra.specs.Sum.{sum, power}
-use Rattle.algebra.specs.Polynomial.{value, valueOf, falling}
+use Rattle.algebra.specs.Polynomial.{value}
+use Rattle.algebra.specs.parts.Values.{valueOf, falling}
 use Rattle.algebra.proofs.Laws.{Field, mul-one, mul-eq-zero, add-assoc, add-left-comm, add-neg, add-zero, eq-of-sub, sub-self, ring}
 use Rattle.algebra.proofs.Order.{Order}
 use Rattle.algebra.proofs.Sums.{sum-ext, sum-add, sum-single}
@@ -23,7 +24,7 @@ use Rattle.algebra.proofs.Distance.{zero-of-vanishing, coefficients-of-vanishin
 use Rattle.algebra.proofs.Synthesis.{power-back, synthesis, synthesis-low, synthesis-high}
 use Rattle.code.specs.Code.{Code}
 use Rattle.code.specs.Generator.{points, base, rowSymbol, timesG}
-use Rattle.code.specs.Recovery.{ending, Recovered}
+use Rattle.code.specs.parts.Recovery.{ending, Recovered}
 use Rattle.code.proofs.Blocks.{codeOver, length-points, length-base, base-nonzero, part, part-low, valueOf-timesG}
 
 module _ {F : Type 0} (K : Field F) (α : F) (n k m : ℕ) where

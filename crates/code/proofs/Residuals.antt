@@ -17,10 +17,10 @@ use Rattle.field.proofs.Symbols.{symbol-below}
 use Rattle.code.specs.declared.Setting.{Setting}
 use Rattle.code.specs.Transmission.{view, sentSymbol}
 use Rattle.code.specs.Level.{combination}
-use Rattle.code.specs.Cost.{symbolCost, costTo, blockCost, rebuiltCost}
+use Rattle.code.specs.parts.Cost.{symbolCost, costTo, blockCost, rebuiltCost}
 use Rattle.code.specs.Settings.{codeOf, Sound}
 use Rattle.code.specs.Windows.{windowLength, Message}
-use Rattle.code.specs.Reading.{Below, windowCost, zeroCost, messageCost, Residual}
+use Rattle.code.specs.parts.Reading.{Below, windowCost, zeroCost, messageCost, Residual}
 use Rattle.code.proofs.Blocks.{combination-ext}
 use Rattle.code.proofs.Windows.{sent-sub, sent-ahead}
 use Rattle.code.proofs.Numbers.{laws, positive, fieldOf, rootOf, overField, keeps, number-zero, number-sub, lifted, number-lifted, sent-number, combination-number, message-below, sent-below}

@@ -19,7 +19,7 @@ use Rattle.algebra.proofs.Weights.{total-ext}
 use Rattle.code.specs.Code.{Code, levelDistance, distancesTo}
 use Rattle.code.specs.Generator.{timesG}
 use Rattle.code.specs.Transmission.{earlier, sentSymbol}
-use Rattle.code.specs.Cost.{costTo, blockCost, rebuiltCost}
+use Rattle.code.specs.parts.Cost.{costTo, blockCost, rebuiltCost}
 use Rattle.code.proofs.Blocks.{codeOver, timesG-ext, combination-ext}
 use Rattle.code.proofs.Certainty.{timesG-zeros, block-certain}
 use Rattle.code.proofs.Windows.{sent-ahead, combination-certain}

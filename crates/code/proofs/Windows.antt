@@ -15,7 +15,7 @@ use Rattle.code.specs.Code.{Code, levelDistance}
 use Rattle.code.specs.Generator.{timesG}
 use Rattle.code.specs.Transmission.{earlier, sentSymbol}
 use Rattle.code.specs.Level.{combination}
-use Rattle.code.specs.Cost.{blockCost}
+use Rattle.code.specs.parts.Cost.{blockCost}
 use Rattle.code.proofs.Blocks.{codeOver, timesG-ext, combination-ext}
 use Rattle.code.proofs.LevelCode.{combination-weight}
 use Rattle.code.proofs.Certainty.{sum-sub, timesG-sub, timesG-zeros, sent-difference, weight-apart}

@@ -1,10 +1,9 @@
--- The code in 01's order and words: the generator, the transmission, the level codes, costs, the settings, windows and fits, reading.
+-- The code in 01's order and words: the generator, the transmission, the settings, the level codes, windows and fits, demand 3.
 pub mod Code
 pub mod Generator
 pub mod Transmission
-pub mod Level
-pub mod Cost
-pub mod Recovery
 pub mod Settings
+pub mod Level
 pub mod Windows
-pub mod Reading
+pub mod Demand3
+pub mod parts

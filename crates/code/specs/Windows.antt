@@ -1,5 +1,5 @@
 -- Transmissions, windows and fits on lists of bytes, as the demands and 01 word them.
--- Holds: `transmission`, `windowLength`, `mostWindow`, `windowDistance`, `altered`, `Message`, `Fits`.
+-- Holds: `transmission`, `windowLength`, `mostWindow`, `windowDistance`, `altered`, `mostAltered`, `Message`, `WithinLimit`, `Fits`.
 use mathlib.Core.Path.{_≡_}
 use mathlib.Core.List.{List}
 use Prim.Native.Nat.{ℕ, _+_, _*_, _/_, _%_, _≤_, _<_}
@@ -33,15 +33,23 @@ windowDistance p a b j = distance (windowLength p) (λ i. getD a (j * p .n + i) 
 abbrev pub altered : Setting → ℕ → List ℕ → List ℕ → ℕ
 altered p T reception sent = distance ((T + p .m) * p .n) (λ i. getD reception i 0) (λ i. getD sent i 0)
 
+-- "It is at most t × ((T+m)/(m+1), rounded up)."
+abbrev pub mostAltered : Setting → ℕ → ℕ
+mostAltered p T = limit (p .n) (p .k) (p .m) * ((T + p .m + p .m) / (p .m + 1))
+
 -- A message of T information blocks: T × k symbols below q.
 pub record Message (p : Setting) (T : ℕ) (message : List ℕ) : Type 0 where
   pub blocks : 1 ≤ T
   pub long : length message ≡ T * p .k
   pub symbols : Symbols (p .q) message
 
+-- Over window j the reception differs from the message's transmission in at most t symbols.
+abbrev pub WithinLimit : Setting → List ℕ → List ℕ → ℕ → Type 0
+WithinLimit p reception message j = windowDistance p reception (transmission p message) j ≤ limit (p .n) (p .k) (p .m)
+
 -- "A message fits a reception (the received word) of its setting and length when, in every window, its transmission differs from the reception in
 -- at most t symbols." Any bytes may stand in a reception.
 pub record Fits (p : Setting) (T : ℕ) (reception message : List ℕ) : Type 0 where
   pub message-of : Message p T message
   pub long : length reception ≡ (T + p .m) * p .n
-  pub near : (j : ℕ) → j < T → windowDistance p reception (transmission p message) j ≤ limit (p .n) (p .k) (p .m)
+  pub near : (j : ℕ) → j < T → WithinLimit p reception message j

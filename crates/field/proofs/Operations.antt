@@ -15,7 +15,7 @@ use Rattle.field.specs.Modular.{modular}
 use Rattle.field.specs.Binary.{binary}
 use Rattle.field.specs.Fields.{five, eight, opsOf, Good, five-elements, eight-elements}
 use Rattle.field.specs.Symbols.{Is}
-use Rattle.field.specs.Tables.{Lent}
+use Rattle.field.specs.parts.Tables.{Lent}
 use Rattle.field.proofs.Laws.{lawsOf}
 
 -- The operations with five elements.

@@ -4,4 +4,4 @@ pub mod Modular
 pub mod Binary
 pub mod Fields
 pub mod Symbols
-pub mod Tables
+pub mod parts

@@ -7,7 +7,7 @@ ghost use Rattle.algebra.specs.Ops.{sub};
 ghost use Rattle.algebra.specs.Polynomial as polynomial;
 ghost use Rattle.field.specs.Fields.{Good, opsOf};
 ghost use Rattle.field.specs.Symbols.{Symbols, Is};
-ghost use Rattle.field.specs.Tables.{Lent};
+ghost use Rattle.field.specs.parts.Tables.{Lent};
 
 // The products of a field, with room for the larger: a × b in row a, place b.
 pub type Tables = [[u8; 8]; 8];

@@ -12,9 +12,9 @@ use Rattle.code.specs.declared.Setting.{Setting}
 use Rattle.code.specs.Code.{distancesTo}
 use Rattle.code.specs.Settings.{Sound}
 use Rattle.code.specs.Windows.{windowLength}
-use Rattle.code.specs.Reading.{zeroCost}
-use Rattle.frame.specs.Window.{Near, Levels, served, none-serves}
-use Rattle.frame.specs.Frame.{Progress, Added, NoneFits, Advanced, advanced, stopped}
+use Rattle.code.specs.parts.Reading.{zeroCost}
+use Rattle.frame.specs.parts.Window.{Near, Levels, served, none-serves}
+use Rattle.frame.specs.parts.Frame.{Progress, Added, NoneFits, Advanced, advanced, stopped}
 use Rattle.frame.proofs.Guesses.{windowAt, added-zero}
 use Rattle.frame.proofs.Turn.{window-clean}
 use Rattle.frame.proofs.Progress.{progress-found, progress-none}

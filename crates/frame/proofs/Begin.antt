@@ -8,7 +8,7 @@ use Rattle.field.specs.Symbols.{Symbols}
 use Rattle.code.specs.declared.Setting.{Setting}
 use Rattle.code.specs.Settings.{Sound}
 use Rattle.code.proofs.Lists.{copied-whole}
-use Rattle.frame.specs.Frame.{Progress}
+use Rattle.frame.specs.parts.Frame.{Progress}
 use Rattle.frame.proofs.Progress.{progress-start}
 
 pub begin : (p : Setting) → Sound p → (T : ℕ) (reception area cleared message after : List ℕ) → Symbols (p .q) reception → length reception ≡ (T + p .m) * p .n

@@ -19,14 +19,14 @@ use Rattle.code.specs.Code.{distancesTo}
 use Rattle.code.specs.Transmission.{view}
 use Rattle.code.specs.Settings.{Sound}
 use Rattle.code.specs.Windows.{transmission, windowLength, altered, Message}
-use Rattle.code.specs.Reading.{zeroCost, messageCost, NearWindow, Residual}
+use Rattle.code.specs.parts.Reading.{zeroCost, messageCost, NearWindow, Residual}
 use Rattle.code.proofs.Messages.{place-in-blocks}
 use Rattle.code.proofs.Settings.{block-positive}
 use Rattle.code.proofs.Numbers.{positive, transmission-view}
 use Rattle.code.proofs.Cost.{fits-cost, fits-near}
 use Rattle.code.proofs.Residuals.{residual-zero}
 use Rattle.code.proofs.ResidualSteps.{residual-back, residual-test}
-use Rattle.frame.specs.Frame.{Progress, NoneFits, FrameRead, fits, none, Compared, all-near, one-far}
+use Rattle.frame.specs.parts.Frame.{Progress, NoneFits, FrameRead, fits, none, Compared, all-near, one-far}
 
 module _ (p : Setting) (S : Sound p) (T : ℕ) (reception message left : List ℕ) (R : Symbols (p .q) reception) (M : Message p T message)
     (residual : Residual p T reception message left) where

@@ -22,14 +22,14 @@ use Rattle.code.specs.Generator.{rowSymbol, timesG}
 use Rattle.code.specs.Transmission.{view}
 use Rattle.code.specs.Settings.{codeOf, Sound}
 use Rattle.code.specs.Windows.{windowLength}
-use Rattle.code.specs.Reading.{only}
+use Rattle.code.specs.parts.Reading.{only}
 use Rattle.code.proofs.Numbers.{laws, positive, rowSymbol-below}
 use Rattle.code.proofs.Settings.{block-positive}
 use Rattle.code.proofs.Residuals.{window-view, add-opposite}
 use Rattle.code.proofs.ResidualSteps.{timesG-only, lessened, residual-step}
-use Rattle.tables.specs.Adding.{plusRow, RowsAdded}
+use Rattle.tables.specs.parts.Adding.{plusRow, RowsAdded}
 use Rattle.tables.proofs.Parts.{put-length, put-before, put-inside, put-after, put-symbols}
-use Rattle.frame.specs.Frame.{Areas, Revised, Adjusted, Added}
+use Rattle.frame.specs.parts.Frame.{Areas, Revised, Adjusted, Added}
 
 -- Window j of what is left.
 abbrev pub windowAt : Setting → List ℕ → ℕ → List ℕ

@@ -14,12 +14,12 @@ use Rattle.code.specs.declared.Setting.{Setting}
 use Rattle.code.specs.Code.{distancesTo}
 use Rattle.code.specs.Transmission.{view}
 use Rattle.code.specs.Level.{combination}
-use Rattle.code.specs.Cost.{symbolCost, blockCost, rebuiltCost}
+use Rattle.code.specs.parts.Cost.{symbolCost, blockCost, rebuiltCost}
 use Rattle.code.specs.Settings.{codeOf}
-use Rattle.code.specs.Reading.{levelCost, windowCost}
+use Rattle.code.specs.parts.Reading.{levelCost, windowCost}
 use Rattle.code.proofs.Cost.{cost-most}
 use Rattle.tables.proofs.Parts.{part-symbol}
-use Rattle.block.specs.Area.{at}
+use Rattle.block.specs.parts.Area.{at}
 
 pub distances-none : (n k : ℕ) → n - (0 + 1) * k + 1 ≡ distancesTo n k 0
 unfolding distancesTo

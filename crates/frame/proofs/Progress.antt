@@ -14,14 +14,14 @@ use Rattle.field.proofs.Symbols.{symbol-below, symbols-zeros}
 use Rattle.code.specs.declared.Setting.{Setting}
 use Rattle.code.specs.Settings.{Sound}
 use Rattle.code.specs.Windows.{Fits}
-use Rattle.code.specs.Reading.{Below}
+use Rattle.code.specs.parts.Reading.{Below}
 use Rattle.code.proofs.Lists.{getD-zeros}
 use Rattle.code.proofs.Numbers.{positive}
 use Rattle.code.proofs.Cost.{fits-near}
 use Rattle.code.proofs.Residuals.{ahead, ahead-below, add-back, residual-window}
 use Rattle.code.proofs.ResidualSteps.{residual-start}
-use Rattle.frame.specs.Window.{Near}
-use Rattle.frame.specs.Frame.{Progress, Revised, Added, NoneFits}
+use Rattle.frame.specs.parts.Window.{Near}
+use Rattle.frame.specs.parts.Frame.{Progress, Revised, Added, NoneFits}
 use Rattle.frame.proofs.Guesses.{windowAt}
 
 module _ (p : Setting) (S : Sound p) (T : ℕ) (reception : List ℕ) (R : Symbols (p .q) reception) (long : length reception ≡ (T + p .m) * p .n) where

@@ -11,9 +11,9 @@ use Rattle.algebra.proofs.Tests.{false-not-true}
 use Rattle.code.specs.declared.Setting.{Setting}
 use Rattle.code.specs.Transmission.{view}
 use Rattle.code.specs.Settings.{Sound}
-use Rattle.code.specs.Reading.{Below}
+use Rattle.code.specs.parts.Reading.{Below}
 use Rattle.code.proofs.Reading.{first-certain, level-drops, level-ends}
-use Rattle.frame.specs.Window.{Near, Tried, serves, fails, Levels, served, none-serves}
+use Rattle.frame.specs.parts.Window.{Near, Tried, serves, fails, Levels, served, none-serves}
 
 -- Levels from l on failed: y is near at level l - 1, and not at all if there is none.
 reach : Setting → List ℕ → ℕ → (ℕ → ℕ → ℕ) → Type 0

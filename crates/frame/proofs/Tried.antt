@@ -10,11 +10,11 @@ use Rattle.code.specs.declared.Setting.{Setting}
 use Rattle.code.specs.Code.{distancesTo}
 use Rattle.code.specs.Transmission.{view}
 use Rattle.code.specs.Settings.{Sound}
-use Rattle.code.specs.Reading.{windowCost}
+use Rattle.code.specs.parts.Reading.{windowCost}
 use Rattle.code.proofs.Reading.{level-refused}
-use Rattle.block.specs.Area.{AllBelow}
-use Rattle.block.specs.Step.{Step, near, far}
-use Rattle.frame.specs.Window.{Tried, serves, fails}
+use Rattle.block.specs.parts.Area.{AllBelow}
+use Rattle.block.specs.parts.Step.{Step, near, far}
+use Rattle.frame.specs.parts.Window.{Tried, serves, fails}
 use Rattle.frame.proofs.Levels.{part-cost}
 
 -- The block step's information has symbols below q, if it answered "near".

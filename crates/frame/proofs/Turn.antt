@@ -9,11 +9,11 @@ use Rattle.code.specs.declared.Setting.{Setting}
 use Rattle.code.specs.Code.{distancesTo}
 use Rattle.code.specs.Settings.{Sound}
 use Rattle.code.specs.Windows.{windowLength}
-use Rattle.code.specs.Reading.{Below, windowCost, zeroCost}
+use Rattle.code.specs.parts.Reading.{Below, windowCost, zeroCost}
 use Rattle.code.proofs.Numbers.{positive}
 use Rattle.code.proofs.Reading.{zero-cost, first-certain}
-use Rattle.block.specs.Area.{AllBelow}
-use Rattle.frame.specs.Window.{Near, Levels, served, none-serves}
+use Rattle.block.specs.parts.Area.{AllBelow}
+use Rattle.frame.specs.parts.Window.{Near, Levels, served, none-serves}
 
 -- A window that costs little against zeros is near the zero information: the first information block of every near y is zero.
 pub window-clean : (p : Setting) → Sound p → (window : List ℕ) → length window ≡ windowLength p → zeroCost (p .q) window < distancesTo (p .n) (p .k) (p .m)

@@ -1,3 +1,2 @@
 -- What reading a window and a frame promise of one another.
-pub mod Window
-pub mod Frame
+pub mod parts

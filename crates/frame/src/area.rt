@@ -5,7 +5,7 @@ ghost use Prim.Native.Nat.{ℕ};
 ghost use lib.Dec.{eqb};
 ghost use lib.ListN.{length, getD};
 ghost use Rattle.algebra.specs.Weight.{countOf};
-ghost use Rattle.code.specs.Reading.{zeroCost};
+ghost use Rattle.code.specs.parts.Reading.{zeroCost};
 
 // How many symbols are not zero.
 pub fn weight(symbols: &[u8]) -> usize

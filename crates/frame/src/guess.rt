@@ -3,8 +3,8 @@ ghost use Prim.Native.Nat.{_+_, _*_, _≤_, _<_};
 ghost use lib.ListN.{length, getD};
 ghost use Rattle.field.specs.Symbols.{Symbols};
 ghost use Rattle.code.specs.Settings.{Sound};
-ghost use Rattle.tables.specs.Tables.{Ready};
-ghost use Rattle.frame.specs.Frame.{Areas, Revised, Adjusted, Added};
+ghost use Rattle.tables.specs.parts.Tables.{Ready};
+ghost use Rattle.frame.specs.parts.Frame.{Areas, Revised, Adjusted, Added};
 use code::Setting;
 use field::Tables;
 

@@ -5,9 +5,9 @@ ghost use lib.ListN.{length};
 ghost use Rattle.field.specs.Symbols.{Symbols};
 ghost use Rattle.code.specs.Code.{distancesTo};
 ghost use Rattle.code.specs.Settings.{Sound};
-ghost use Rattle.tables.specs.Tables.{Ready};
-ghost use Rattle.block.specs.Area.{Working};
-ghost use Rattle.frame.specs.Frame.{Progress, Advanced, Compared, FrameRead};
+ghost use Rattle.tables.specs.parts.Tables.{Ready};
+ghost use Rattle.block.specs.parts.Area.{Working};
+ghost use Rattle.frame.specs.parts.Frame.{Progress, Advanced, Compared, FrameRead};
 use code::Setting;
 use field::Tables;
 

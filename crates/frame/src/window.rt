@@ -7,10 +7,10 @@ ghost use Rattle.code.specs.Code.{distancesTo};
 ghost use Rattle.code.specs.Transmission.{view};
 ghost use Rattle.code.specs.Settings.{Sound};
 ghost use Rattle.code.specs.Windows.{windowLength};
-ghost use Rattle.code.specs.Reading.{windowCost};
-ghost use Rattle.tables.specs.Tables.{Ready};
-ghost use Rattle.block.specs.Area.{AllBelow, Working};
-ghost use Rattle.frame.specs.Window.{Tried, Levels};
+ghost use Rattle.code.specs.parts.Reading.{windowCost};
+ghost use Rattle.tables.specs.parts.Tables.{Ready};
+ghost use Rattle.block.specs.parts.Area.{AllBelow, Working};
+ghost use Rattle.frame.specs.parts.Window.{Tried, Levels};
 use code::Setting;
 use field::Tables;
 

@@ -1,18 +1,18 @@
--- The altered count that a decoding call returns "is at most t × ((T+m)/(m+1), rounded up)" (01, "Reading a reception"). Holds: `count-bound`.
+-- The bound of the altered count that a decoding call returns (01, "Reading a reception"). Holds: `count-bound`.
 use mathlib.Core.Path.{_≡_, refl, sym, ap, subst, _∙_}
 use mathlib.Core.Bool.{Bool, true, false}
 use mathlib.Core.List.{List, [], _∷_}
-use Prim.Native.Nat.{ℕ, _+_, _*_, _/_, _≤_}
+use Prim.Native.Nat.{ℕ, _≤_}
 use native.Mathlib.Omega.{arith}
 use lib.ListN.{length}
 use Rattle.algebra.specs.Ops.{pick}
 use Rattle.code.specs.declared.Setting.{Setting}
-use Rattle.code.specs.Code.{limit}
 use Rattle.code.specs.Settings.{settingOf}
+use Rattle.code.specs.Windows.{mostAltered}
 use Rattle.code.proofs.AlteredBound.{altered-bound}
 use Rattle.link.specs.declared.Answer.{Answer}
 use Rattle.link.specs.Questions.{Question, answer, firstNo, blocksOf, decodingQuestions}
-use Rattle.link.specs.Decoding.{FrameDecoded, found, none-fits, Decoded, refused, well-formed}
+use Rattle.link.specs.Decoding.{FrameDecoded, found, none-fits, refused, well-formed, CountBound}
 
 -- "The count is 0" after a "no".
 first-no-count : (l : List Question) → firstNo l .altered ≡ 0
@@ -22,10 +22,6 @@ first-no-count (x ∷ rest) = at (x .holds) (first-no-count rest)
     at : (b : Bool) → firstNo rest .altered ≡ 0 → pick b (firstNo rest) (answer (x .number) (x .place) 0) .altered ≡ 0
     at true e = e
     at false e = refl
-
--- t × ((T+m)/(m+1), rounded up)
-abbrev pub mostAltered : Setting → ℕ → ℕ
-mostAltered p T = limit (p .n) (p .k) (p .m) * ((T + p .m + p .m) / (p .m + 1))
 
 zero-count : (r : Answer) (most : ℕ) → r .altered ≡ 0 → r .altered ≤ most
 zero-count r most e = omega arith
@@ -37,9 +33,7 @@ frame-count-bound p T reception {r} {message} (found F e t) =
     subst (λ (t : ℕ). t ≤ mostAltered p T) (sym (ap (λ (a : Answer). a .altered) e)) (altered-bound p T reception message F)
 frame-count-bound p T reception {r} (none-fits far e f t) = zero-count r (mostAltered p T) (ap (λ (a : Answer). a .altered) e)
 
--- Whatever was received and lent.
-pub count-bound : (number : ℕ) (reception message sent : List ℕ) (r : Answer) (message' sent' : List ℕ) → Decoded number reception message sent r message' sent'
-    → r .altered ≤ mostAltered (settingOf number) (blocksOf (settingOf number) (length reception))
+pub count-bound : CountBound
 count-bound number reception message sent r message' sent' (refused h e f g) =
     zero-count r (mostAltered (settingOf number) (blocksOf (settingOf number) (length reception)))
     (ap (λ (a : Answer). a .altered) e ∙ first-no-count (decodingQuestions number reception (length message) (length sent)))

@@ -20,12 +20,13 @@ use Rattle.code.specs.Settings.{settingOf, Sound}
 use Rattle.code.specs.Windows.{transmission}
 use Rattle.code.proofs.Numbers.{transmission-length}
 use Rattle.code.proofs.Settings.{Sizes, sizesOf}
-use Rattle.frame.specs.Frame.{FrameRead, fits, none}
+use Rattle.frame.specs.parts.Frame.{FrameRead, fits, none}
 use Rattle.frame.proofs.Ends.{left-altered, left-back}
 use Rattle.link.specs.declared.Answer.{Answer}
 use Rattle.link.specs.Questions.{answer, firstNo, mostBlocks, blocksOf, decodingQuestions}
 use Rattle.link.proofs.Answers.{decoding-yes}
-use Rattle.link.specs.Decoding.{Restored, FrameDecoded, found, none-fits, Decoded, refused, well-formed}
+use Rattle.link.specs.parts.Restoring.{Restored}
+use Rattle.link.specs.Decoding.{FrameDecoded, found, none-fits, Decoded, refused, well-formed}
 
 module _ (q : ℕ) (reception before : List ℕ) where
   pub restored-none : Restored q 0 reception before before

@@ -3,6 +3,7 @@ pub mod Answers
 pub mod Sending
 pub mod Encoding
 pub mod Bits
+pub mod Counted
 pub mod Windows
 pub mod Samples
 pub mod Decoding

@@ -1,6 +1,5 @@
--- What is said of an order that was worked through (01; order, message: the information word), of any kind, and the computed test from which it follows.
--- Holds: `Order`; `Kept`, what is said of an order: the call's promise, whatever memory is lent, gives what the order says; `ordersTest`, which the checker
--- computes; the lemma of each kind of order, `encoding-order`, `read-order`, `seven-order`; `each-kept`, for a whole list.
+-- What is said of an order that was worked through (specs/Orders), of any kind, follows from a computed test.
+-- Holds: `ordersTest`, which the checker computes; the lemma of each kind of order, `encoding-order`, `read-order`, `seven-order`; `each-kept`, for a whole list.
 use mathlib.Core.Path.{_≡_, refl, sym, ap, ap₂, subst, _∙_}
 use mathlib.Core.Bool.{Bool, true, false, _&&_}
 use mathlib.Core.List.{List, [], _∷_, _++_, List·Memᴰ, List·Memᴰ·not-nil, List·Memᴰ·cases-cons}
@@ -22,39 +21,9 @@ use Rattle.code.proofs.Search.{fitsTest, fits-of-test, noneFits, no-message-fit
 use Rattle.link.specs.declared.Answer.{Answer}
 use Rattle.link.specs.Questions.{answer, firstNo, blocksOf, decodingQuestions, encodingQuestions}
 use Rattle.link.specs.Encoding.{Encoded, encodedArea}
+use Rattle.link.specs.Orders.{Call, encoding, decoding, Order, Promised, Begun, Kept}
 use Rattle.link.specs.Decoding.{FrameDecoded, found, none-fits, Decoded, refused, well-formed}
 use Rattle.link.proofs.Answers.{all-yes, yes-all, decoding-yes}
-
-pub data Call : Type 0 where
-  encoding : Call
-  decoding : Call
-
--- Which call, on which setting, what is given (a message to encode, a reception to decode), and what comes back: the answer's number, place and count,
--- the message and the transmission.
-pub record Order : Type 0 where
-  pub call : Call
-  pub setting : ℕ
-  pub given : List ℕ
-  pub number : ℕ
-  pub place : ℕ
-  pub count : ℕ
-  pub message : List ℕ
-  pub sent : List ℕ
-
--- The area holds these bytes, and past them what it held.
-abbrev pub Begun : List ℕ → List ℕ → List ℕ → Type 0
-Begun front before after = after ≡ front ++ drop (length front) before
-
--- What 01 says of an order is said of every answer r and all memory that the call's promise allows, whatever areas were lent, if they are long enough.
-abbrev pub Promised : Call → Order → Type 0
-Promised encoding o = (before after : List ℕ) (r : Answer) → length (o .sent) ≤ length before → Encoded (o .setting) (o .given) before r after
-    → (r ≡ answer (o .number) (o .place) (o .count)) × Begun (o .sent) before after
-Promised decoding o = (message message' sent sent' : List ℕ) (r : Answer) → length (o .message) ≤ length message → length (o .sent) ≤ length sent
-    → Decoded (o .setting) (o .given) message sent r message' sent'
-    → (r ≡ answer (o .number) (o .place) (o .count)) × Begun (o .message) message message' × Begun (o .sent) sent sent'
-
-abbrev pub Kept : Order → Type 0
-Kept o = Promised (o .call) o
 
 -- The tests.
 unfoldable pub sameList : List ℕ → List ℕ → Bool

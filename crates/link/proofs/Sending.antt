@@ -21,10 +21,10 @@ use Rattle.code.proofs.Numbers.{laws, positive, message-below, transmission-vie
 use Rattle.code.proofs.Settings.{block-positive}
 use Rattle.code.proofs.Messages.{place-in-blocks}
 use Rattle.code.proofs.ResidualSteps.{residual-start}
-use Rattle.tables.specs.Adding.{RowsAdded}
-use Rattle.frame.specs.Frame.{Adjusted}
+use Rattle.tables.specs.parts.Adding.{RowsAdded}
+use Rattle.frame.specs.parts.Frame.{Adjusted}
 use Rattle.frame.proofs.Guesses.{symbol-room, adjusted}
-use Rattle.link.specs.Sending.{SentTo}
+use Rattle.link.specs.parts.Sending.{SentTo}
 
 module _ (p : Setting) (S : Sound p) (T : ℕ) (message : List ℕ) (M : Message p T message) where
   -- Nothing was sent: the whole message is the rest, and the area is zero.

@@ -1,22 +1,14 @@
 -- What decoding promises (demands 1 and 2; 01, "Questions, asked in this order"). Holds: `FrameDecoded`, the two answers to question 7; `DecodedIn`, these
--- in lent areas; `Decoded`, a whole call. `Restored` is what its parts promise one another.
+-- in lent areas; `Decoded`, a whole call; what is proved of its count, `CountBound`.
 use mathlib.Core.Path.{_≡_}
 use mathlib.Core.List.{List, _++_}
-use Prim.Native.Nat.{ℕ, _+_, _*_, _≤_, _<_}
-use lib.ListN.{length, getD, drop, replicate}
-use Rattle.algebra.specs.Ops.{sub}
-use Rattle.field.specs.Fields.{opsOf}
+use Prim.Native.Nat.{ℕ, _+_, _*_, _≤_}
+use lib.ListN.{length, drop, replicate}
 use Rattle.code.specs.declared.Setting.{Setting}
 use Rattle.code.specs.Settings.{settingOf}
-use Rattle.code.specs.Windows.{transmission, altered, Fits}
+use Rattle.code.specs.Windows.{transmission, altered, mostAltered, Fits}
 use Rattle.link.specs.declared.Answer.{Answer}
 use Rattle.link.specs.Questions.{answer, firstNo, blocksOf, decodingQuestions}
-
--- The first `count` places hold the reception less what was left there, the others what they held.
-pub record Restored (q count : ℕ) (reception before after : List ℕ) : Type 0 where
-  pub long : length after ≡ length before
-  pub inside : (i : ℕ) → i < count → getD after i 0 ≡ sub (opsOf q) (getD reception i 0) (getD before i 0)
-  pub outside : (i : ℕ) → count ≤ i → getD after i 0 ≡ getD before i 0
 
 -- Question 7, "Does some message fit?", of a reception of T+m blocks: the answer, and what it puts in the first T × k bytes of the message area and in the
 -- first (T+m) × n of the transmission area.
@@ -46,3 +38,9 @@ pub data Decoded (number : ℕ) (reception message transmitted : List ℕ) (r : 
   well-formed : firstNo (decodingQuestions number reception (length message) (length transmitted)) .number ≡ 0
       → DecodedIn (settingOf number) (blocksOf (settingOf number) (length reception)) reception message transmitted r message' transmitted'
       → Decoded number reception message transmitted r message' transmitted'
+
+-- The count that a call returns "is at most t × ((T+m)/(m+1), rounded up)", whatever was received and lent (`count-bound`, proofs/CountBound).
+abbrev pub CountBound : Type 0
+CountBound = (number : ℕ) (reception message transmitted : List ℕ) (r : Answer) (message' transmitted' : List ℕ)
+    → Decoded number reception message transmitted r message' transmitted'
+    → r .altered ≤ mostAltered (settingOf number) (blocksOf (settingOf number) (length reception))

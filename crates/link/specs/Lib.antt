@@ -4,4 +4,6 @@ pub mod Encoding
 pub mod Display
 pub mod Marks
 pub mod Decoding
-pub mod Sending
+pub mod Demand3
+pub mod Orders
+pub mod parts

@@ -1,9 +1,10 @@
 -- What marking differences promises (01: "Another call marks the differences of a reception and a transmission in window j, in 32 bits, one bit a
--- symbol, the earliest lowest, and gives how many marks are set"). Holds: `bits`, `marksOf`, `Marked`.
+-- symbol, the earliest lowest, and gives how many marks are set"). Holds: `bits`, `marksOf`, `Marked`; `SetCounts`.
 use mathlib.Core.Path.{_≡_}
 use mathlib.Core.Bool.{Bool, not}
 use mathlib.Core.List.{List}
 use Prim.Native.Nat.{ℕ, zero, suc, _+_, _*_}
+use lib.Count.{ones}
 use lib.Dec.{eqb}
 use lib.ListN.{length, getD}
 use Rattle.algebra.specs.Ops.{pick}
@@ -27,3 +28,7 @@ pub record Marked (number : ℕ) (reception sent : List ℕ) (j : ℕ) (r : Mark
   pub answered : r .answer ≡ firstNo (marksQuestions number (length reception) (length sent) j)
   pub marks : r .marks ≡ pick (eqb (r .answer .number) 0) (marksOf (settingOf number) reception sent j) 0
   pub set : r .set ≡ pick (eqb (r .answer .number) 0) (windowDistance (settingOf number) reception sent j) 0
+
+-- As many marks are set as `set` says (`set-counts`, proofs/Counted).
+abbrev pub SetCounts : Type 0
+SetCounts = (number : ℕ) (reception sent : List ℕ) (j : ℕ) (r : Marks) → Marked number reception sent j r → ones (r .marks) ≡ r .set

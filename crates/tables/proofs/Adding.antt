@@ -18,8 +18,8 @@ use Rattle.code.specs.Generator.{rowSymbol}
 use Rattle.code.specs.Transmission.{view}
 use Rattle.code.specs.Settings.{codeOf, Sound}
 use Rattle.code.proofs.Numbers.{rowSymbol-below}
-use Rattle.tables.specs.Tables.{RowsOf}
-use Rattle.tables.specs.Adding.{plusRow, MultipleAdded, RowAdded, RowsAdded}
+use Rattle.tables.specs.parts.Tables.{RowsOf}
+use Rattle.tables.specs.parts.Adding.{plusRow, MultipleAdded, RowAdded, RowsAdded}
 use Rattle.tables.proofs.Parts.{part-length, part-symbol, put-length, put-before, put-inside, put-after, put-symbols}
 
 module _ (q u : ℕ) (row before : List ℕ) where

@@ -10,7 +10,7 @@ use Rattle.field.specs.Binary.{binary, timesBits, timesAlpha}
 use Rattle.code.specs.Generator.{points, base, rowSymbol}
 use Rattle.code.specs.Transmission.{tabulate}
 use Rattle.code.specs.Settings.{settingOf}
-use Rattle.tables.specs.Tables.{generatorOf}
+use Rattle.tables.specs.parts.Tables.{generatorOf}
 
 -- 000, Example 4.1: G_0, G_1 and G_2.
 pub example-4-1 : generatorOf (settingOf 1)

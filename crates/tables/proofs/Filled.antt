@@ -17,7 +17,7 @@ use Rattle.code.specs.Settings.{codeOf}
 use Rattle.code.proofs.Lists.{getD-tabulate}
 use Rattle.code.specs.Settings.{Sound}
 use Rattle.code.proofs.Settings.{block-positive}
-use Rattle.tables.specs.Tables.{generatorOf, rowsLength, RowsOf}
+use Rattle.tables.specs.parts.Tables.{generatorOf, rowsLength, RowsOf}
 use Rattle.tables.proofs.Parts.{put-length, put-before, put-inside}
 
 -- Row a of a nested table of groups of k rows.

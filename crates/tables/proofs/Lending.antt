@@ -4,11 +4,11 @@ use mathlib.Core.Path.{_≡_, sym, subst}
 use mathlib.Core.List.{List}
 use Prim.Native.Nat.{ℕ}
 use lib.Dec.{T}
-use Rattle.field.specs.Tables.{Products, Lent}
+use Rattle.field.specs.parts.Tables.{Products, Lent}
 use Rattle.code.specs.declared.Setting.{Setting}
 use Rattle.code.specs.Settings.{isSetting, settingOf}
 use Rattle.code.proofs.Settings.{soundOf, largestOf}
-use Rattle.tables.specs.Tables.{rowsLength, Narrow, RowsOf, Ready}
+use Rattle.tables.specs.parts.Tables.{rowsLength, Narrow, RowsOf, Ready}
 
 pub readyOf : (s : ℕ) (p : Setting) → T (isSetting s) → p ≡ settingOf s → (products : Products) (rows : List ℕ) → Lent (p .q) products → RowsOf (settingOf s) rows
     → Ready p products rows

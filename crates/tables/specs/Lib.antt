@@ -1,3 +1,2 @@
 -- What the contracts say of the tables.
-pub mod Tables
-pub mod Adding
+pub mod parts

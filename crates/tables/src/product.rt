@@ -4,14 +4,14 @@ ghost use Prim.Native.Nat.{_+_, _-_, _*_, _≤_, _<_};
 ghost use lib.ListN.{length, getD};
 ghost use Rattle.field.specs.Fields.{Good};
 ghost use Rattle.field.specs.Symbols.{Symbols, Is};
-ghost use Rattle.field.specs.Tables.{Lent};
+ghost use Rattle.field.specs.parts.Tables.{Lent};
 ghost use Rattle.code.specs.Generator.{timesG};
 ghost use Rattle.code.specs.Level as level;
 ghost use Rattle.code.specs.Transmission.{view};
 ghost use Rattle.code.specs.Settings.{codeOf};
 ghost use Rattle.code.specs.Windows.{windowLength};
-ghost use Rattle.tables.specs.Tables.{Ready};
-ghost use Rattle.tables.specs.Adding.{MultipleAdded, RowAdded, RowsAdded};
+ghost use Rattle.tables.specs.parts.Tables.{Ready};
+ghost use Rattle.tables.specs.parts.Adding.{MultipleAdded, RowAdded, RowsAdded};
 use code::Setting;
 use field::Tables;
 

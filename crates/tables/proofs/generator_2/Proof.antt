@@ -6,7 +6,7 @@ use Rattle.field.specs.Fields.{opsOf, eight}
 use Rattle.field.specs.Binary.{binary, timesBits, timesAlpha}
 use Rattle.code.specs.Generator.{points, base, rowSymbol}
 use Rattle.code.specs.Transmission.{tabulate}
-use Rattle.tables.specs.Tables.{generatorOf}
+use Rattle.tables.specs.parts.Tables.{generatorOf}
 use Rattle.tables.proofs.generator_2.Statement.{statement}
 use Rattle.tables.proofs.generator_2.Tie as tie
 

@@ -2,10 +2,10 @@
 use Prim.Native.Nat.{_≤_, _-_, _+_}
 use mathlib.Core.Path.{_≡_}
 use native.Mathlib.Omega.{arith}
-use Rattle.algebra.specs.Polynomial.{falling}
+use Rattle.algebra.specs.parts.Values.{falling}
 use Rattle.field.specs.Fields.{opsOf}
 use Rattle.field.specs.Symbols.{Is}
-use Rattle.block.specs.Area.{at}
+use Rattle.block.specs.parts.Area.{at}
 use Rattle.block.proofs.Reading.{falling-none, falling-more}
 use Rattle.block.proofs.information.falling.Statement.{statement}
 use Rattle.block.proofs.information.falling.Tie as tie

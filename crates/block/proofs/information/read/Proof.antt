@@ -6,7 +6,7 @@ use native.Mathlib.Omega.{arith}
 use borrow.Author.Needs.{needs}
 use denote.Ref.{now}
 use lib.ListN.{length}
-use Rattle.block.specs.Information.{Read}
+use Rattle.block.specs.parts.Information.{Read}
 use Rattle.block.proofs.Accumulated.{alpha-below}
 use Rattle.block.proofs.Reading.{read-none, read-more}
 use Rattle.block.proofs.information.read.Statement.{statement}

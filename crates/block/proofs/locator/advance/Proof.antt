@@ -5,7 +5,7 @@ use native.Mathlib.Omega.{arith}
 use borrow.Author.Needs.{needs}
 use denote.Ref.{now}
 use lib.ListN.{length}
-use Rattle.block.specs.Progress.{Placed}
+use Rattle.block.specs.parts.Progress.{Placed}
 use Rattle.block.proofs.Placing.{placed-kept, placed-corrected, placed-lengthened}
 use Rattle.block.proofs.locator.advance.Statement.{statement}
 use Rattle.block.proofs.locator.advance.Tie as tie

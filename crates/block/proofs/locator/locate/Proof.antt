@@ -3,7 +3,7 @@ use mathlib.Core.Path.{_≡_, _∙_}
 use Prim.Native.Nat.{_≤_, _<_, _+_, _-_}
 use native.Mathlib.Omega.{arith}
 use lib.ListN.{length}
-use Rattle.block.specs.Progress.{Placed}
+use Rattle.block.specs.parts.Progress.{Placed}
 use Rattle.block.proofs.Placing.{placed-start}
 use Rattle.block.proofs.locator.locate.Statement.{statement}
 use Rattle.block.proofs.locator.locate.Tie as tie

@@ -5,8 +5,8 @@ use native.Mathlib.Omega.{arith}
 use borrow.Author.Needs.{needs}
 use Rattle.field.specs.Fields.{opsOf}
 use Rattle.field.specs.Symbols.{Is}
-use Rattle.block.specs.Area.{at}
-use Rattle.block.specs.Locator.{tail}
+use Rattle.block.specs.parts.Area.{at}
+use Rattle.block.specs.parts.Locator.{tail}
 use Rattle.block.proofs.Accumulated.{sum-none, sum-more}
 use Rattle.block.proofs.locator.tail.Statement.{statement}
 use Rattle.block.proofs.locator.tail.Tie as tie

@@ -3,7 +3,7 @@ use Prim.Native.Nat.{_≤_, _-_, _+_}
 use mathlib.Core.Path.{_≡_, refl}
 use native.Mathlib.Omega.{arith}
 use lib.ListN.{length, length-set}
-use Rattle.block.specs.Spectrum.{Continued}
+use Rattle.block.specs.parts.Spectrum.{Continued}
 use Rattle.block.proofs.Spectra.{continued-none, continued-more}
 use Rattle.block.proofs.spectrum.extend.Statement.{statement}
 use Rattle.block.proofs.spectrum.extend.Tie as tie

@@ -6,7 +6,7 @@ use native.Mathlib.Omega.{arith}
 use denote.Ref.{now}
 use lib.ListN.{getD}
 use Rattle.code.proofs.Settings.{sizes}
-use Rattle.frame.specs.Frame.{Revised, Added}
+use Rattle.frame.specs.parts.Frame.{Revised, Added}
 use Rattle.frame.proofs.Guesses.{revised-none, revised-then, added-then, blocks-few}
 use Rattle.frame.proofs.guess.add_found.Statement.{statement}
 use Rattle.frame.proofs.guess.add_found.Tie as tie

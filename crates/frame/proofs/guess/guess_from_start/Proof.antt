@@ -6,7 +6,7 @@ use lib.ListN.{length}
 use Rattle.field.proofs.Symbols.{symbol-below}
 use Rattle.code.proofs.Numbers.{positive}
 use Rattle.code.proofs.Settings.{information-fits, sizes}
-use Rattle.frame.specs.Frame.{Revised}
+use Rattle.frame.specs.parts.Frame.{Revised}
 use Rattle.frame.proofs.Guesses.{revised-none, revised-then, block-room}
 use Rattle.frame.proofs.guess.guess_from_start.Statement.{statement}
 use Rattle.frame.proofs.guess.guess_from_start.Tie as tie

@@ -3,7 +3,7 @@ use Prim.Native.Nat.{_+_, _-_}
 use native.Mathlib.Omega.{arith}
 use denote.Ref.{now}
 use Rattle.code.proofs.Settings.{sizes}
-use Rattle.frame.specs.Frame.{Revised}
+use Rattle.frame.specs.parts.Frame.{Revised}
 use Rattle.frame.proofs.Guesses.{revised-none, revised-then, blocks-few}
 use Rattle.frame.proofs.guess.guess_window.Statement.{statement}
 use Rattle.frame.proofs.guess.guess_window.Tie as tie

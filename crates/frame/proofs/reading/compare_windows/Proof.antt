@@ -9,9 +9,9 @@ use denote.Ref.{now}
 use lib.ListN.{length, take, drop}
 use Rattle.code.proofs.Settings.{sizes}
 use Rattle.code.specs.Windows.{windowLength}
-use Rattle.code.specs.Reading.{zeroCost}
+use Rattle.code.specs.parts.Reading.{zeroCost}
 use Rattle.tables.proofs.Parts.{part-size}
-use Rattle.frame.specs.Frame.{all-near, one-far}
+use Rattle.frame.specs.parts.Frame.{all-near, one-far}
 use Rattle.frame.proofs.reading.compare_windows.Statement.{statement}
 use Rattle.frame.proofs.reading.compare_windows.Tie as tie
 

@@ -1,6 +1,6 @@
 -- `frame::reading::read`: the windows in turn, then the last comparison.
 use denote.Ref.{now}
-use Rattle.frame.specs.Frame.{none}
+use Rattle.frame.specs.parts.Frame.{none}
 use Rattle.frame.proofs.Begin.{begin}
 use Rattle.frame.proofs.Advance.{advance-more, stopped-none}
 use Rattle.frame.proofs.Ends.{frame-compared}

@@ -6,7 +6,7 @@ use denote.Ref.{now}
 use lib.ListN.{length}
 use Rattle.tables.proofs.Places.{first-place}
 use Rattle.block.proofs.Working.{working-kept}
-use Rattle.frame.specs.Frame.{Progress, advanced}
+use Rattle.frame.specs.parts.Frame.{Progress, advanced}
 use Rattle.frame.proofs.Advance.{advance-more, advance-stopped}
 use Rattle.frame.proofs.reading.read_windows.Statement.{statement}
 use Rattle.frame.proofs.reading.read_windows.Tie as tie

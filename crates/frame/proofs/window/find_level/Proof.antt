@@ -6,7 +6,7 @@ use denote.Ref.{now}
 use lib.ListN.{length}
 use Rattle.code.proofs.Settings.{sizes}
 use Rattle.block.proofs.Working.{working-kept}
-use Rattle.frame.specs.Window.{Levels}
+use Rattle.frame.specs.parts.Window.{Levels}
 use Rattle.frame.proofs.Reached.{Reached, reached-start, reached-next, reached-served, reached-none}
 use Rattle.frame.proofs.window.find_level.Statement.{statement}
 use Rattle.frame.proofs.window.find_level.Tie as tie

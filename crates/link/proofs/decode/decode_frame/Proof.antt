@@ -6,7 +6,7 @@ use lib.Seq.{length-take-le}
 use Rattle.code.specs.declared.Setting.{Setting}
 use Rattle.code.specs.Settings.{Sound}
 use Rattle.code.proofs.Settings.{soundOf, sizes}
-use Rattle.tables.specs.Tables.{rowsLength, mostRows, longestBlock}
+use Rattle.tables.specs.parts.Tables.{rowsLength, mostRows, longestBlock}
 use Rattle.tables.proofs.Lending.{readyOf}
 use borrow.Author.Needs.{needs}
 use Rattle.link.proofs.decode.decode_frame.Statement.{statement}

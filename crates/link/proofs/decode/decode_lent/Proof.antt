@@ -4,7 +4,7 @@ use Prim.Native.Nat.{ℕ}
 use native.Mathlib.Omega.{arith}
 use lib.ListN.{length, replicate}
 use Rattle.code.proofs.Settings.{sizes}
-use Rattle.block.specs.Area.{at}
+use Rattle.block.specs.parts.Area.{at}
 use Rattle.frame.proofs.Levels.{few}
 use Rattle.link.proofs.Answers.{transmission-small}
 use Rattle.link.proofs.Decoding.{left-symbols, left-long, frame-decoded-none, frame-decoded-found}

@@ -4,7 +4,7 @@ use Prim.Native.Nat.{ℕ, _-_, _≤_, _<_}
 use native.Mathlib.Omega.{arith}
 use denote.Ref.{now}
 use lib.ListN.{length}
-use Rattle.link.specs.Decoding.{Restored}
+use Rattle.link.specs.parts.Restoring.{Restored}
 use Rattle.link.proofs.Decoding.{restored-none, restored-more}
 use Rattle.link.proofs.decode.restore.Statement.{statement}
 use Rattle.link.proofs.decode.restore.Tie as tie

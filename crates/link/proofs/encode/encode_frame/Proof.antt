@@ -4,7 +4,7 @@ use Prim.Native.Nat.{_≤_}
 use Rattle.code.specs.declared.Setting.{Setting}
 use Rattle.code.specs.Settings.{Sound}
 use Rattle.code.proofs.Settings.{soundOf}
-use Rattle.tables.specs.Tables.{rowsLength, mostRows}
+use Rattle.tables.specs.parts.Tables.{rowsLength, mostRows}
 use Rattle.tables.proofs.Lending.{readyOf}
 use borrow.Author.Needs.{needs}
 use Rattle.link.proofs.encode.encode_frame.Statement.{statement}

@@ -4,7 +4,7 @@ use Prim.Native.Nat.{ℕ, _+_, _-_, _*_, _≤_}
 use native.Mathlib.Omega.{arith}
 use denote.Ref.{now}
 use lib.ListN.{replicate}
-use Rattle.link.specs.Sending.{SentTo}
+use Rattle.link.specs.parts.Sending.{SentTo}
 use Rattle.link.proofs.Sending.{sent-none, sent-all}
 use Rattle.link.proofs.encode.send.Statement.{statement}
 use Rattle.link.proofs.encode.send.Tie as tie

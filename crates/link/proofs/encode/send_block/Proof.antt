@@ -11,7 +11,7 @@ use Rattle.code.specs.Windows.{windowLength}
 use Rattle.code.proofs.Numbers.{message-below}
 use Rattle.tables.proofs.Parts.{part-length}
 use Rattle.frame.proofs.Guesses.{window-room}
-use Rattle.link.specs.Sending.{SentTo}
+use Rattle.link.specs.parts.Sending.{SentTo}
 use Rattle.link.proofs.Sending.{sent-more}
 use Rattle.link.proofs.encode.send_block.Statement.{statement}
 use Rattle.link.proofs.encode.send_block.Tie as tie

@@ -10,7 +10,7 @@ use Rattle.field.specs.Symbols.{Symbols}
 use Rattle.code.specs.declared.Setting.{Setting}
 use Rattle.code.specs.Code.{distancesTo}
 use Rattle.code.specs.Windows.{windowLength, Fits}
-use Rattle.code.specs.Reading.{zeroCost, Residual}
+use Rattle.code.specs.parts.Reading.{zeroCost, Residual}
 
 -- The areas of a frame: a guessed message of T blocks, and what is left of a reception for it.
 pub record Areas (p : Setting) (T : ℕ) (message left : List ℕ) : Type 0 where

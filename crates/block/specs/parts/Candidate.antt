@@ -6,9 +6,9 @@ use Rattle.algebra.specs.Sum.{power}
 use Rattle.field.specs.Fields.{opsOf, alpha}
 use Rattle.field.specs.Symbols.{Is}
 use Rattle.code.specs.declared.Setting.{Setting}
-use Rattle.block.specs.Progress.{Found}
-use Rattle.block.specs.Spectrum.{SpectrumOf, Continued}
-use Rattle.block.specs.Information.{Read}
+use Rattle.block.specs.parts.Progress.{Found}
+use Rattle.block.specs.parts.Spectrum.{SpectrumOf, Continued}
+use Rattle.block.specs.parts.Information.{Read}
 
 -- How many first values of its spectrum are zero in a level-l code block.
 abbrev pub zerosAt : Setting → ℕ → ℕ

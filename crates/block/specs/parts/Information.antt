@@ -4,14 +4,14 @@ use mathlib.Core.Path.{_≡_}
 use mathlib.Core.List.{List}
 use Prim.Native.Nat.{ℕ, _+_, _-_, _<_}
 use Rattle.algebra.specs.Ops.{sub}
-use Rattle.algebra.specs.Polynomial.{falling}
+use Rattle.algebra.specs.parts.Values.{falling}
 use Rattle.field.specs.Fields.{opsOf}
 use Rattle.code.specs.declared.Setting.{Setting}
 use Rattle.code.specs.Generator.{timesG}
 use Rattle.code.specs.Transmission.{view}
-use Rattle.code.specs.Recovery.{Recovered}
+use Rattle.code.specs.parts.Recovery.{Recovered}
 use Rattle.code.specs.Settings.{codeOf}
-use Rattle.block.specs.Area.{AllBelow, at}
+use Rattle.block.specs.parts.Area.{AllBelow, at}
 
 -- Symbol k - j of the information block at `from`, and what x × G_0 lacks j places before its end.
 abbrev pub lacking : Setting → List ℕ → ℕ → ℕ → List ℕ → ℕ → ℕ

@@ -3,12 +3,12 @@ use mathlib.Core.Path.{_≡_}
 use mathlib.Core.List.{List}
 use Prim.Native.Nat.{ℕ, _≤_, _<_}
 use lib.ListN.{getD}
-use Rattle.field.specs.Tables.{Products}
+use Rattle.field.specs.parts.Tables.{Products}
 use Rattle.code.specs.declared.Setting.{Setting}
 use Rattle.code.specs.Windows.{transmission, Message}
-use Rattle.code.specs.Reading.{Residual}
-use Rattle.tables.specs.Tables.{Ready}
-use Rattle.frame.specs.Frame.{Areas}
+use Rattle.code.specs.parts.Reading.{Residual}
+use Rattle.tables.specs.parts.Tables.{Ready}
+use Rattle.frame.specs.parts.Frame.{Areas}
 use Rattle.link.specs.Questions.{mostBlocks}
 
 -- A message of T blocks, and the tables of its setting.

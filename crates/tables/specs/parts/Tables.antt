@@ -7,7 +7,7 @@ use lib.ListN.{length, getD}
 use Rattle.code.specs.declared.Setting.{Setting}
 use Rattle.code.specs.Generator.{rowSymbol}
 use Rattle.code.specs.Transmission.{tabulate}
-use Rattle.field.specs.Tables.{Products, Lent}
+use Rattle.field.specs.parts.Tables.{Products, Lent}
 use Rattle.code.specs.Settings.{settings, codeOf, Sound, largest}
 
 -- "kept power of z by power of z, row by row, as one nested table"

@@ -7,8 +7,8 @@ use Prim.Native.Nat.{ℕ, _≤_, _<_}
 use Rattle.code.specs.declared.Setting.{Setting}
 use Rattle.code.specs.Code.{levelDistance}
 use Rattle.code.specs.Transmission.{view}
-use Rattle.code.specs.Reading.{levelCost}
-use Rattle.block.specs.Area.{at, AllBelow}
+use Rattle.code.specs.parts.Reading.{levelCost}
+use Rattle.block.specs.parts.Area.{at, AllBelow}
 
 -- x_0 .. x_l are information blocks: k symbols below q each.
 abbrev pub Information : Setting → ℕ → (ℕ → ℕ → ℕ) → Type 0

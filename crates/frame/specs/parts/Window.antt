@@ -8,8 +8,8 @@ use lib.ListN.{getD}
 use Rattle.code.specs.declared.Setting.{Setting}
 use Rattle.code.specs.Code.{levelDistance, distancesTo}
 use Rattle.code.specs.Transmission.{view}
-use Rattle.code.specs.Reading.{Below, levelCost, windowCost}
-use Rattle.block.specs.Area.{AllBelow}
+use Rattle.code.specs.parts.Reading.{Below, levelCost, windowCost}
+use Rattle.block.specs.parts.Area.{AllBelow}
 
 -- Blocks 0 .. l of the window are near what y rebuilds: "in at most half of (d_0 + .. + d_l - 1), rounded down", symbols they differ, without the rounding.
 abbrev pub Near : Setting → List ℕ → ℕ → (ℕ → ℕ → ℕ) → Type 0

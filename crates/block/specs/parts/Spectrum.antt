@@ -6,8 +6,8 @@ use Prim.Native.Nat.{ℕ, _+_, _<_}
 use Rattle.algebra.specs.Sum.{power}
 use Rattle.algebra.specs.Polynomial.{value}
 use Rattle.field.specs.Fields.{opsOf, alpha}
-use Rattle.block.specs.Area.{AllBelow, at}
-use Rattle.block.specs.Locator.{Extended}
+use Rattle.block.specs.parts.Area.{AllBelow, at}
+use Rattle.block.specs.parts.Locator.{Extended}
 
 -- 1, and then the first `count` values of the block's spectrum.
 pub record SpectrumOf (q : ℕ) (block : List ℕ) (count : ℕ) (series : List ℕ) : Type 0 where

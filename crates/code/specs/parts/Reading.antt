@@ -12,7 +12,7 @@ use Rattle.code.specs.declared.Setting.{Setting}
 use Rattle.code.specs.Code.{distancesTo}
 use Rattle.code.specs.Transmission.{view, sentSymbol}
 use Rattle.code.specs.Settings.{codeOf}
-use Rattle.code.specs.Cost.{symbolCost, costTo, blockCost, rebuiltCost}
+use Rattle.code.specs.parts.Cost.{symbolCost, costTo, blockCost, rebuiltCost}
 
 -- A sequence of information blocks has symbols below q.
 abbrev pub Below : ℕ → (ℕ → ℕ → ℕ) → Type 0

@@ -4,7 +4,7 @@
 use mathlib.Core.Path.{_≡_}
 use Prim.Native.Nat.{ℕ, suc, _-_, _<_}
 use Rattle.algebra.specs.Sum.{power}
-use Rattle.algebra.specs.Polynomial.{falling}
+use Rattle.algebra.specs.parts.Values.{falling}
 use Rattle.code.specs.Code.{Code}
 use Rattle.code.specs.Generator.{timesG}
 

@@ -1,0 +1,2 @@
+-- What proofs and contracts of inner functions share, and no reader has to believe.
+pub mod Values

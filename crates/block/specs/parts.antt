@@ -1,0 +1,8 @@
+-- What the block step promises (Step), and what its functions promise one another.
+pub mod Step
+pub mod Area
+pub mod Locator
+pub mod Progress
+pub mod Spectrum
+pub mod Information
+pub mod Candidate

@@ -1,0 +1,3 @@
+-- What reading a window and a frame promise one another.
+pub mod Window
+pub mod Frame

@@ -1,0 +1,3 @@
+-- What the functions below the public calls promise one another.
+pub mod Sending
+pub mod Restoring
