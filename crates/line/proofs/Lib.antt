@@ -4,3 +4,4 @@ pub mod Numbers
 pub mod Placed
 pub mod Asked
 pub mod Frames
+pub mod Samples

@@ -13,7 +13,8 @@ use borrow.Rule.Slice.PartMut.{putMid, post-is}
 use lib.Seq.{drop-drop}
 use Rattle.algebra.specs.Ops.{pick}
 use Rattle.line.specs.Characters.{characterOf, hex}
-use Rattle.line.specs.Answering.{opening, success, Placed, Shown}
+use Rattle.line.specs.Answering.{opening, success, Shown}
+use Rattle.line.specs.parts.Writing.{Placed}
 use Rattle.line.proofs.Numbers.{length-hex}
 
 pub placed-none : (before : List ℕ) → Placed [] before before

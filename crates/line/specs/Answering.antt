@@ -1,6 +1,6 @@
 -- What answering a line promises (01, "Lines at the planning desk"). Holds: `refusal`, `opening` and `success`, the two kinds of output line; `messageLength`, `messageIn`;
--- `mostAnswer`; `outputLine`, `Answers`, which of them a line gets; `Placed` and `Shown`, a text in a lent area; `AnswerShown`; `Working`, `working`, the working areas,
--- `hasRoom`, `roomIn`, `RoomForAll`, `FrameLeft`; `Answered`, a whole call. `Written` is what its parts ask of one another.
+-- `mostAnswer`; `outputLine`, `Answers`, which of them a line gets; `Shown`, a text in a lent area; `AnswerShown`; `Working`, `working`, the working areas,
+-- `hasRoom`, `roomIn`, `RoomForAll`, `FrameLeft`; `Answered`, a whole call.
 use mathlib.Core.Path.{_≡_}
 use mathlib.Core.Bool.{Bool, true, false, _&&_}
 use mathlib.Core.List.{List, _++_, map}
@@ -8,7 +8,6 @@ use Prim.Native.Nat.{ℕ, _+_, _*_, _≤_}
 use lib.Dec.{eqb, leb}
 use lib.ListN.{length, take, drop}
 use Rattle.algebra.specs.Ops.{pick}
-use Rattle.field.specs.Symbols.{Symbols}
 use Rattle.code.specs.Settings.{settingOf}
 use Rattle.link.specs.declared.Answer.{Answer}
 use Rattle.link.specs.Questions.{firstNo, mostSymbols, mostInformation}
@@ -49,11 +48,6 @@ pub data Answers (line text : List ℕ) : Type 0 where
   -- Question 7 is asked of the line's frame: a message that fits, or number 7.
   well-formed : firstNo (lineQuestions line) .number ≡ 0 → (r : Answer) (message sent : List ℕ)
       → FrameDecoded (settingOf (settingIn line)) (blocksIn line) (symbolsIn line) r message sent → text ≡ outputLine line r message → Answers line text
-
--- A text at the front of an area, and then what the area held before.
-pub record Placed (text before after : List ℕ) : Type 0 where
-  pub is : after ≡ text ++ drop (length text) before
-  pub room : length text ≤ length before
 
 -- A text at the front of a lent area, r its length. An area too small for it is left as it was, and r is 0.
 pub record Shown (text before : List ℕ) (r : ℕ) (after : List ℕ) : Type 0 where
@@ -103,8 +97,3 @@ pub data Answered (line : List ℕ) (w : Working) (output : List ℕ) (r : ℕ) 
   -- The frame is decoded, and the line is answered.
   decoded : HoldsFrame line → roomIn line w ≡ true → (a : Answer) → FrameLeft line w a w' → AnswerShown line output r output'
       → Answered line w output r w' output'
-
--- What writing an answer needs: the message that was found.
-pub record Written (line : List ℕ) (a : Answer) (area : List ℕ) : Type 0 where
-  pub room : messageLength line ≤ length area
-  pub symbols : a .number ≡ 0 → Symbols 16 (messageIn line area)

@@ -3,3 +3,4 @@ pub mod Characters
 pub mod Questions
 pub mod Answering
 pub mod Sample
+pub mod parts

@@ -1,4 +1,5 @@
--- 01's sample of refused lines ("The desk program's input"), computed; and three more: a line one character too long, a wrong character, a short line.
+-- 01's sample lines ("The desk program's input"): the refused ones computed, and three more (a line one character too long, a wrong character, a short line);
+-- the two that hold a frame stated, `SampleRead`, `SampleNone`.
 use mathlib.Core.Path.{_≡_, refl}
 use mathlib.Core.List.{List, [], _∷_, map}
 use Prim.Native.Nat.{ℕ, _+_}
@@ -6,7 +7,7 @@ use lib.ListN.{replicate}
 use Rattle.link.specs.Questions.{firstNo, symbolsTo}
 use Rattle.line.specs.Characters.{digitOf, characterOf, hex}
 use Rattle.line.specs.Questions.{mostCharacters, lineQuestions}
-use Rattle.line.specs.Answering.{refusal}
+use Rattle.line.specs.Answering.{refusal, Answers}
 
 -- The first "no" of a line of these digits is answered by a line of those.
 abbrev Refused : List ℕ → List ℕ → Type 0
@@ -45,3 +46,15 @@ sample-wrong = refl
 pub sample-short : Refused (1 ∷ 2 ∷ []) (0 ∷ 9 ∷ 0 ∷ 0 ∷ 0 ∷ 2 ∷ [])
 unfolding digitOf characterOf hex symbolsTo
 sample-short = refl
+
+-- Whatever output line the promise allows for a line of these digits is that of those.
+abbrev pub Gets : List ℕ → List ℕ → Type 0
+Gets line text = (shown : List ℕ) → Answers (map characterOf line) shown → shown ≡ map characterOf text
+
+-- 01's first line, with four altered symbols (`sample-read`, proofs/Samples) ..
+abbrev pub SampleRead : Type 0
+SampleRead = Gets (1 ∷ 0 ∷ 0 ∷ 1 ∷ 2 ∷ 4 ∷ 3 ∷ 1 ∷ 2 ∷ 3 ∷ 2 ∷ 3 ∷ 0 ∷ 0 ∷ 0 ∷ 0 ∷ []) (0 ∷ 0 ∷ 0 ∷ 0 ∷ 0 ∷ 4 ∷ 1 ∷ 0 ∷ 0 ∷ 1 ∷ 1 ∷ [])
+
+-- .. and its second, with one more (`sample-none`).
+abbrev pub SampleNone : Type 0
+SampleNone = Gets (1 ∷ 0 ∷ 0 ∷ 1 ∷ 2 ∷ 4 ∷ 3 ∷ 1 ∷ 2 ∷ 3 ∷ 2 ∷ 0 ∷ 0 ∷ 0 ∷ 0 ∷ 0 ∷ []) (0 ∷ 7 ∷ 0 ∷ 0 ∷ 0 ∷ 0 ∷ [])

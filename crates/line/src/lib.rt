@@ -2,7 +2,8 @@
 ghost use mathlib.Core.Path.{_≡_};
 ghost use mathlib.Core.Bool.{true};
 ghost use Rattle.line.specs.Questions.{HoldsFrame};
-ghost use Rattle.line.specs.Answering.{outputLine, messageIn, Shown, working, hasRoom, roomIn, FrameLeft, Answered, Written};
+ghost use Rattle.line.specs.Answering.{outputLine, messageIn, Shown, working, hasRoom, roomIn, FrameLeft, Answered};
+ghost use Rattle.line.specs.parts.Writing.{Written};
 
 mod characters;
 mod questions;

@@ -6,7 +6,8 @@ ghost use lib.ListN.{length};
 ghost use Rattle.field.specs.Symbols.{Symbols};
 ghost use Rattle.link.specs.Questions.{mostInformation};
 ghost use Rattle.line.specs.Characters.{characterOf, hex};
-ghost use Rattle.line.specs.Answering.{refusal, opening, success, Placed, Shown};
+ghost use Rattle.line.specs.Answering.{refusal, opening, success, Shown};
+ghost use Rattle.line.specs.parts.Writing.{Placed};
 use super::characters;
 use link::Answer;
 

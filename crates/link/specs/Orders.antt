@@ -42,15 +42,15 @@ abbrev pub Kept : Order → Type 0
 Kept o = Promised (o .call) o
 
 -- A message, given, and its transmission.
-abbrev encodes : ℕ → List ℕ → List ℕ → Order
+abbrev pub encodes : ℕ → List ℕ → List ℕ → Order
 encodes setting message sent = record { call = encoding; setting = setting; given = message; number = 0; place = 0; count = 0; message = message; sent = sent }
 
 -- A reception, its message, the message's transmission and the altered count.
-abbrev reads : ℕ → List ℕ → List ℕ → List ℕ → ℕ → Order
+abbrev pub reads : ℕ → List ℕ → List ℕ → List ℕ → ℕ → Order
 reads setting reception message sent count = record { call = decoding; setting = setting; given = reception; number = 0; place = 0; count = count; message = message; sent = sent }
 
 -- A reception that gets number 7, and how many zeros come back in each area.
-abbrev getsSeven : ℕ → List ℕ → ℕ → ℕ → Order
+abbrev pub getsSeven : ℕ → List ℕ → ℕ → ℕ → Order
 getsSeven setting reception message sent =
     record { call = decoding; setting = setting; given = reception; number = 7; place = 0; count = 0; message = replicate message 0; sent = replicate sent 0 }
 

@@ -1,0 +1,2 @@
+-- What functions promise one another.
+pub mod Writing

@@ -1,0 +1,18 @@
+-- What the functions that write an answer promise and ask of one another. Holds: `Placed`, `Written`.
+use mathlib.Core.Path.{_≡_}
+use mathlib.Core.List.{List, _++_}
+use Prim.Native.Nat.{ℕ, _≤_}
+use lib.ListN.{length, drop}
+use Rattle.field.specs.Symbols.{Symbols}
+use Rattle.link.specs.declared.Answer.{Answer}
+use Rattle.line.specs.Answering.{messageLength, messageIn}
+
+-- A text at the front of an area, and then what the area held before.
+pub record Placed (text before after : List ℕ) : Type 0 where
+  pub is : after ≡ text ++ drop (length text) before
+  pub room : length text ≤ length before
+
+-- What writing an answer needs: the message that was found.
+pub record Written (line : List ℕ) (a : Answer) (area : List ℕ) : Type 0 where
+  pub room : messageLength line ≤ length area
+  pub symbols : a .number ≡ 0 → Symbols 16 (messageIn line area)
