@@ -8,7 +8,8 @@ use Rattle.code.specs.Settings.{settingOf}
 use Rattle.link.specs.declared.Answer.{Answer}
 use Rattle.link.specs.Questions.{firstNo, blocksOf, symbolsTo, decodingQuestions}
 use Rattle.link.specs.Decoding.{FrameDecoded, DecodedIn, Decoded, well-formed}
-use Rattle.link.specs.Orders.{Order, orders, reads, getsSeven}
+use Rattle.link.specs.Orders.{Order, reads, getsSeven}
+use Rattle.link.specs.Sample.{orders}
 use Rattle.link.proofs.Orders.{orders-kept}
 use Rattle.line.specs.Characters.{digitOf, characterOf, hex}
 use Rattle.line.specs.Answering.{outputLine, refused, well-formed as answered}

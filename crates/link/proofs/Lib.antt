@@ -5,7 +5,6 @@ pub mod Encoding
 pub mod Bits
 pub mod Counted
 pub mod Windows
-pub mod Samples
 pub mod Decoding
 pub mod CountBound
 pub mod Determined

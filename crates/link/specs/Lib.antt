@@ -6,4 +6,5 @@ pub mod Marks
 pub mod Decoding
 pub mod Demand3
 pub mod Orders
+pub mod Sample
 pub mod parts
