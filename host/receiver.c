@@ -8,6 +8,7 @@
  *
  * It ends with status 0 if every answer was the expected one.
  */
+#include "expect.h"
 #include "orderlink.h"
 #include "settings.h"
 
@@ -16,21 +17,11 @@
 #include <stdlib.h>
 #include <string.h>
 
-/* Bytes of guard on either side of an area, their value, and the value of a lent area's bytes. */
-enum { GUARD = 16, GUARD_BYTE = 0xa5, UNTOUCHED = 0xee };
+/* Bytes of guard on either side of an area, and their value. */
+enum { GUARD = 16, GUARD_BYTE = 0xa5 };
 
 /* How many elements an array has. */
 #define COUNT(array) (sizeof(array) / sizeof(array)[0])
-
-#define EXPECT(condition) expect((condition), #condition, __LINE__)
-
-static void expect(bool met, const char *condition, int line)
-{
-    if (!met) {
-        fprintf(stderr, "receiver.c:%d: expected %s\n", line, condition);
-        exit(EXIT_FAILURE);
-    }
-}
 
 /* An area with guard bytes before and after it. */
 struct area {
@@ -48,28 +39,12 @@ static struct area lend(size_t length)
     return (struct area){ start + GUARD, length };
 }
 
-/* Whether all of some bytes have one value. */
-static bool all(const uint8_t *bytes, size_t length, uint8_t value)
-{
-    for (size_t i = 0; i < length; i++)
-        if (bytes[i] != value)
-            return false;
-    return true;
-}
-
 /* Takes an area back; its guards must be as they were. */
 static void take_back(struct area area)
 {
     EXPECT(all(area.bytes - GUARD, GUARD, GUARD_BYTE));
     EXPECT(all(area.bytes + area.length, GUARD, GUARD_BYTE));
     free(area.bytes - GUARD);
-}
-
-/* Whether an answer has this number and place and this count of altered symbols. */
-static bool answers(struct orderlink_answer answer, uint32_t number, uint64_t place,
-                    uint32_t altered)
-{
-    return answer.number == number && answer.place == place && answer.altered == altered;
 }
 
 /* Writes a text's digits as symbols, without its spaces; returns how many. */
@@ -150,7 +125,7 @@ static void refused_decodings(void)
     static const uint8_t clean[(MOST_BLOCKS + 1 + 2) * 4];
     const uint8_t wrong[12] = { [5] = 5, [9] = 255 };
     const struct {
-        uint32_t setting;
+        uint64_t setting;
         const uint8_t *reception;
         size_t reception_length, message_length, transmission_length;
         uint32_t number;
@@ -187,7 +162,7 @@ static void refused_encodings(void)
     static const uint8_t clean[(MOST_BLOCKS + 1) * 2];
     const uint8_t wrong[4] = { 7, 0, 0, 8 };
     const struct {
-        uint32_t setting;
+        uint64_t setting;
         const uint8_t *message;
         size_t message_length, transmission_length;
         uint32_t number;
@@ -217,7 +192,7 @@ static void refused_marks(void)
 {
     static const uint8_t reception[(MOST_BLOCKS + 1 + 1) * 7], transmission[15];
     const struct {
-        uint32_t setting;
+        uint64_t setting;
         size_t reception_length, transmission_length;
         uint64_t j;
         uint32_t number;
@@ -239,6 +214,35 @@ static void refused_marks(void)
         EXPECT(window.marks == 0 && window.set == 0);
     }
     printf("refused marks: none set\n");
+}
+
+/* Numbers that are no setting, up to the largest, get 1 from every call, and nothing is written. */
+static void no_such_settings(void)
+{
+    /* Some are a setting in their lowest 8 or 32 bits. */
+    const uint64_t no_settings[] = {
+        0, 4, 257, UINT32_MAX, (UINT64_C(1) << 32) + 1, (UINT64_C(1) << 32) + 2,
+        UINT64_C(1) << 63, UINT64_MAX,
+    };
+    const uint8_t order[1] = { 1 };
+    uint8_t reception[12];
+    size_t length = symbols("2431 2323 2134", reception);
+    for (size_t i = 0; i < COUNT(no_settings); i++) {
+        uint64_t number = no_settings[i];
+        struct area message = lend(1), transmission = lend(length);
+        EXPECT(answers(orderlink_encode(number, order, 1, transmission.bytes, length), 1, 0, 0));
+        EXPECT(answers(orderlink_decode(number, reception, length, message.bytes, 1,
+                                        transmission.bytes, length), 1, 0, 0));
+        struct orderlink_marks window =
+            orderlink_marks(number, reception, length, transmission.bytes, length, 0);
+        EXPECT(answers(window.answer, 1, 0, 0));
+        EXPECT(window.marks == 0 && window.set == 0);
+        EXPECT(all(message.bytes, 1, UNTOUCHED));
+        EXPECT(all(transmission.bytes, length, UNTOUCHED));
+        take_back(message);
+        take_back(transmission);
+    }
+    printf("numbers that are no setting, up to 2^64 - 1: number 1\n");
 }
 
 /* Areas of length 0 may be NULL. */
@@ -290,6 +294,7 @@ int main(void)
     refused_decodings();
     refused_encodings();
     refused_marks();
+    no_such_settings();
     no_areas();
     for (size_t i = 0; i < SETTING_COUNT; i++)
         longest_order(&settings[i]);

@@ -9,7 +9,7 @@ enum { SETTING_COUNT = 3, MOST_BLOCKS = 512 };
 
 /* A row of the table; the letters are those of orderlink.h. */
 struct setting {
-    uint32_t number;
+    uint64_t number;
     uint32_t q;
     size_t n;
     size_t k;

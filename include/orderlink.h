@@ -85,7 +85,7 @@ struct orderlink_marks {
  *             transmission, block after block
  * any other   the transmission area is unchanged
  */
-struct orderlink_answer orderlink_encode(uint32_t setting,
+struct orderlink_answer orderlink_encode(uint64_t setting,
                                          const uint8_t *message, size_t message_len,
                                          uint8_t *transmission, size_t transmission_len);
 
@@ -99,7 +99,7 @@ struct orderlink_answer orderlink_encode(uint32_t setting,
  * number 7    these bytes of both areas are 0
  * any other   both areas are unchanged
  */
-struct orderlink_answer orderlink_decode(uint32_t setting,
+struct orderlink_answer orderlink_decode(uint64_t setting,
                                          const uint8_t *reception, size_t reception_len,
                                          uint8_t *message, size_t message_len,
                                          uint8_t *transmission, size_t transmission_len);
@@ -113,7 +113,7 @@ struct orderlink_answer orderlink_decode(uint32_t setting,
  * number 0    the marks of the window, and how many are set
  * any other   no mark is set
  */
-struct orderlink_marks orderlink_marks(uint32_t setting,
+struct orderlink_marks orderlink_marks(uint64_t setting,
                                        const uint8_t *reception, size_t reception_len,
                                        const uint8_t *transmission, size_t transmission_len,
                                        uint64_t j);

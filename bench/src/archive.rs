@@ -7,7 +7,7 @@ pub const CALLS: Calls = Calls { name: "Rattle", encode, decode, marks };
 
 extern "C" {
     fn orderlink_encode(
-        setting: u32,
+        setting: u64,
         message: *const u8,
         message_len: usize,
         transmission: *mut u8,
@@ -15,7 +15,7 @@ extern "C" {
     ) -> Answer;
 
     fn orderlink_decode(
-        setting: u32,
+        setting: u64,
         reception: *const u8,
         reception_len: usize,
         message: *mut u8,
@@ -25,7 +25,7 @@ extern "C" {
     ) -> Answer;
 
     fn orderlink_marks(
-        setting: u32,
+        setting: u64,
         reception: *const u8,
         reception_len: usize,
         transmission: *const u8,
@@ -34,7 +34,7 @@ extern "C" {
     ) -> Marks;
 }
 
-fn encode(setting: u32, message: &[u8], transmission: &mut [u8]) -> Answer {
+fn encode(setting: u64, message: &[u8], transmission: &mut [u8]) -> Answer {
     // SAFETY: each pointer and length are those of a live slice, and the slices do not overlap.
     unsafe {
         orderlink_encode(
@@ -47,7 +47,7 @@ fn encode(setting: u32, message: &[u8], transmission: &mut [u8]) -> Answer {
     }
 }
 
-fn decode(setting: u32, reception: &[u8], message: &mut [u8], transmission: &mut [u8]) -> Answer {
+fn decode(setting: u64, reception: &[u8], message: &mut [u8], transmission: &mut [u8]) -> Answer {
     // SAFETY: each pointer and length are those of a live slice, and the slices do not overlap.
     unsafe {
         orderlink_decode(
@@ -62,7 +62,7 @@ fn decode(setting: u32, reception: &[u8], message: &mut [u8], transmission: &mut
     }
 }
 
-fn marks(setting: u32, reception: &[u8], transmission: &[u8], j: u64) -> Marks {
+fn marks(setting: u64, reception: &[u8], transmission: &[u8], j: u64) -> Marks {
     // SAFETY: each pointer and length are those of a live slice, which the call only reads.
     unsafe {
         orderlink_marks(

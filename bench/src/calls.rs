@@ -34,13 +34,13 @@ pub struct Marks {
 }
 
 /// Setting, message and transmission area.
-pub type Encode = fn(u32, &[u8], &mut [u8]) -> Answer;
+pub type Encode = fn(u64, &[u8], &mut [u8]) -> Answer;
 
 /// Setting, reception, message area and transmission area.
-pub type Decode = fn(u32, &[u8], &mut [u8], &mut [u8]) -> Answer;
+pub type Decode = fn(u64, &[u8], &mut [u8], &mut [u8]) -> Answer;
 
 /// Setting, reception, transmission and window j.
-pub type Mark = fn(u32, &[u8], &[u8], u64) -> Marks;
+pub type Mark = fn(u64, &[u8], &[u8], u64) -> Marks;
 
 /// One implementation of the calls.
 #[derive(Clone, Copy)]

@@ -1,4 +1,5 @@
-"""Calls with right answers that need no program: the examples of 000 and 01, and orders of the greatest length put together from 01's."""
+"""Calls with right answers that need no program: the examples of 000 and 01, orders of the greatest length put together from 01's, and
+numbers that are no setting."""
 
 # Symbols of a block, symbols of an information block, closing blocks, and 01's transmission of the information block 1, 10 or 100.
 SETTINGS = {
@@ -50,12 +51,22 @@ def encoded(setting, message, number, transmission):
 
 def displayed(setting, reception, j, number):
     """Window j of a reception: m + 1 blocks from block j on, or an empty part."""
-    n, _, m, _ = SETTINGS[setting]
+    n, _, m, _ = SETTINGS[setting] if number == 0 else (0, 0, 0, "")
     r, part = areas(reception, reception[n * j : n * (j + m + 1)])
     return {
         "call": "window",
         "args": {"number": setting, "reception": r, "j": j},
-        "result": {"answer": answered(number), "part": part if number == 0 else ""},
+        "result": {"answer": answered(number), "part": part},
+    }
+
+
+def marked(setting, reception, transmission, j, number):
+    """Marks that are refused."""
+    r, t = areas(reception, transmission)
+    return {
+        "call": "marks",
+        "args": {"number": setting, "reception": r, "transmission": t, "j": j},
+        "result": {"answer": answered(number), "marks": 0, "ones": 0},
     }
 
 
@@ -88,6 +99,13 @@ def examples():
     ]
     for setting, reception, message, transmission in one_fits:
         yield decoded(setting, symbols(reception), 0, symbols(message), symbols(transmission), tail=2)
+    # Numbers that are no setting; three of them are one in their lowest 32 bits.
+    message, transmission = long_order(1, 1)
+    for number in (2**32 + 1, 2**32 + 2, 2**63 + 3, 2**63, 2**64 - 1):
+        yield encoded(number, message, 1, transmission)
+        yield decoded(number, transmission, 1, message, transmission)
+        yield displayed(number, transmission, 0, 1)
+        yield marked(number, transmission, transmission, 0, 1)
     for setting, (n, k, m, _) in SETTINGS.items():
         message, transmission = long_order(setting, 512)
         yield encoded(setting, message, 0, transmission)

@@ -145,7 +145,7 @@ mod tests {
     }
 
     /// Settings and levels with the stride from block to block, as crates/block_test takes them.
-    const COUNTED: [(u32, usize, usize); 8] = [
+    const COUNTED: [(u64, usize, usize); 8] = [
         (1, 0, 1),
         (1, 1, 1),
         (1, 2, 1),

@@ -50,8 +50,8 @@ static CODES: [Code; 3] = [Code::new(FIVE, 1, 2), Code::new(EIGHT, 2, 2), Code::
 
 impl Code {
     /// The code of a setting, if there is such a setting.
-    pub fn of(setting: u32) -> Option<&'static Code> {
-        CODES.get((setting as usize).checked_sub(1)?)
+    pub fn of(setting: u64) -> Option<&'static Code> {
+        CODES.get(usize::try_from(setting).ok()?.checked_sub(1)?)
     }
 
     const fn new(field: Field, k: usize, m: usize) -> Code {

@@ -16,7 +16,7 @@ const DIGITS: &[u8; 16] = b"0123456789abcdef";
 
 /// A line that got "yes" to every question before 4.
 struct Frame<'a> {
-    setting: u32,
+    setting: u64,
     message_length: usize,
     symbols: &'a [u8],
 }
@@ -76,14 +76,14 @@ fn frame(line: &[u8]) -> Result<Frame<'_>, Answer> {
     let (head, symbols) = line.split_at(HEAD);
     let setting = read_hexadecimal(&head[..1]);
     let blocks = read_hexadecimal(&head[1..]);
-    let code = Code::of(setting as u32).ok_or(Answer::no(1))?;
+    let code = Code::of(setting as u64).ok_or(Answer::no(1))?;
     if blocks > MAX_T {
         return Err(Answer::no(3));
     }
     if blocks == 0 || symbols.len() != (blocks + code.m) * code.n {
         return Err(Answer::no(10));
     }
-    Ok(Frame { setting: setting as u32, message_length: blocks * code.k, symbols })
+    Ok(Frame { setting: setting as u64, message_length: blocks * code.k, symbols })
 }
 
 /// The value of a lowercase hexadecimal digit.

@@ -18,7 +18,7 @@ type Allowed = Result<(&'static Code, usize), Answer>;
 pub const CALLS: Calls = Calls { name: "plain Rust", encode, decode, marks };
 
 /// Writes the transmission of a message.
-fn encode(setting: u32, message: &[u8], transmission: &mut [u8]) -> Answer {
+fn encode(setting: u64, message: &[u8], transmission: &mut [u8]) -> Answer {
     match encode_questions(setting, message, transmission.len()) {
         Err(refusal) => refusal,
         Ok((code, length)) => {
@@ -29,7 +29,7 @@ fn encode(setting: u32, message: &[u8], transmission: &mut [u8]) -> Answer {
 }
 
 /// Writes the message that fits a reception and its transmission, or zeros after number 7.
-fn decode(setting: u32, reception: &[u8], message: &mut [u8], transmission: &mut [u8]) -> Answer {
+fn decode(setting: u64, reception: &[u8], message: &mut [u8], transmission: &mut [u8]) -> Answer {
     match decode_questions(setting, reception, message.len(), transmission.len()) {
         Err(refusal) => refusal,
         Ok((code, blocks)) => {
@@ -48,7 +48,7 @@ fn decode(setting: u32, reception: &[u8], message: &mut [u8], transmission: &mut
 }
 
 /// Window j as a part of the reception; empty if refused.
-pub fn window(setting: u32, reception: &[u8], j: u64) -> &[u8] {
+pub fn window(setting: u64, reception: &[u8], j: u64) -> &[u8] {
     match window_questions(setting, reception, j) {
         Err(_) => &[],
         Ok((code, start)) => &reception[start..][..code.window_length()],
@@ -56,12 +56,12 @@ pub fn window(setting: u32, reception: &[u8], j: u64) -> &[u8] {
 }
 
 /// Number and place of the same `window` call.
-pub fn window_answer(setting: u32, reception: &[u8], j: u64) -> Answer {
+pub fn window_answer(setting: u64, reception: &[u8], j: u64) -> Answer {
     window_questions(setting, reception, j).err().unwrap_or(Answer::YES)
 }
 
 /// Marks the differences of a reception and a transmission in window j.
-fn marks(setting: u32, reception: &[u8], transmission: &[u8], j: u64) -> Marks {
+fn marks(setting: u64, reception: &[u8], transmission: &[u8], j: u64) -> Marks {
     match marks_questions(setting, reception, transmission, j) {
         Err(answer) => Marks { answer, marks: 0, set: 0 },
         Ok((code, start)) => {
@@ -74,7 +74,7 @@ fn marks(setting: u32, reception: &[u8], transmission: &[u8], j: u64) -> Marks {
 }
 
 /// Questions 1, 8, 3, 4, 6; then the code and the transmission's length.
-fn encode_questions(setting: u32, message: &[u8], area: usize) -> Allowed {
+fn encode_questions(setting: u64, message: &[u8], area: usize) -> Allowed {
     let code = Code::of(setting).ok_or(Answer::no(1))?;
     if message.is_empty() || !message.len().is_multiple_of(code.k) {
         return Err(Answer::no(8));
@@ -93,7 +93,7 @@ fn encode_questions(setting: u32, message: &[u8], area: usize) -> Allowed {
 
 /// Questions 1 to 6; then the code and T.
 fn decode_questions(
-    setting: u32,
+    setting: u64,
     reception: &[u8],
     message_area: usize,
     transmission_area: usize,
@@ -110,7 +110,7 @@ fn decode_questions(
 }
 
 /// Questions 1, 2, 3, 12; then the code and the window's first symbol.
-fn window_questions(setting: u32, reception: &[u8], j: u64) -> Allowed {
+fn window_questions(setting: u64, reception: &[u8], j: u64) -> Allowed {
     let (code, blocks) = reception_questions(setting, reception)?;
     if j >= blocks as u64 {
         return Err(Answer::no(12));
@@ -119,7 +119,7 @@ fn window_questions(setting: u32, reception: &[u8], j: u64) -> Allowed {
 }
 
 /// Questions 1, 2, 3, 12, 13; then the code and the window's first symbol.
-fn marks_questions(setting: u32, reception: &[u8], transmission: &[u8], j: u64) -> Allowed {
+fn marks_questions(setting: u64, reception: &[u8], transmission: &[u8], j: u64) -> Allowed {
     let found = window_questions(setting, reception, j)?;
     if reception.len() != transmission.len() {
         return Err(Answer::no(13));
@@ -128,7 +128,7 @@ fn marks_questions(setting: u32, reception: &[u8], transmission: &[u8], j: u64) 
 }
 
 /// Questions 1, 2, 3; then the code and T.
-fn reception_questions(setting: u32, reception: &[u8]) -> Allowed {
+fn reception_questions(setting: u64, reception: &[u8]) -> Allowed {
     let code = Code::of(setting).ok_or(Answer::no(1))?;
     let blocks = reception.len() / code.n;
     if !reception.len().is_multiple_of(code.n) || blocks <= code.m {

@@ -2,7 +2,7 @@
 
 /// A row of the table of settings.
 pub struct Setting {
-    pub number: u32,
+    pub number: u64,
     pub q: u8,
     pub n: usize,
     pub k: usize,
@@ -19,7 +19,7 @@ pub static SETTINGS: [Setting; 3] = [
 
 impl Setting {
     /// The setting with a number, if there is one.
-    pub fn of(number: u32) -> Option<&'static Setting> {
+    pub fn of(number: u64) -> Option<&'static Setting> {
         SETTINGS.iter().find(|setting| setting.number == number)
     }
 

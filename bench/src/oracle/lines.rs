@@ -16,7 +16,7 @@ pub fn line(text: &[u8]) -> String {
         return refusal(9, text.len());
     }
     let digits = String::from_utf8_lossy(text);
-    let number = u32::from_str_radix(&digits[..1], 16).expect("a digit");
+    let number = u64::from_str_radix(&digits[..1], 16).expect("a digit");
     let blocks = usize::from_str_radix(&digits[1..4], 16).expect("three digits");
     let Some(setting) = Setting::of(number) else {
         return refusal(1, 0);

@@ -5,7 +5,7 @@ use super::search::{fitting, transmission};
 use crate::calls::{Answer, Marks};
 
 /// Questions 1, 8, 3, 4, 6; then fills the area.
-pub fn encode(number: u32, message: &[u8], area: &mut [u8]) -> Answer {
+pub fn encode(number: u64, message: &[u8], area: &mut [u8]) -> Answer {
     let Some(setting) = Setting::of(number) else {
         return Answer::no(1);
     };
@@ -29,7 +29,7 @@ pub fn encode(number: u32, message: &[u8], area: &mut [u8]) -> Answer {
 
 /// Questions 1 to 7; fills both areas, after 7 with zeros.
 pub fn decode(
-    number: u32,
+    number: u64,
     reception: &[u8],
     message_area: &mut [u8],
     transmission_area: &mut [u8],
@@ -64,7 +64,7 @@ pub fn decode(
 }
 
 /// Questions 1, 2, 3, 12, 13; then a mark for each difference in window j.
-pub fn marks(number: u32, reception: &[u8], transmission: &[u8], j: u64) -> Marks {
+pub fn marks(number: u64, reception: &[u8], transmission: &[u8], j: u64) -> Marks {
     let refused = |answer| Marks { answer, marks: 0, set: 0 };
     let (setting, blocks) = match reception_questions(number, reception) {
         Err(refusal) => return refused(refusal),
@@ -88,7 +88,7 @@ pub fn marks(number: u32, reception: &[u8], transmission: &[u8], j: u64) -> Mark
 }
 
 /// Questions 1, 2, 3; then the setting and T.
-fn reception_questions(number: u32, reception: &[u8]) -> Result<(&'static Setting, usize), Answer> {
+fn reception_questions(number: u64, reception: &[u8]) -> Result<(&'static Setting, usize), Answer> {
     let setting = Setting::of(number).ok_or(Answer::no(1))?;
     if !reception.len().is_multiple_of(setting.n) || reception.len() < (setting.m + 1) * setting.n {
         return Err(Answer::no(2));

@@ -7,9 +7,9 @@ use std::ops::Range;
 /// A call's input: numbers, and what the lent areas hold before it.
 #[derive(Debug)]
 pub enum Call {
-    Encode { setting: u32, message: Vec<u8>, transmission: Vec<u8> },
-    Decode { setting: u32, reception: Vec<u8>, message: Vec<u8>, transmission: Vec<u8> },
-    Marks { setting: u32, reception: Vec<u8>, transmission: Vec<u8>, j: u64 },
+    Encode { setting: u64, message: Vec<u8>, transmission: Vec<u8> },
+    Decode { setting: u64, reception: Vec<u8>, message: Vec<u8>, transmission: Vec<u8> },
+    Marks { setting: u64, reception: Vec<u8>, transmission: Vec<u8>, j: u64 },
 }
 
 /// A call's answer, and what the areas that it may write hold after it.

@@ -4,8 +4,23 @@ use crate::call::Call;
 use orderlink_bench::oracle::{transmission, Setting, SETTINGS};
 use orderlink_bench::sample::{alter, damage_evenly, damage_up_to, Random};
 
-/// Numbers that are no setting, some of which are one modulo 256 or 65,536.
-const NO_SETTINGS: [u32; 10] = [0, 4, 5, 6, 8, 255, 257, 259, 65_537, u32::MAX];
+/// Numbers that are no setting, some of which are one in their lowest 8, 16 or 32 bits.
+pub const NO_SETTINGS: [u64; 14] = [
+    0,
+    4,
+    5,
+    6,
+    8,
+    255,
+    257,
+    259,
+    65_537,
+    (1 << 32) - 1,
+    (1 << 32) + 1,
+    (1 << 32) + 2,
+    1 << 63,
+    u64::MAX,
+];
 
 /// A decoding call with at most `longest` information blocks.
 pub fn decode(random: &mut Random, longest: usize) -> Call {

@@ -86,6 +86,11 @@ fn longest_orders() {
 }
 
 #[test]
+fn no_settings() {
+    cases::NO_SETTINGS.into_iter().for_each(|number| assert_known(orders::no_setting(number)));
+}
+
+#[test]
 fn random_short_decodings() {
     assert_searched(cases::decode, &[(400_000, 6)], &[0, 1, 2, 4, 5, 6, 7]);
 }

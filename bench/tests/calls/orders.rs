@@ -1,5 +1,5 @@
 //! Calls whose outcome needs no search: the orders worked through in document 01, orders damaged
-//! up to the limit, the longest orders and those too long.
+//! up to the limit, the longest orders and those too long, and numbers that are no setting.
 
 use crate::call::{Call, Outcome};
 use orderlink_bench::calls::{Answer, Marks};
@@ -74,8 +74,20 @@ pub fn too_long() -> Vec<Known> {
     SETTINGS.iter().flat_map(calls).collect()
 }
 
+/// Orders of a number that is no setting get 1 from every call, and nothing is written.
+pub fn no_setting(number: u64) -> Vec<Known> {
+    let (message, sent) = (vec![1], symbols("2431 2323 2134"));
+    let unused = (vec![UNUSED; message.len()], vec![UNUSED; sent.len()]);
+    let answer = Answer::no(1);
+    vec![
+        encoding(number, message, answer, unused.1.clone()),
+        marking(number, sent.clone(), sent.clone(), 0, Marks { answer, marks: 0, set: 0 }),
+        decoding(number, sent, answer, unused.0, unused.1),
+    ]
+}
+
 /// A message with its transmission.
-fn encoded(setting: u32, message: &str, sent: &str) -> Known {
+fn encoded(setting: u64, message: &str, sent: &str) -> Known {
     encoding(setting, symbols(message), yes(0), symbols(sent))
 }
 
@@ -93,13 +105,13 @@ fn refused(reception: &str) -> Known {
     decoding(1, reception, Answer::no(7), zeros.0, zeros.1)
 }
 
-fn encoding(setting: u32, message: Vec<u8>, answer: Answer, after: Vec<u8>) -> Known {
+fn encoding(setting: u64, message: Vec<u8>, answer: Answer, after: Vec<u8>) -> Known {
     let call = Call::Encode { setting, message, transmission: vec![UNUSED; after.len()] };
     (call, Outcome::Encoded { answer, transmission: after })
 }
 
 fn decoding(
-    setting: u32,
+    setting: u64,
     reception: Vec<u8>,
     answer: Answer,
     message: Vec<u8>,
@@ -110,7 +122,7 @@ fn decoding(
     (call, Outcome::Decoded { answer, message, transmission })
 }
 
-fn marking(setting: u32, reception: Vec<u8>, sent: Vec<u8>, j: u64, marks: Marks) -> Known {
+fn marking(setting: u64, reception: Vec<u8>, sent: Vec<u8>, j: u64, marks: Marks) -> Known {
     let call = Call::Marks { setting, reception, transmission: sent, j };
     (call, Outcome::Marked(marks))
 }

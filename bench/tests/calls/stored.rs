@@ -9,7 +9,7 @@ const LINES: &str = include_str!("../../../tests/vectors/base/calls.jsonl");
 /// A call for window j, and what it must return.
 #[derive(Debug)]
 pub struct Window {
-    pub setting: u32,
+    pub setting: u64,
     pub reception: Vec<u8>,
     pub j: u64,
     pub answer: Answer,
@@ -29,7 +29,7 @@ pub fn windows() -> Vec<Window> {
 
 fn call(line: &Value) -> Option<(Call, Outcome)> {
     let (args, result) = (line.get("args"), line.get("result"));
-    let (setting, answer) = (args.number("number") as u32, answer(result));
+    let (setting, answer) = (args.number("number"), answer(result));
     match line.text("call") {
         "encode" => {
             let (message, transmission) = (args.bytes("message"), args.bytes("tarea"));
@@ -57,7 +57,7 @@ fn call(line: &Value) -> Option<(Call, Outcome)> {
 fn window(line: &Value) -> Option<Window> {
     let (args, result) = (line.get("args"), line.get("result"));
     (line.text("call") == "window").then(|| Window {
-        setting: args.number("number") as u32,
+        setting: args.number("number"),
         reception: args.bytes("reception"),
         j: args.number("j"),
         answer: answer(result),

@@ -176,7 +176,7 @@ fn compare(
 }
 
 // One level of a setting: q^((l+1)k) information words, q^n blocks.
-fn level(number: u32, l: usize, distance: usize, count: usize, stride: usize, end: usize)
+fn level(number: u64, l: usize, distance: usize, count: usize, stride: usize, end: usize)
     requires { ⌜ T (isSetting number) × (l ≤ settingOf number .m) × (0 < stride) × (stride ≤ 4194304) × (end ≤ 4194304) ⌝ }
 {
     let p = tables::setting(number);

@@ -11,14 +11,14 @@ use super::MOST_CHARACTERS;
 use super::characters;
 use link::Answer;
 
-fn value(character: u8) -> u32
+fn value(character: u8) -> u64
     ensures { λ r. ⌜ r ≡ digitOf character ⌝ }
 {
-    characters::digit(character) as u32
+    characters::digit(character) as u64
 }
 
 // The setting's digit.
-pub fn setting_in(line: &[u8]) -> u32
+pub fn setting_in(line: &[u8]) -> u64
     requires { ⌜ 4 ≤ length (now line) ⌝ }
     ensures { λ r. ⌜ r ≡ settingIn (now (line .entry)) ⌝ }
 {
@@ -26,7 +26,7 @@ pub fn setting_in(line: &[u8]) -> u32
 }
 
 // T, by its three digits.
-pub fn blocks_in(line: &[u8]) -> u32
+pub fn blocks_in(line: &[u8]) -> u64
     requires { ⌜ 4 ≤ length (now line) ⌝ }
     ensures { λ r. ⌜ r ≡ blocksIn (now (line .entry)) ⌝ }
 {

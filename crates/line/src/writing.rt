@@ -58,21 +58,21 @@ pub fn write_refusal(answer: Answer, output: &mut [u8]) -> usize
 }
 
 // "`00`, four digits of altered count, the setting digit, three of T"
-fn write_opening(count: u32, number: u32, blocks: u32, output: &mut [u8])
+fn write_opening(count: u32, number: u64, blocks: u64, output: &mut [u8])
     requires { ⌜ 10 ≤ length (now output) ⌝ }
     ensures { λ _. ⌜ Placed (opening count number blocks) (now (output .entry)) (now (output .exit)) ⌝ }
 {
     write_number(0, &mut output[0..2]);
     write_number(count as u64, &mut output[2..6]);
-    write_number(number as u64, &mut output[6..7]);
-    write_number(blocks as u64, &mut output[7..10]);
+    write_number(number, &mut output[6..7]);
+    write_number(blocks, &mut output[7..10]);
 }
 
 // The opening "and the message symbols".
 pub fn write_success(
     count: u32,
-    number: u32,
-    blocks: u32,
+    number: u64,
+    blocks: u64,
     message: &[u8],
     output: &mut [u8],
 ) -> usize

@@ -74,7 +74,7 @@ fn decode_lent(
 
 // The same; the tables and the working areas are made here.
 fn decode_frame(
-    setting: u32,
+    setting: u64,
     p: Setting,
     blocks: usize,
     reception: &[u8],
@@ -109,7 +109,7 @@ fn decode_frame(
 
 // Decodes a reception: the answer to questions 1 to 7 and the number of symbols altered; the message that fits in the first T × k bytes of its
 // area and its transmission in the first (T+m) × n bytes of its, or zeros there if no message fits.
-pub fn decode(setting: u32, reception: &[u8], message: &mut [u8], transmission: &mut [u8]) -> Answer
+pub fn decode(setting: u64, reception: &[u8], message: &mut [u8], transmission: &mut [u8]) -> Answer
     ensures { λ r. ⌜ Decoded setting (now (reception .entry)) (now (message .entry)) (now (transmission .entry)) r (now (message .exit)) (now (transmission .exit)) ⌝ }
 {
     let answer = questions::decoding_questions(

@@ -7,7 +7,7 @@ use super::Answer;
 use super::questions;
 
 // Window j, the m+1 blocks from block j on; empty where one of questions 1, 2, 3 and 12 gets "no".
-pub fn window(setting: u32, reception: &[u8], j: u64) -> &[u8]
+pub fn window(setting: u64, reception: &[u8], j: u64) -> &[u8]
     ensures { λ r. ⌜ now r ≡ windowOf setting (now (reception .entry)) j ⌝ }
 {
     let answer = questions::display_questions(setting, reception.len(), j);
@@ -23,7 +23,7 @@ pub fn window(setting: u32, reception: &[u8], j: u64) -> &[u8]
 }
 
 // The answer of `window` on the same input.
-pub fn window_answer(setting: u32, reception: &[u8], j: u64) -> Answer
+pub fn window_answer(setting: u64, reception: &[u8], j: u64) -> Answer
     ensures { λ r. ⌜ r ≡ firstNo (displayQuestions setting (length (now (reception .entry))) j) ⌝ }
 {
     questions::display_questions(setting, reception.len(), j)

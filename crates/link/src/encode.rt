@@ -54,7 +54,7 @@ fn send(p: Setting, products: &Tables, rows: &[u8], message: &[u8], blocks: usiz
 }
 
 // The transmission of a message, in an area of just its size; the tables are made here.
-fn encode_frame(setting: u32, p: Setting, message: &[u8], blocks: usize, area: &mut [u8])
+fn encode_frame(setting: u64, p: Setting, message: &[u8], blocks: usize, area: &mut [u8])
     requires { ⌜ T (isSetting setting) × (p ≡ settingOf setting) × Narrow p × Message p blocks (now message) × (blocks ≤ mostBlocks) × (length (now area) ≡ (blocks + p .m) * p .n) ⌝ }
     ensures { λ _. ⌜ now (area .exit) ≡ transmission p (now (message .entry)) ⌝ }
 {
@@ -65,7 +65,7 @@ fn encode_frame(setting: u32, p: Setting, message: &[u8], blocks: usize, area: &
 }
 
 // Encodes a message: the answer to questions 1, 8, 3, 4 and 6, and the transmission in the first (T+m) × n bytes of its area.
-pub fn encode(setting: u32, message: &[u8], transmission: &mut [u8]) -> Answer
+pub fn encode(setting: u64, message: &[u8], transmission: &mut [u8]) -> Answer
     ensures { λ r. ⌜ Encoded setting (now (message .entry)) (now (transmission .entry)) r (now (transmission .exit)) ⌝ }
 {
     let answer = questions::encoding_questions(setting, message, transmission.len());

@@ -35,7 +35,7 @@ fn differences(reception: &[u8], transmission: &[u8], from: usize, long: usize) 
 }
 
 // The marks of window j and how many are set; 0 and 0 where one of questions 1, 2, 3, 12 and 13 gets "no".
-pub fn marks(setting: u32, reception: &[u8], transmission: &[u8], j: u64) -> Marks
+pub fn marks(setting: u64, reception: &[u8], transmission: &[u8], j: u64) -> Marks
     ensures { λ r. ⌜ Marked setting (now (reception .entry)) (now (transmission .entry)) j r ⌝ }
 {
     let answer = questions::marks_questions(setting, reception.len(), transmission.len(), j);

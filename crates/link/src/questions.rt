@@ -78,7 +78,7 @@ pub fn first_not_below(q: usize, bytes: &[u8]) -> usize
 }
 
 // Questions 1, 2 and 3 of a frame of this many symbols.
-pub fn frame_questions(number: u32, long: usize) -> Answer
+pub fn frame_questions(number: u64, long: usize) -> Answer
     ensures { λ r. ⌜ r ≡ firstNo (frameQuestions number long) ⌝ }
 {
     if !tables::is_setting(number) {
@@ -101,7 +101,7 @@ pub fn frame_questions(number: u32, long: usize) -> Answer
 
 // Decoding: 1, 2, 3, 4, 5, 6.
 pub fn decoding_questions(
-    number: u32,
+    number: u64,
     reception: &[u8],
     message_room: usize,
     transmission_room: usize,
@@ -132,7 +132,7 @@ pub fn decoding_questions(
 }
 
 // Encoding: 1, 8, 3, 4, 6.
-pub fn encoding_questions(number: u32, message: &[u8], transmission_room: usize) -> Answer
+pub fn encoding_questions(number: u64, message: &[u8], transmission_room: usize) -> Answer
     ensures { λ r. ⌜ r ≡ firstNo (encodingQuestions number (now (message .entry)) «transmission_room») ⌝ }
 {
     if !tables::is_setting(number) {
@@ -164,7 +164,7 @@ pub fn encoding_questions(number: u32, message: &[u8], transmission_room: usize)
 }
 
 // Display: 1, 2, 3, 12.
-pub fn display_questions(number: u32, long: usize, j: u64) -> Answer
+pub fn display_questions(number: u64, long: usize, j: u64) -> Answer
     ensures { λ r. ⌜ r ≡ firstNo (displayQuestions number long j) ⌝ }
 {
     let frame = frame_questions(number, long);
@@ -183,7 +183,7 @@ pub fn display_questions(number: u32, long: usize, j: u64) -> Answer
 
 // Marks: 1, 2, 3, 12, 13.
 pub fn marks_questions(
-    number: u32,
+    number: u64,
     reception_long: usize,
     transmission_long: usize,
     j: u64,

@@ -1,6 +1,6 @@
 // Runs the calls of tests/vectors on the library, a line in and a line out; tests/vectors/rattle.py makes stdin and stdout.
 //
-// A line in: the call's letter, the setting (8 digits), j (16 digits) and the lengths of three areas (4 digits each), with a space after each,
+// A line in: the call's letter, the setting and j (16 digits each) and the lengths of three areas (4 digits each), with a space after each,
 // then the areas, two digits a byte, one after the other. All digits are hexadecimal.
 // A line out: number, place and count of the answer in decimal, then what the call returned and what it left in the areas.
 ghost use mathlib.Core.Path.{_≡_};
@@ -29,12 +29,12 @@ fn value(digit: u8) -> u8
     0
 }
 
-// The number that the last eight digits of a text say.
-fn word(digits: &[u8]) -> u32 {
-    let mut word: u32 = 0;
+// The number that the last sixteen digits of a text say.
+fn word(digits: &[u8]) -> u64 {
+    let mut word: u64 = 0;
     let mut i: usize = 0;
     while i < digits.len() {
-        word = word << 4 | value(digits[i]) as u32;
+        word = word << 4 | value(digits[i]) as u64;
         i += 1;
     }
     word
@@ -104,7 +104,7 @@ fn show_answer(answer: Answer) {
     show_number(answer.altered as u64);
 }
 
-fn encode(number: u32, message: &[u8], transmission: &mut [u8], digits: &mut [u8]) {
+fn encode(number: u64, message: &[u8], transmission: &mut [u8], digits: &mut [u8]) {
     let answer = link::encode::encode(number, message, transmission);
     show_answer(answer);
     space();
@@ -113,7 +113,7 @@ fn encode(number: u32, message: &[u8], transmission: &mut [u8], digits: &mut [u8
 }
 
 fn decode(
-    number: u32,
+    number: u64,
     reception: &[u8],
     message: &mut [u8],
     transmission: &mut [u8],
@@ -128,7 +128,7 @@ fn decode(
     end_line();
 }
 
-fn window(number: u32, reception: &[u8], j: u64, digits: &mut [u8]) {
+fn window(number: u64, reception: &[u8], j: u64, digits: &mut [u8]) {
     let answer = link::display::window_answer(number, reception, j);
     show_answer(answer);
     space();
@@ -137,7 +137,7 @@ fn window(number: u32, reception: &[u8], j: u64, digits: &mut [u8]) {
     end_line();
 }
 
-fn marks(number: u32, reception: &[u8], transmission: &[u8], j: u64) {
+fn marks(number: u64, reception: &[u8], transmission: &[u8], j: u64) {
     let found = link::mark::marks(number, reception, transmission, j);
     let answer = found.answer;
     show_answer(answer);
@@ -148,10 +148,11 @@ fn marks(number: u32, reception: &[u8], transmission: &[u8], j: u64) {
     end_line();
 }
 
-// E: encoding of the first area into the third. D: decoding of the first into the second and the third. W: window j of the first. M: marks of the first and the second in window j.
+// E: encoding of the first area into the third. D: decoding of the first into the second and the third. W: window j of the first. M: marks of the first and
+// the second in window j.
 fn call_on(
     call: u8,
-    number: u32,
+    number: u64,
     j: u64,
     first: &[u8],
     second: &mut [u8],
@@ -178,7 +179,7 @@ fn call_on(
 // What stands at the start of a line.
 struct Head {
     call: u8,
-    number: u32,
+    number: u64,
     j: u64,
     first: usize,
     second: usize,
@@ -186,18 +187,17 @@ struct Head {
 }
 
 fn head_of(start: &[u8]) -> Head
-    requires { ⌜ length (now start) ≡ 43 ⌝ }
+    requires { ⌜ length (now start) ≡ 51 ⌝ }
 {
-    let high = word(&start[11..19]) as u64;
-    let low = word(&start[19..27]) as u64;
-    let number = word(&start[2..10]);
-    let first = word(&start[28..32]) as usize;
-    let second = word(&start[33..37]) as usize;
-    let third = word(&start[38..42]) as usize;
+    let number = word(&start[2..18]);
+    let j = word(&start[19..35]);
+    let first = word(&start[36..40]) as usize;
+    let second = word(&start[41..45]) as usize;
+    let third = word(&start[46..50]) as usize;
     Head {
         call: start[0],
         number: number,
-        j: high << 32 | low,
+        j: j,
         first: first,
         second: second,
         third: third,
@@ -263,17 +263,17 @@ fn run(
 }
 
 // One line; false where the input ends.
-fn line(
+fn next(
     start: &mut [u8],
     digits: &mut [u8],
     first: &mut [u8],
     second: &mut [u8],
     third: &mut [u8],
 ) -> bool {
-    if start.len() != 43 {
+    if start.len() != 51 {
         return false;
     }
-    if io::read_full(STDIN_FILENO, start) != 43 {
+    if io::read_full(STDIN_FILENO, start) != 51 {
         return false;
     }
     let head = head_of(start);
@@ -281,12 +281,12 @@ fn line(
 }
 
 fn turn() -> bool {
-    let mut start = [0u8; 43];
+    let mut start = [0u8; 51];
     let mut digits = io::large_buffer();
     let mut first = io::buffer();
     let mut second = io::buffer();
     let mut third = io::buffer();
-    line(&mut start, &mut digits, &mut first, &mut second, &mut third)
+    next(&mut start, &mut digits, &mut first, &mut second, &mut third)
 }
 
 fn main() {

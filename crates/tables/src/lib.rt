@@ -17,7 +17,7 @@ pub const MOST_ROWS: usize = 42;
 pub const LONGEST_BLOCK: usize = 7;
 
 // Question 1: "Is the setting 1, 2 or 3?"
-pub fn is_setting(number: u32) -> bool
+pub fn is_setting(number: u64) -> bool
     ensures { λ r. ⌜ r ≡ isSetting number ⌝ }
 {
     if number < 1 {
@@ -27,7 +27,7 @@ pub fn is_setting(number: u32) -> bool
 }
 
 // The parameters of a setting.
-pub fn setting(number: u32) -> Setting
+pub fn setting(number: u64) -> Setting
     requires { ⌜ T (isSetting number) ⌝ }
     ensures { λ r. ⌜ r ≡ settingOf number ⌝ }
 {
@@ -144,7 +144,7 @@ fn rows_3(area: &mut [u8])
 }
 
 // A setting's rows one after the other, at the front of the area.
-pub fn rows(number: u32, area: &mut [u8])
+pub fn rows(number: u64, area: &mut [u8])
     requires { ⌜ T (isSetting number) × (rowsLength (settingOf number) ≤ length (now area)) ⌝ }
     ensures { λ _. ⌜ RowsOf (settingOf number) (now (area .exit)) ⌝ }
 {

@@ -39,9 +39,6 @@ returns c =
 blocks-in-requires : tie.Need-blocks-in-requires
 blocks-in-requires c κs = search needs
 
-cast-blocks : tie.Need-cast-blocks
-cast-blocks c = search needs
-
 no-requires-2 : tie.Need-no-requires-2
 no-requires-2 c κs = search needs
 
@@ -110,7 +107,6 @@ head-questions-spec =
     no-requires
     returns
     blocks-in-requires
-    cast-blocks
     no-requires-2
     returns-2
     no-requires-3

@@ -2,7 +2,6 @@
 use mathlib.Core.Path.{sym, ap, ap₂, subst, _∙_}
 use Prim.Native.Nat.{ℕ, _*_, _≤_}
 use native.Mathlib.Omega.{arith}
-use borrow.Author.Needs.{needs}
 use denote.Ref.{now}
 use lib.Dec.{T}
 use Rattle.code.specs.declared.Setting.{Setting}
@@ -21,9 +20,6 @@ setting-in-requires c κs = known (c .before) .least
 
 blocks-in-requires : tie.Need-blocks-in-requires
 blocks-in-requires c κs = known (c .before .before) .least
-
-cast-blocks : tie.Need-cast-blocks
-cast-blocks c = search needs
 
 is-setting : (c : tie.After-blocks-in) → T (isSetting (c .before .setting-in .result))
 is-setting c = subst (λ (t : ℕ). T (isSetting t)) (sym (c .before .setting-in .ensures)) (known (c .before .before .before) .setting)
@@ -46,4 +42,4 @@ returns c = (
 )
 
 pub message-length-spec : {M : Type 1} → statement M
-message-length-spec = tie.close (tie.spec setting-in-requires blocks-in-requires cast-blocks setting-requires mul-result returns)
+message-length-spec = tie.close (tie.spec setting-in-requires blocks-in-requires setting-requires mul-result returns)
