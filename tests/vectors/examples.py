@@ -1,4 +1,4 @@
-"""Calls with right answers that need no program: the examples of 000 and 01, orders of the greatest length put together from 01's, and
+"""Calls with right answers that need no program: the examples of 000, 004 and 01, orders and lines of the greatest length put together from 01's, and
 numbers that are no setting."""
 
 # Symbols of a block, symbols of an information block, closing blocks, and 01's transmission of the information block 1, 10 or 100.
@@ -9,9 +9,17 @@ SETTINGS = {
 }
 UNUSED = "a5"
 
+# The powers α^0 to α^6 of the eight-element field.
+POWERS = [1, 2, 4, 3, 6, 7, 5]
+
 
 def symbols(text):
     return [int(c) for c in text if c != " "]
+
+
+def powers(text):
+    """Symbols from exponents of α; a point is 0."""
+    return [0 if c == "." else POWERS[int(c)] for c in text if c != " "]
 
 
 def areas(*held):
@@ -70,6 +78,10 @@ def marked(setting, reception, transmission, j, number):
     }
 
 
+def answered_line(line, answer):
+    return {"call": "line", "args": {"line": line.encode().hex()}, "result": {"line": answer}}
+
+
 def long_order(setting, T):
     """An information block 1, 10 or 100 in every block m + 1 apart: its transmission is 01's, again and again."""
     n, k, m, sent = SETTINGS[setting]
@@ -99,6 +111,21 @@ def examples():
     ]
     for setting, reception, message, transmission in one_fits:
         yield decoded(setting, symbols(reception), 0, symbols(message), symbols(transmission), tail=2)
+    # 004, Example 4.5: the matrices of its code with k = 2 and of its code with k = 3, by another generator, and the second matrix of (b), by f. A row with its
+    # powers of z one after the other is the transmission of an information block; for f's, of 100, 010 and 001.
+    rows = [
+        (2, "02", ".414221 .653356 .122414"),
+        (2, "74", "1.41422 1.10550 1.56615"),
+        (3, "204", "0651342 0243156"),
+        (3, "366", "2065134 2350641"),
+        (3, "753", "4206513 4561320"),
+        (3, "100", "65520.. 61445.."),
+        (3, "010", ".65520. .24001."),
+        (3, "001", "..65520 ..50334"),
+    ]
+    for setting, message, row in rows:
+        yield encoded(setting, symbols(message), 0, powers(row))
+        yield decoded(setting, powers(row), 0, symbols(message), powers(row))
     # Numbers that are no setting; three of them are one in their lowest 32 bits.
     message, transmission = long_order(1, 1)
     for number in (2**32 + 1, 2**32 + 2, 2**63 + 3, 2**63, 2**64 - 1):
@@ -106,6 +133,29 @@ def examples():
         yield decoded(number, transmission, 1, message, transmission)
         yield displayed(number, transmission, 0, 1)
         yield marked(number, transmission, transmission, 0, 1)
+    # 01's sample lines; question 11's limit, and what is asked after it.
+    samples = {
+        "1001243123230000": "00000410011",
+        "1001243123200000": "070000",
+        "1001243523230000": "040003",
+        "": "090000",
+        "4001": "010000",
+        "1201": "030000",
+        "1001243": "0a0000",
+    }
+    for line, answer in samples.items():
+        yield answered_line(line, answer)
+    message, transmission = ("".join(map(str, area)) for area in long_order(2, 512))
+    longest = "2200" + transmission
+    assert len(longest) == 3602
+    yield answered_line(longest, "0000002200" + message)
+    yield answered_line(longest[:-1] + "1", "0000012200" + message)
+    yield answered_line(longest[:-1] + "8", "040e0d")
+    yield answered_line(longest[:-1] + "g", "090e11")
+    yield answered_line("4" + longest[1:], "010000")
+    yield answered_line("3" + longest[1:], "0a0000")
+    for line in (longest + "0", "g" * 3603, "4" + longest, longest + "00", "0" * 4000):
+        yield answered_line(line, "0b0000")
     for setting, (n, k, m, _) in SETTINGS.items():
         message, transmission = long_order(setting, 512)
         yield encoded(setting, message, 0, transmission)

@@ -2,7 +2,7 @@
 """Makes crates/link_test/stdin and stdout: the calls of base/calls.jsonl and of examples.py, and what the program must write.
 
 A line of stdin: the call's letter, the setting, j, the lengths of three areas and the areas, all in hexadecimal (crates/link_test/src/main.rt).
-A line of stdout: number, place and count of the answer in decimal, then what the call returned and what it left in the areas.
+A line of stdout: number, place and count of the answer in decimal, then what the call returned and what it left in the areas; for a desk line, its answer.
 Run it where it stands; `--check` only says whether the files are up to date."""
 import itertools, json, os, sys
 
@@ -21,6 +21,7 @@ CALLS = {
     ),
     "window": ("W", lambda a: (a["reception"], "", ""), lambda r: [r["part"]]),
     "marks": ("M", lambda a: (a["reception"], a["transmission"], ""), lambda r: [str(r["marks"]), str(r["ones"])]),
+    "line": ("L", lambda a: (a["line"], "", ""), lambda r: [r["line"]]),
 }
 
 given, expected = [], []

@@ -2,7 +2,7 @@
 //
 // A line in: the call's letter, the setting and j (16 digits each) and the lengths of three areas (4 digits each), with a space after each,
 // then the areas, two digits a byte, one after the other. All digits are hexadecimal.
-// A line out: number, place and count of the answer in decimal, then what the call returned and what it left in the areas.
+// A line out: number, place and count of the answer in decimal, then what the call returned and what it left in the areas; for a desk line, its answer.
 ghost use mathlib.Core.Path.{_≡_};
 ghost use Prim.Native.Nat.{_≤_, _<_};
 ghost use lib.ListN.{length};
@@ -148,8 +148,39 @@ fn marks(number: u64, reception: &[u8], transmission: &[u8], j: u64) {
     end_line();
 }
 
+// The answer to a desk line, by way of areas that it is lent.
+fn answer_in(
+    text: &[u8],
+    reception: &mut [u8],
+    message: &mut [u8],
+    transmission: &mut [u8],
+    output: &mut [u8],
+) {
+    let long = line::answer_line(text, reception, message, transmission, output);
+    if output.len() < long {
+        return;
+    }
+    io::write_all(STDOUT_FILENO, &output[..long]);
+    end_line();
+}
+
+// The same; areas with room for every line are made here.
+fn desk_line(text: &[u8]) {
+    let mut reception = [0u8; line::MOST_SYMBOLS];
+    let mut message = [0u8; line::MOST_INFORMATION];
+    let mut transmission = [0u8; line::MOST_SYMBOLS];
+    let mut output = [0u8; line::MOST_ANSWER];
+    answer_in(
+        text,
+        &mut reception,
+        &mut message,
+        &mut transmission,
+        &mut output,
+    );
+}
+
 // E: encoding of the first area into the third. D: decoding of the first into the second and the third. W: window j of the first. M: marks of the first and
-// the second in window j.
+// the second in window j. L: the first as a line at the planning desk.
 fn call_on(
     call: u8,
     number: u64,
@@ -173,6 +204,10 @@ fn call_on(
     }
     if call == b'M' {
         marks(number, first, second, j);
+        return;
+    }
+    if call == b'L' {
+        desk_line(first);
     }
 }
 
