@@ -1,5 +1,5 @@
-// The block step against plain enumeration: for received blocks of every setting and level, whether it answers just where some information costs
-// less than d_l. Every block of setting 1; of settings 2 and 3 every block whose number is a multiple of a stride.
+// The block step against plain enumeration: for received blocks of every setting and level, whether it answers with the information that costs less than
+// d_l, and with none where none does. Every block of setting 1; of settings 2 and 3 every block whose number is a multiple of a stride.
 // Writes for each setting and level: how many blocks, how many of them near, in how many the two agree.
 ghost use mathlib.Core.Path.{_≡_};
 ghost use Prim.Native.Nat.{_≤_, _<_};
@@ -9,6 +9,7 @@ ghost use Rattle.field.specs.Fields.{Good};
 ghost use Rattle.field.specs.Symbols.{Symbols};
 ghost use Rattle.code.specs.Settings.{isSetting, settingOf};
 ghost use Rattle.tables.specs.parts.Tables.{Ready, longestBlock};
+ghost use Rattle.block.specs.parts.Area.{Working};
 use code::Setting;
 use field::Tables;
 use libc::STDOUT_FILENO;
@@ -60,8 +61,8 @@ fn near(
     true
 }
 
-// Whether any of the first `count` information words does.
-fn some_near(
+// The first of the first `count` information words that does, by its number; `count` if none does.
+fn search_near(
     p: Setting,
     products: &Tables,
     rows: &[u8],
@@ -69,22 +70,84 @@ fn some_near(
     received: &[u8],
     distance: usize,
     count: usize,
-) -> bool
+) -> usize
     requires { ⌜ Ready p (now products) (now rows) × (p .n ≤ longestBlock) × (l ≤ p .m) × (length (now received) ≡ p .n) ⌝ }
 {
     let mut x: usize = 0;
     while x < count {
         let information = digits(p.q, x);
         if near(p, products, rows, &information, l, received, distance) {
-            return true;
+            return x;
         }
         x += 1;
     }
-    false
+    count
 }
 
-// Whether the block step answers with information.
-fn repaired(p: Setting, products: &Tables, rows: &[u8], l: usize, received: &[u8]) -> bool
+// A number with one digit more, its lowest. One that is too large for an information word stays as it is.
+fn with_digit(q: usize, number: usize, digit: u8) -> usize
+    requires { ⌜ Good q ⌝ }
+{
+    if 4194304 < number {
+        return number;
+    }
+    number * q + digit as usize
+}
+
+// The number of which an information word's symbols are the digits to the base q.
+fn number_of(q: usize, information: &[u8]) -> usize
+    requires { ⌜ Good q ⌝ }
+{
+    let mut number: usize = 0;
+    let mut i = information.len();
+    while 0 < i {
+        i -= 1;
+        number = with_digit(q, number, information[i]);
+    }
+    number
+}
+
+// The information with which the block step answers, by its number; `none` if it answers that there is none.
+fn repaired_in(
+    p: Setting,
+    products: &Tables,
+    rows: &[u8],
+    l: usize,
+    received: &[u8],
+    none: usize,
+    series: &mut [u8],
+    locator: &mut [u8],
+    values: &mut [u8],
+    information: &mut [u8],
+) -> usize
+    requires { ⌜ Ready p (now products) (now rows) × (l ≤ p .m) × (length (now received) ≡ p .n) × Symbols (p .q) (now received) × Working p (now series) (now locator) (now values) (now information) ⌝ }
+{
+    let long = (l + 1) * p.k;
+    if !block::repair(
+        p,
+        products,
+        rows,
+        received,
+        l,
+        series,
+        locator,
+        values,
+        information,
+    ) {
+        return none;
+    }
+    number_of(p.q, &information[..long])
+}
+
+// The same; the working areas are made here.
+fn repaired(
+    p: Setting,
+    products: &Tables,
+    rows: &[u8],
+    l: usize,
+    received: &[u8],
+    none: usize,
+) -> usize
     requires { ⌜ Ready p (now products) (now rows) × (p .n ≤ longestBlock) × (l ≤ p .m) × (length (now received) ≡ p .n) × Symbols (p .q) (now received) ⌝ }
 {
     let mut series = [0u8; LONGEST_BLOCK + 1];
@@ -92,12 +155,13 @@ fn repaired(p: Setting, products: &Tables, rows: &[u8], l: usize, received: &[u8
     let mut values = [0u8; LONGEST_BLOCK + 1];
     let mut information = [0u8; LONGEST_BLOCK + 1];
     let room = p.n + 1;
-    block::repair(
+    repaired_in(
         p,
         products,
         rows,
-        received,
         l,
+        received,
+        none,
         &mut series[..room],
         &mut locator[..room],
         &mut values[..room],
@@ -105,7 +169,7 @@ fn repaired(p: Setting, products: &Tables, rows: &[u8], l: usize, received: &[u8
     )
 }
 
-// One block: whether the block step answers with information, and whether enumeration says the same; 1 for yes.
+// One block: whether the block step and enumeration agree, and whether on information; 1 for yes.
 struct Tally {
     near: usize,
     agree: usize,
@@ -125,18 +189,15 @@ fn one(
 {
     let symbols = digits(p.q, number);
     let received = &symbols[..p.n];
-    let expected = some_near(p, products, rows, l, received, distance, count);
-    let found = repaired(p, products, rows, l, received);
-    if found {
-        if expected {
-            return Tally { near: 1, agree: 1 };
-        }
-        return Tally { near: 1, agree: 0 };
-    }
-    if expected {
+    let expected = search_near(p, products, rows, l, received, distance, count);
+    let found = repaired(p, products, rows, l, received, count);
+    if found != expected {
         return Tally { near: 0, agree: 0 };
     }
-    Tally { near: 0, agree: 1 }
+    if found == count {
+        return Tally { near: 0, agree: 1 };
+    }
+    Tally { near: 1, agree: 1 }
 }
 
 fn print(number: usize, after: u8) {

@@ -16,8 +16,8 @@ array-share-prefix-symbols c = search needs
 slice-aggregate-received : tie.Need-slice-aggregate-received
 slice-aggregate-received c = sym (length-take-le _ _ (omega arith))
 
-some-near-requires : tie.Need-some-near-requires
-some-near-requires c κs = let p = c .before .before .before .pre in (p .0, p .1, p .2, length-take-le _ _ (omega arith))
+search-near-requires : tie.Need-search-near-requires
+search-near-requires c κs = let p = c .before .before .before .pre in (p .0, p .1, p .2, length-take-le _ _ (omega arith))
 
 repaired-requires : tie.Need-repaired-requires
 repaired-requires c κs =
@@ -35,9 +35,6 @@ returns-2 c = search needs
 returns-3 : tie.Need-returns-3
 returns-3 c = search needs
 
-returns-4 : tie.Need-returns-4
-returns-4 c = search needs
-
 pub one-spec : {M : Type 1} → statement M
 one-spec =
     tie.close
@@ -45,9 +42,8 @@ one-spec =
     digits-requires
     array-share-prefix-symbols
     slice-aggregate-received
-    some-near-requires
+    search-near-requires
     repaired-requires
     returns
     returns-2
-    returns-3
-    returns-4)
+    returns-3)

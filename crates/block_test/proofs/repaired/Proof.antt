@@ -12,34 +12,34 @@ add-room c = search needs
 array-borrow-prefix-series : tie.Need-array-borrow-prefix-series
 array-borrow-prefix-series c = search needs
 
-slice-aggregate-repair : tie.Need-slice-aggregate-repair
-slice-aggregate-repair c = sym (length-take-le _ _ (omega arith))
+slice-aggregate-repaired-in : tie.Need-slice-aggregate-repaired-in
+slice-aggregate-repaired-in c = sym (length-take-le _ _ (omega arith))
 
 array-borrow-prefix-locator : tie.Need-array-borrow-prefix-locator
 array-borrow-prefix-locator c = search needs
 
-slice-aggregate-repair-2 : tie.Need-slice-aggregate-repair-2
-slice-aggregate-repair-2 c = sym (length-take-le _ _ (omega arith))
+slice-aggregate-repaired-in-2 : tie.Need-slice-aggregate-repaired-in-2
+slice-aggregate-repaired-in-2 c = sym (length-take-le _ _ (omega arith))
 
 array-borrow-prefix-values : tie.Need-array-borrow-prefix-values
 array-borrow-prefix-values c = search needs
 
-slice-aggregate-repair-3 : tie.Need-slice-aggregate-repair-3
-slice-aggregate-repair-3 c = sym (length-take-le _ _ (omega arith))
+slice-aggregate-repaired-in-3 : tie.Need-slice-aggregate-repaired-in-3
+slice-aggregate-repaired-in-3 c = sym (length-take-le _ _ (omega arith))
 
 array-borrow-prefix-information : tie.Need-array-borrow-prefix-information
 array-borrow-prefix-information c = search needs
 
-slice-aggregate-repair-4 : tie.Need-slice-aggregate-repair-4
-slice-aggregate-repair-4 c = sym (length-take-le _ _ (omega arith))
+slice-aggregate-repaired-in-4 : tie.Need-slice-aggregate-repaired-in-4
+slice-aggregate-repaired-in-4 c = sym (length-take-le _ _ (omega arith))
 
-repair-requires : tie.Need-repair-requires
-repair-requires c κs =
+repaired-in-requires : tie.Need-repaired-in-requires
+repaired-in-requires c κs =
     let p = c .before .before .before .before .before .before .before .pre in (
       p .0,
+      p .2,
       p .3,
       p .4,
-      p .2,
       record {
         series-long = length-take-le _ _ (omega arith);
         locator-long = length-take-le _ _ (omega arith);
@@ -57,12 +57,12 @@ repaired-spec =
     (tie.spec
     add-room
     array-borrow-prefix-series
-    slice-aggregate-repair
+    slice-aggregate-repaired-in
     array-borrow-prefix-locator
-    slice-aggregate-repair-2
+    slice-aggregate-repaired-in-2
     array-borrow-prefix-values
-    slice-aggregate-repair-3
+    slice-aggregate-repaired-in-3
     array-borrow-prefix-information
-    slice-aggregate-repair-4
-    repair-requires
+    slice-aggregate-repaired-in-4
+    repaired-in-requires
     returns)

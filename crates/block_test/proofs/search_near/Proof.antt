@@ -1,9 +1,9 @@
--- `block_test::some_near` is safe and ends.
+-- `block_test::search_near` is safe and ends.
 use Prim.Native.Nat.{_≤_, _-_}
 use native.Mathlib.Omega.{arith}
 use borrow.Author.Needs.{needs}
-use Rattle.block_test.proofs.some_near.Statement.{statement}
-use Rattle.block_test.proofs.some_near.Tie as tie
+use Rattle.block_test.proofs.search_near.Statement.{statement}
+use Rattle.block_test.proofs.search_near.Tie as tie
 
 abbrev Inv-loop : tie.InvT-loop
 Inv-loop p products rows l received distance count x₀ x = x ≤ count
@@ -38,8 +38,8 @@ loop-again c = omega arith
 returns-2 : tie.Need-returns-2 Inv-loop μ-loop
 returns-2 c = search needs
 
-pub some-near-spec : {M : Type 1} → statement M
-some-near-spec =
+pub search-near-spec : {M : Type 1} → statement M
+search-near-spec =
     tie.close
     (tie.spec
     Inv-loop
