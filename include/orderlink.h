@@ -22,11 +22,15 @@
  * Areas
  *   Every area is a pointer to its first byte and a length in bytes. A call
  *   reads and writes only within these ends; where the length is 0 it does
- *   not follow the pointer, which may then be NULL. The areas of one call must
- *   not overlap. An area that a call fills may be longer than needed; what
- *   lies behind the bytes that it fills keeps its value. Areas passed as const
- *   are only read. No call keeps a pointer, allocates memory or has state of
- *   its own, so threads may call at the same time, each with areas of its own.
+ *   not follow the pointer, which may then be NULL. An area that a call fills
+ *   may be longer than needed; what lies behind the bytes that it fills keeps
+ *   its value. Areas passed as const are only read. No call keeps a pointer,
+ *   allocates memory or has state of its own, so threads may call at the same
+ *   time, each with areas of its own.
+ *
+ *   The areas of one call must not overlap: nothing is encoded or decoded in
+ *   place. A call does not detect it: whatever it answers and leaves, number 0
+ *   too, then means nothing.
  *
  * Numbers
  *   A call asks the questions below in the order given with it. The first "no"
@@ -80,6 +84,7 @@ struct orderlink_marks {
 /*
  * Encodes a message of T = message_len / k blocks.
  * Questions: 1, 8, 3, 4 (the message's symbols), 6.
+ * The areas must not overlap; where they do, number 0 means nothing.
  *
  * number 0    the first (T + m) * n bytes of the transmission area hold the
  *             transmission, block after block
@@ -92,6 +97,7 @@ struct orderlink_answer orderlink_encode(uint64_t setting,
 /*
  * Decodes a reception of T = reception_len / n - m information blocks.
  * Questions: 1, 2, 3, 4 (the reception's symbols), 5, 6, 7.
+ * The areas must not overlap; where they do, number 0 means nothing.
  *
  * number 0    the first T * k bytes of the message area hold the message that
  *             fits, the first (T + m) * n of the transmission area its
