@@ -2,7 +2,7 @@
 ghost use Rattle.link.specs.Encoding.{Encoded};
 ghost use Rattle.link.specs.Decoding.{Decoded};
 ghost use Rattle.link.specs.Marks.{Marked};
-use link::Answer;
+use question::Answer;
 use link::Marks;
 
 // struct orderlink_answer orderlink_encode(uint64_t setting, const uint8_t *message, size_t message_len,

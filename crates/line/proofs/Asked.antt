@@ -9,8 +9,8 @@ use lib.ListN.{length}
 use Rattle.algebra.proofs.Tests.{and-left, and-right}
 use Rattle.code.specs.declared.Setting.{Setting}
 use Rattle.code.specs.Settings.{isSetting, settingOf}
-use Rattle.link.specs.Questions.{Question, ask, firstNo, mostBlocks, symbolQuestion}
-use Rattle.link.proofs.Answers.{all-yes, append-yes, append-no, after-first}
+use Rattle.question.specs.Questions.{Question, ask, firstNo, mostBlocks, symbolQuestion}
+use Rattle.question.proofs.Answers.{all-yes, append-yes, append-no, after-first}
 use Rattle.line.specs.Questions.{settingIn, blocksIn, symbolsIn, digitsTo, mostCharacters, characterQuestions, lengthQuestion, headQuestions, HoldsFrame, lineQuestions}
 
 -- Questions 1, 3 and 10 over the setting's number, T and the count of the digits left; 3 and 10 over the setting.

@@ -21,10 +21,10 @@ use Rattle.code.specs.declared.Setting.{Setting}
 use Rattle.code.specs.Settings.{isSetting, settingOf}
 use Rattle.code.specs.Windows.{windowLength}
 use Rattle.code.proofs.Settings.{soundOf, Sizes, sizesOf, largestOf}
-use Rattle.link.specs.declared.Answer.{Answer}
-use Rattle.link.specs.Questions.{Question, ask, answer, firstNo, mostBlocks, mostSymbols, mostInformation, blocksOf, symbolQuestion, transmissionQuestion, frameQuestions, decodingQuestions}
+use Rattle.question.specs.declared.Answer.{Answer}
+use Rattle.question.specs.Questions.{Question, ask, answer, firstNo, mostBlocks, mostSymbols, mostInformation, blocksOf, symbolQuestion, transmissionQuestion, frameQuestions, decodingQuestions}
 use Rattle.link.specs.Decoding.{FrameDecoded, found, none-fits, DecodedIn, Decoded, refused as decoding-refused, well-formed as decoding-well-formed}
-use Rattle.link.proofs.Answers.{first-no, all-yes, append-yes, message-most, transmission-most}
+use Rattle.question.proofs.Answers.{first-no, all-yes, append-yes, message-most, transmission-most}
 use Rattle.link.proofs.Determined.{parts-long, message-front}
 use Rattle.line.specs.Characters.{digitOf}
 use Rattle.line.specs.Questions.{mostCharacters, settingIn, blocksIn, symbolsIn, characterQuestions, headQuestions, HoldsFrame, lineQuestions}

@@ -5,8 +5,8 @@ use Prim.Native.Nat.{ℕ}
 use lib.Dec.{lit≤}
 use lib.ListN.{length, replicate}
 use Rattle.code.specs.Settings.{settingOf}
-use Rattle.link.specs.declared.Answer.{Answer}
-use Rattle.link.specs.Questions.{firstNo, blocksOf, symbolsTo, decodingQuestions}
+use Rattle.question.specs.declared.Answer.{Answer}
+use Rattle.question.specs.Questions.{firstNo, blocksOf, symbolsTo, decodingQuestions}
 use Rattle.link.specs.Decoding.{FrameDecoded, DecodedIn, Decoded, well-formed}
 use Rattle.link.specs.Orders.{Order, reads, getsSeven}
 use Rattle.link.specs.Sample.{orders}

@@ -9,8 +9,8 @@ use lib.Dec.{eqb, leb}
 use lib.ListN.{length, take, drop}
 use Rattle.algebra.specs.Ops.{pick}
 use Rattle.code.specs.Settings.{settingOf}
-use Rattle.link.specs.declared.Answer.{Answer}
-use Rattle.link.specs.Questions.{firstNo, mostSymbols, mostInformation}
+use Rattle.question.specs.declared.Answer.{Answer}
+use Rattle.question.specs.Questions.{firstNo, mostSymbols, mostInformation}
 use Rattle.link.specs.Decoding.{FrameDecoded, Decoded}
 use Rattle.line.specs.Characters.{characterOf, hex}
 use Rattle.line.specs.Questions.{settingIn, blocksIn, symbolsIn, HoldsFrame, lineQuestions}

@@ -9,7 +9,7 @@ use lib.Dec.{eqb, leb}
 use lib.ListN.{length, getD, drop}
 use Rattle.code.specs.declared.Setting.{Setting}
 use Rattle.code.specs.Settings.{isSetting, settingOf}
-use Rattle.link.specs.Questions.{Question, ask, askAt, firstNo, mostBlocks, mostSymbols, symbolsTo, symbolQuestion}
+use Rattle.question.specs.Questions.{Question, ask, askAt, firstNo, mostBlocks, mostSymbols, symbolsTo, symbolQuestion}
 use Rattle.line.specs.Characters.{digitOf}
 
 -- "one digit for the setting, three for T, then one a symbol for T+m blocks"

@@ -4,7 +4,7 @@ use mathlib.Core.Path.{_≡_, refl}
 use mathlib.Core.List.{List, [], _∷_, map}
 use Prim.Native.Nat.{ℕ, _+_}
 use lib.ListN.{replicate}
-use Rattle.link.specs.Questions.{firstNo, symbolsTo}
+use Rattle.question.specs.Questions.{firstNo, symbolsTo}
 use Rattle.line.specs.Characters.{digitOf, characterOf, hex}
 use Rattle.line.specs.Questions.{mostCharacters, lineQuestions}
 use Rattle.line.specs.Answering.{refusal, Answers}

@@ -9,7 +9,7 @@ mod characters;
 mod questions;
 mod writing;
 
-use link::Answer;
+use question::Answer;
 
 // The most symbols of a frame, and of its message, in any setting.
 pub const MOST_SYMBOLS: usize = 3598;

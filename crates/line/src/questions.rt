@@ -3,13 +3,13 @@ ghost use mathlib.Core.Path.{_≡_};
 ghost use mathlib.Core.List.{_++_};
 ghost use Prim.Native.Nat.{_≤_};
 ghost use lib.ListN.{length};
-ghost use Rattle.link.specs.Questions.{firstNo, mostInformation};
+ghost use Rattle.question.specs.Questions.{firstNo, mostInformation};
 ghost use Rattle.line.specs.Characters.{digitOf};
 ghost use Rattle.line.specs.Questions.{settingIn, blocksIn, characterQuestions, headQuestions, HoldsFrame};
 ghost use Rattle.line.specs.Answering.{messageLength};
 use super::MOST_CHARACTERS;
 use super::characters;
-use link::Answer;
+use question::Answer;
 
 fn value(character: u8) -> u64
     ensures { λ r. ⌜ r ≡ digitOf character ⌝ }
@@ -52,16 +52,16 @@ fn character_questions(line: &[u8]) -> Answer
     ensures { λ r. ⌜ r ≡ firstNo (characterQuestions (now (line .entry))) ⌝ }
 {
     if MOST_CHARACTERS < line.len() {
-        return link::questions::no(11, 0);
+        return question::no(11, 0);
     }
     let right = characters::first_wrong(line);
     if line.len() < 4 {
-        return link::questions::no(9, right as u64);
+        return question::no(9, right as u64);
     }
     if right != line.len() {
-        return link::questions::no(9, right as u64);
+        return question::no(9, right as u64);
     }
-    link::questions::yes()
+    question::yes()
 }
 
 // Questions 1, 3 and 10.
@@ -71,22 +71,22 @@ fn head_questions(line: &[u8]) -> Answer
 {
     let number = setting_in(line);
     if !tables::is_setting(number) {
-        return link::questions::no(1, 0);
+        return question::no(1, 0);
     }
     let blocks = blocks_in(line) as usize;
-    if link::MOST_BLOCKS < blocks {
-        return link::questions::no(3, 0);
+    if question::MOST_BLOCKS < blocks {
+        return question::no(3, 0);
     }
     if blocks < 1 {
-        return link::questions::no(10, 0);
+        return question::no(10, 0);
     }
     let p = tables::setting(number);
     let n = p.n;
     let m = p.m;
     if line.len() - 4 != (blocks + m) * n {
-        return link::questions::no(10, 0);
+        return question::no(10, 0);
     }
-    link::questions::yes()
+    question::yes()
 }
 
 // Questions 11, 9, 1, 3 and 10.

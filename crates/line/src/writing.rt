@@ -4,12 +4,12 @@ ghost use mathlib.Core.List.{map};
 ghost use Prim.Native.Nat.{_≤_, _<_, _%_};
 ghost use lib.ListN.{length};
 ghost use Rattle.field.specs.Symbols.{Symbols};
-ghost use Rattle.link.specs.Questions.{mostInformation};
+ghost use Rattle.question.specs.Questions.{mostInformation};
 ghost use Rattle.line.specs.Characters.{characterOf, hex};
 ghost use Rattle.line.specs.Answering.{refusal, opening, success, Shown};
 ghost use Rattle.line.specs.parts.Writing.{Placed};
 use super::characters;
-use link::Answer;
+use question::Answer;
 
 // The last digit of a number.
 fn last_digit(number: u64) -> u8

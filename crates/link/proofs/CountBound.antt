@@ -10,8 +10,8 @@ use Rattle.code.specs.declared.Setting.{Setting}
 use Rattle.code.specs.Settings.{settingOf}
 use Rattle.code.specs.Windows.{mostAltered}
 use Rattle.code.proofs.AlteredBound.{altered-bound}
-use Rattle.link.specs.declared.Answer.{Answer}
-use Rattle.link.specs.Questions.{Question, answer, firstNo, blocksOf, decodingQuestions}
+use Rattle.question.specs.declared.Answer.{Answer}
+use Rattle.question.specs.Questions.{Question, answer, firstNo, blocksOf, decodingQuestions}
 use Rattle.link.specs.Decoding.{FrameDecoded, found, none-fits, refused, well-formed, CountBound}
 
 -- "The count is 0" after a "no".

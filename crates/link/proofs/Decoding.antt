@@ -22,9 +22,9 @@ use Rattle.code.proofs.Numbers.{transmission-length}
 use Rattle.code.proofs.Settings.{Sizes, sizesOf}
 use Rattle.frame.specs.parts.Frame.{FrameRead, fits, none}
 use Rattle.frame.proofs.Ends.{left-altered, left-back}
-use Rattle.link.specs.declared.Answer.{Answer}
-use Rattle.link.specs.Questions.{answer, firstNo, mostBlocks, blocksOf, decodingQuestions}
-use Rattle.link.proofs.Answers.{decoding-yes}
+use Rattle.question.specs.declared.Answer.{Answer}
+use Rattle.question.specs.Questions.{answer, firstNo, mostBlocks, blocksOf, decodingQuestions}
+use Rattle.question.proofs.Answers.{decoding-yes}
 use Rattle.link.specs.parts.Restoring.{Restored}
 use Rattle.link.specs.Decoding.{FrameDecoded, found, none-fits, Decoded, refused, well-formed}
 

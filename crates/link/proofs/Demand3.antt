@@ -12,11 +12,11 @@ use Rattle.code.specs.Settings.{settingOf}
 use Rattle.code.specs.Windows.{Fits}
 use Rattle.code.proofs.Settings.{soundOf}
 use Rattle.code.proofs.Demand3.{independent-of-later-blocks}
-use Rattle.link.specs.declared.Answer.{Answer}
-use Rattle.link.specs.Questions.{firstNo, blocksOf, decodingQuestions}
+use Rattle.question.specs.declared.Answer.{Answer}
+use Rattle.question.specs.Questions.{firstNo, blocksOf, decodingQuestions}
 use Rattle.link.specs.Decoding.{FrameDecoded, found, none-fits, Decoded, refused, well-formed}
 use Rattle.link.specs.Demand3.{Returned, ReturnedMessagesAgree}
-use Rattle.link.proofs.Answers.{decoding-yes}
+use Rattle.question.proofs.Answers.{decoding-yes}
 
 -- A message that fits stands at the front of its area.
 record Front (number : ℕ) (reception area : List ℕ) : Type 0 where

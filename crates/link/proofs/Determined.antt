@@ -12,10 +12,10 @@ use Rattle.code.specs.Windows.{transmission, altered}
 use Rattle.code.proofs.Settings.{soundOf}
 use Rattle.code.proofs.Numbers.{transmission-length}
 use Rattle.code.proofs.Demand3.{at-most-one-fits}
-use Rattle.link.specs.declared.Answer.{Answer}
-use Rattle.link.specs.Questions.{answer, firstNo, blocksOf, decodingQuestions}
+use Rattle.question.specs.declared.Answer.{Answer}
+use Rattle.question.specs.Questions.{answer, firstNo, blocksOf, decodingQuestions}
 use Rattle.link.specs.Decoding.{FrameDecoded, found, none-fits, DecodedIn, Decoded, refused, well-formed}
-use Rattle.link.proofs.Answers.{decoding-yes}
+use Rattle.question.proofs.Answers.{decoding-yes}
 
 -- Two results of question 7 are the same.
 pub record Same (r s : Answer) (message other sent otherSent : List ℕ) : Type 0 where

@@ -9,8 +9,8 @@ use Rattle.algebra.specs.Ops.{pick}
 use Rattle.code.specs.declared.Setting.{Setting}
 use Rattle.code.specs.Settings.{settingOf}
 use Rattle.code.specs.Windows.{transmission}
-use Rattle.link.specs.declared.Answer.{Answer}
-use Rattle.link.specs.Questions.{firstNo, encodingQuestions}
+use Rattle.question.specs.declared.Answer.{Answer}
+use Rattle.question.specs.Questions.{firstNo, encodingQuestions}
 use Rattle.link.specs.Encoding.{Encoded, encodedArea}
 
 module _ (number : ℕ) (message before : List ℕ) where

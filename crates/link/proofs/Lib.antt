@@ -1,5 +1,4 @@
 -- What the proofs of the public calls share.
-pub mod Answers
 pub mod Sending
 pub mod Encoding
 pub mod Bits

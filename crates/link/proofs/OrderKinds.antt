@@ -18,12 +18,12 @@ use Rattle.code.proofs.Numbers.{transmission-long, transmission-length}
 use Rattle.code.proofs.Settings.{soundOf}
 use Rattle.code.proofs.Demand3.{at-most-one-fits}
 use Rattle.code.proofs.Search.{fitsTest, fits-of-test, noneFits, no-message-fits}
-use Rattle.link.specs.declared.Answer.{Answer}
-use Rattle.link.specs.Questions.{answer, firstNo, blocksOf, decodingQuestions, encodingQuestions}
+use Rattle.question.specs.declared.Answer.{Answer}
+use Rattle.question.specs.Questions.{answer, firstNo, blocksOf, decodingQuestions, encodingQuestions}
 use Rattle.link.specs.Encoding.{Encoded, encodedArea}
 use Rattle.link.specs.Orders.{Call, encoding, decoding, Order, Promised, Begun, Kept}
 use Rattle.link.specs.Decoding.{FrameDecoded, found, none-fits, Decoded, refused, well-formed}
-use Rattle.link.proofs.Answers.{all-yes, yes-all, decoding-yes}
+use Rattle.question.proofs.Answers.{all-yes, yes-all, decoding-yes}
 
 -- The tests.
 unfoldable pub sameList : List ℕ → List ℕ → Bool

@@ -12,7 +12,7 @@ use Rattle.code.specs.Generator.{points, base, rowSymbol, timesG}
 use Rattle.code.specs.Transmission.{sentSymbol, tabulate}
 use Rattle.code.specs.Windows.{transmission}
 use Rattle.code.proofs.Search.{windowFrom, windowTest, windowsTest, fitsTest, finishedFar, noneBegins, noneFits}
-use Rattle.link.specs.Questions.{symbolsTo}
+use Rattle.question.specs.Questions.{symbolsTo}
 use Rattle.link.specs.Sample.{orders, OrdersKept}
 use Rattle.link.proofs.OrderKinds.{sameList, encodingTest, readTest, sevenTest, decodingTest, ordersTest, each-kept}
 

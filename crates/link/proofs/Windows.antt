@@ -15,11 +15,11 @@ use Rattle.code.specs.declared.Setting.{Setting}
 use Rattle.code.specs.Settings.{settingOf}
 use Rattle.code.specs.Windows.{windowLength, windowDistance, mostWindow}
 use Rattle.code.proofs.Settings.{Sizes, largestOf}
-use Rattle.link.specs.declared.Answer.{Answer}
-use Rattle.link.specs.Questions.{firstNo, blocksOf, displayQuestions, marksQuestions}
+use Rattle.question.specs.declared.Answer.{Answer}
+use Rattle.question.specs.Questions.{firstNo, blocksOf, displayQuestions, marksQuestions}
 use Rattle.link.specs.Display.{windowOf}
 use Rattle.link.specs.Marks.{marksOf, Marked}
-use Rattle.link.proofs.Answers.{WindowYes}
+use Rattle.question.proofs.Answers.{WindowYes}
 use Rattle.link.proofs.Bits.{ones-bits}
 
 -- Window j lies within a frame of this length, and is no longer than any.

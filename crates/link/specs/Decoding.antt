@@ -7,8 +7,8 @@ use lib.ListN.{length, drop, replicate}
 use Rattle.code.specs.declared.Setting.{Setting}
 use Rattle.code.specs.Settings.{settingOf}
 use Rattle.code.specs.Windows.{transmission, altered, mostAltered, Fits}
-use Rattle.link.specs.declared.Answer.{Answer}
-use Rattle.link.specs.Questions.{answer, firstNo, blocksOf, decodingQuestions}
+use Rattle.question.specs.declared.Answer.{Answer}
+use Rattle.question.specs.Questions.{answer, firstNo, blocksOf, decodingQuestions}
 
 -- Question 7, "Does some message fit?", of a reception of T+m blocks: the answer, and what it puts in the first T × k bytes of the message area and in the
 -- first (T+m) × n of the transmission area.

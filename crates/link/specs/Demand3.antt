@@ -6,8 +6,8 @@ use Prim.Native.Nat.{ℕ, _+_, _*_, _<_}
 use lib.ListN.{length, take}
 use Rattle.code.specs.Settings.{settingOf}
 use Rattle.code.specs.Windows.{Fits}
-use Rattle.link.specs.declared.Answer.{Answer}
-use Rattle.link.specs.Questions.{firstNo, blocksOf, decodingQuestions}
+use Rattle.question.specs.declared.Answer.{Answer}
+use Rattle.question.specs.Questions.{firstNo, blocksOf, decodingQuestions}
 use Rattle.link.specs.Decoding.{Decoded}
 
 -- A call decoded a decodable reception, that is one that some message fits, and left `returned` in its message area, whatever the areas held.

@@ -6,7 +6,7 @@ use lib.ListN.{length, take, drop}
 use Rattle.algebra.specs.Ops.{pick}
 use Rattle.code.specs.Settings.{settingOf}
 use Rattle.code.specs.Windows.{windowLength}
-use Rattle.link.specs.Questions.{firstNo, displayQuestions}
+use Rattle.question.specs.Questions.{firstNo, displayQuestions}
 
 -- "starting at symbol j × n, (m+1) × n long"; "A refused display is an empty part".
 abbrev pub windowOf : ℕ → List ℕ → ℕ → List ℕ

@@ -8,8 +8,8 @@ use Rattle.algebra.specs.Ops.{pick}
 use Rattle.code.specs.declared.Setting.{Setting}
 use Rattle.code.specs.Settings.{settingOf}
 use Rattle.code.specs.Windows.{transmission}
-use Rattle.link.specs.declared.Answer.{Answer}
-use Rattle.link.specs.Questions.{firstNo, encodingQuestions}
+use Rattle.question.specs.declared.Answer.{Answer}
+use Rattle.question.specs.Questions.{firstNo, encodingQuestions}
 
 -- The transmission, and the bytes of the area past it as they were.
 abbrev pub encodedArea : Setting → List ℕ → List ℕ → List ℕ

@@ -1,5 +1,4 @@
 -- What the public calls promise, in 01's order and words.
-pub mod Questions
 pub mod Encoding
 pub mod Display
 pub mod Marks

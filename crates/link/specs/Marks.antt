@@ -12,7 +12,7 @@ use Rattle.code.specs.declared.Setting.{Setting}
 use Rattle.code.specs.Settings.{settingOf}
 use Rattle.code.specs.Windows.{windowLength, windowDistance}
 use Rattle.link.specs.declared.Marks.{Marks}
-use Rattle.link.specs.Questions.{firstNo, marksQuestions}
+use Rattle.question.specs.Questions.{firstNo, marksQuestions}
 
 -- The number with a bit for each of n tests, the first lowest.
 unfoldable pub bits : ℕ → (ℕ → Bool) → ℕ

@@ -4,8 +4,8 @@ use mathlib.Core.Path.{_≡_}
 use mathlib.Core.List.{List, _++_}
 use Prim.Native.Nat.{ℕ, _≤_}
 use lib.ListN.{length, drop, replicate}
-use Rattle.link.specs.declared.Answer.{Answer}
-use Rattle.link.specs.Questions.{answer}
+use Rattle.question.specs.declared.Answer.{Answer}
+use Rattle.question.specs.Questions.{answer}
 use Rattle.link.specs.Encoding.{Encoded}
 use Rattle.link.specs.Decoding.{Decoded}
 

@@ -6,13 +6,12 @@ ghost use lib.ListN.{length};
 ghost use Rattle.field.specs.Fields.{Good};
 ghost use Rattle.field.specs.Symbols.{Symbols};
 ghost use Rattle.code.specs.Settings.{isSetting, settingOf};
-ghost use Rattle.link.specs.Questions.{mostBlocks};
+ghost use Rattle.question.specs.Questions.{mostBlocks};
 ghost use Rattle.tables.specs.parts.Tables.{Narrow, Ready};
 ghost use Rattle.block.specs.parts.Area.{Working};
 ghost use Rattle.link.specs.parts.Restoring.{Restored};
 ghost use Rattle.link.specs.Decoding.{FrameDecoded, Decoded};
-use super::Answer;
-use super::questions;
+use question::Answer;
 use code::Setting;
 use field::Tables;
 
@@ -61,7 +60,7 @@ fn decode_lent(
     ) {
         field::clear(message);
         field::clear(transmission);
-        return questions::no(7, 0);
+        return question::no(7, 0);
     }
     let altered = frame::area::weight(transmission);
     restore(p.q, reception, transmission);
@@ -112,7 +111,7 @@ fn decode_frame(
 pub fn decode(setting: u64, reception: &[u8], message: &mut [u8], transmission: &mut [u8]) -> Answer
     ensures { λ r. ⌜ Decoded setting (now (reception .entry)) (now (message .entry)) (now (transmission .entry)) r (now (message .exit)) (now (transmission .exit)) ⌝ }
 {
-    let answer = questions::decoding_questions(
+    let answer = question::decoding_questions(
         setting,
         reception,
         message.len(),

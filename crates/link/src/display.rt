@@ -1,16 +1,15 @@
 // The display: window j of a reception, as that part of the caller's own bytes.
 ghost use mathlib.Core.Path.{_≡_};
 ghost use lib.ListN.{length};
-ghost use Rattle.link.specs.Questions.{firstNo, displayQuestions};
+ghost use Rattle.question.specs.Questions.{firstNo, displayQuestions};
 ghost use Rattle.link.specs.Display.{windowOf};
-use super::Answer;
-use super::questions;
+use question::Answer;
 
 // Window j, the m+1 blocks from block j on; empty where one of questions 1, 2, 3 and 12 gets "no".
 pub fn window(setting: u64, reception: &[u8], j: u64) -> &[u8]
     ensures { λ r. ⌜ now r ≡ windowOf setting (now (reception .entry)) j ⌝ }
 {
-    let answer = questions::display_questions(setting, reception.len(), j);
+    let answer = question::display_questions(setting, reception.len(), j);
     if answer.number != 0 {
         return &reception[..0];
     }
@@ -26,5 +25,5 @@ pub fn window(setting: u64, reception: &[u8], j: u64) -> &[u8]
 pub fn window_answer(setting: u64, reception: &[u8], j: u64) -> Answer
     ensures { λ r. ⌜ r ≡ firstNo (displayQuestions setting (length (now (reception .entry))) j) ⌝ }
 {
-    questions::display_questions(setting, reception.len(), j)
+    question::display_questions(setting, reception.len(), j)
 }

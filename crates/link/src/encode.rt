@@ -6,11 +6,10 @@ ghost use lib.ListN.{length};
 ghost use Rattle.code.specs.Settings.{isSetting, settingOf};
 ghost use Rattle.code.specs.Windows.{transmission, Message};
 ghost use Rattle.tables.specs.parts.Tables.{Narrow};
-ghost use Rattle.link.specs.Questions.{mostBlocks};
+ghost use Rattle.question.specs.Questions.{mostBlocks};
 ghost use Rattle.link.specs.parts.Sending.{Sending, SentTo};
 ghost use Rattle.link.specs.Encoding.{Encoded};
-use super::Answer;
-use super::questions;
+use question::Answer;
 use code::Setting;
 use field::Tables;
 
@@ -68,7 +67,7 @@ fn encode_frame(setting: u64, p: Setting, message: &[u8], blocks: usize, area: &
 pub fn encode(setting: u64, message: &[u8], transmission: &mut [u8]) -> Answer
     ensures { λ r. ⌜ Encoded setting (now (message .entry)) (now (transmission .entry)) r (now (transmission .exit)) ⌝ }
 {
-    let answer = questions::encoding_questions(setting, message, transmission.len());
+    let answer = question::encoding_questions(setting, message, transmission.len());
     if answer.number != 0 {
         return answer;
     }

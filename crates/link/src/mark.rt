@@ -7,7 +7,6 @@ ghost use lib.ListN.{length, getD};
 ghost use Rattle.algebra.specs.Ops.{pick};
 ghost use Rattle.link.specs.Marks.{bits, Marked};
 use super::Marks;
-use super::questions;
 
 // 1 where two symbols differ, 0 where they are the same.
 fn differ(a: u8, b: u8) -> u32
@@ -38,7 +37,7 @@ fn differences(reception: &[u8], transmission: &[u8], from: usize, long: usize) 
 pub fn marks(setting: u64, reception: &[u8], transmission: &[u8], j: u64) -> Marks
     ensures { λ r. ⌜ Marked setting (now (reception .entry)) (now (transmission .entry)) j r ⌝ }
 {
-    let answer = questions::marks_questions(setting, reception.len(), transmission.len(), j);
+    let answer = question::marks_questions(setting, reception.len(), transmission.len(), j);
     if answer.number != 0 {
         return Marks {
             answer: answer,

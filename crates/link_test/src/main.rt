@@ -8,7 +8,7 @@ ghost use Prim.Native.Nat.{_≤_, _<_};
 ghost use lib.ListN.{length};
 use libc::STDIN_FILENO;
 use libc::STDOUT_FILENO;
-use link::Answer;
+use question::Answer;
 
 // The value of a digit, and 0 for any other byte.
 fn value(digit: u8) -> u8

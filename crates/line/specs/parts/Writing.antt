@@ -4,7 +4,7 @@ use mathlib.Core.List.{List, _++_}
 use Prim.Native.Nat.{ℕ, _≤_}
 use lib.ListN.{length, drop}
 use Rattle.field.specs.Symbols.{Symbols}
-use Rattle.link.specs.declared.Answer.{Answer}
+use Rattle.question.specs.declared.Answer.{Answer}
 use Rattle.line.specs.Answering.{messageLength, messageIn}
 
 -- A text at the front of an area, and then what the area held before.

@@ -9,7 +9,7 @@ use Rattle.code.specs.Windows.{transmission, Message}
 use Rattle.code.specs.parts.Reading.{Residual}
 use Rattle.tables.specs.parts.Tables.{Ready}
 use Rattle.frame.specs.parts.Frame.{Areas}
-use Rattle.link.specs.Questions.{mostBlocks}
+use Rattle.question.specs.Questions.{mostBlocks}
 
 -- A message of T blocks, and the tables of its setting.
 pub record Sending (p : Setting) (products : Products) (rows message : List ℕ) (T : ℕ) : Type 0 where

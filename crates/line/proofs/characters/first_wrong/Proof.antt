@@ -5,8 +5,8 @@ use Prim.Native.Nat.{_+_, _-_, _≤_, _<_}
 use native.Mathlib.Omega.{arith}
 use denote.Ref.{now}
 use lib.ListN.{length, getD, drop, length-map}
-use Rattle.link.specs.Questions.{symbolsTo}
-use Rattle.link.proofs.Answers.{symbols-start, symbols-next, symbols-stop, symbols-end}
+use Rattle.question.specs.Questions.{symbolsTo}
+use Rattle.question.proofs.Answers.{symbols-start, symbols-next, symbols-stop, symbols-end}
 use Rattle.line.specs.Characters.{digitOf}
 use Rattle.line.proofs.Digits.{getD-map}
 use Rattle.line.proofs.characters.first_wrong.Statement.{statement}

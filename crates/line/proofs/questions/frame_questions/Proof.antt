@@ -2,8 +2,8 @@
 use mathlib.Core.Path.{_≡_, sym, ap, _∙_}
 use borrow.Author.Needs.{needs}
 use denote.Ref.{now}
-use Rattle.link.specs.Questions.{firstNo}
-use Rattle.link.proofs.Answers.{append-yes, append-no}
+use Rattle.question.specs.Questions.{firstNo}
+use Rattle.question.proofs.Answers.{append-yes, append-no}
 use Rattle.line.specs.Questions.{characterQuestions, headQuestions}
 use Rattle.line.proofs.Asked.{characters-yes}
 use Rattle.line.proofs.questions.frame_questions.Statement.{statement}

@@ -11,8 +11,8 @@ use lib.ListN.{length}
 use Rattle.code.specs.declared.Setting.{Setting}
 use Rattle.code.specs.Settings.{isSetting, settingOf}
 use Rattle.code.proofs.Settings.{Sizes, sizesOf}
-use Rattle.link.specs.Questions.{ask, firstNo}
-use Rattle.link.proofs.Answers.{first-no, transmission-most}
+use Rattle.question.specs.Questions.{ask, firstNo}
+use Rattle.question.proofs.Answers.{first-no, transmission-most}
 use Rattle.line.specs.Questions.{blocksIn, headQuestions}
 use Rattle.line.proofs.Asked.{headLater, head-of, after-setting}
 use Rattle.line.proofs.questions.head_questions.Statement.{statement}

@@ -6,8 +6,8 @@ use denote.Ref.{now}
 use lib.ListN.{length}
 use lib.Seq.{length-take-le}
 use Rattle.tables.proofs.Lending.{narrowOf}
-use Rattle.link.specs.Questions.{firstNo, decodingQuestions}
-use Rattle.link.proofs.Answers.{decoding-yes}
+use Rattle.question.specs.Questions.{firstNo, decodingQuestions}
+use Rattle.question.proofs.Answers.{decoding-yes}
 use Rattle.link.proofs.Decoding.{Receiving, receiving, decoded-refused, decoded-asked}
 use Rattle.link.proofs.decode.decode.Statement.{statement}
 use Rattle.link.proofs.decode.decode.Tie as tie

@@ -6,7 +6,7 @@ use lib.ListN.{length, replicate}
 use Rattle.code.proofs.Settings.{sizes}
 use Rattle.block.specs.parts.Area.{at}
 use Rattle.frame.proofs.Levels.{few}
-use Rattle.link.proofs.Answers.{transmission-small}
+use Rattle.question.proofs.Answers.{transmission-small}
 use Rattle.link.proofs.Decoding.{left-symbols, left-long, frame-decoded-none, frame-decoded-found}
 use borrow.Author.Needs.{needs}
 use Rattle.link.proofs.decode.decode_lent.Statement.{statement}

@@ -3,8 +3,8 @@ use mathlib.Core.Path.{_≡_, sym, ap, _∙_}
 use native.Mathlib.Omega.{arith}
 use denote.Ref.{now}
 use lib.ListN.{length}
-use Rattle.link.specs.Questions.{firstNo, displayQuestions}
-use Rattle.link.proofs.Answers.{WindowYes, display-yes}
+use Rattle.question.specs.Questions.{firstNo, displayQuestions}
+use Rattle.question.proofs.Answers.{WindowYes, display-yes}
 use Rattle.link.proofs.Windows.{Window, window-yes, window-refused, window-shown}
 use borrow.Author.Needs.{needs}
 use Rattle.link.proofs.display.window.Statement.{statement}

@@ -3,7 +3,7 @@ use mathlib.Core.Path.{_≡_, sym, ap, _∙_}
 use native.Mathlib.Omega.{arith}
 use denote.Ref.{now}
 use lib.ListN.{length}
-use Rattle.link.proofs.Answers.{WindowYes, marks-yes}
+use Rattle.question.proofs.Answers.{WindowYes, marks-yes}
 use Rattle.link.proofs.Windows.{Window, window-yes, marked-refused, marked-found}
 use Rattle.link.proofs.mark.marks.Statement.{statement}
 use Rattle.link.proofs.mark.marks.Tie as tie

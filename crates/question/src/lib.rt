@@ -2,9 +2,18 @@
 ghost use mathlib.Core.Path.{_≡_};
 ghost use Prim.Native.Nat.{_+_, _≤_};
 ghost use Rattle.field.specs.Symbols.{Symbols};
-ghost use Rattle.link.specs.Questions.{answer, firstNo, symbolsTo, frameQuestions, decodingQuestions, encodingQuestions, displayQuestions, marksQuestions};
-use super::Answer;
-use super::MOST_BLOCKS;
+ghost use Rattle.question.specs.Questions.{answer, firstNo, symbolsTo, frameQuestions, decodingQuestions, encodingQuestions, displayQuestions, marksQuestions};
+
+// "T at most 512"
+pub const MOST_BLOCKS: usize = 512;
+
+// The answer of every call: the number and place of the first question answered "no", or 0 and 0, and the number of symbols altered.
+#[repr(C)]
+pub struct Answer {
+    pub number: u32,
+    pub altered: u32,
+    pub place: u64,
+}
 
 // "When every answer is yes, number and place are 0."
 pub fn yes() -> Answer
@@ -68,7 +77,7 @@ fn search_not_below(q: usize, bytes: &[u8]) -> usize
 }
 
 // The same; where every byte is below q, no byte is looked at by itself.
-pub fn first_not_below(q: usize, bytes: &[u8]) -> usize
+fn first_not_below(q: usize, bytes: &[u8]) -> usize
     ensures { λ r. ⌜ r ≡ symbolsTo q (now (bytes .entry)) ⌝ }
 {
     if wide(largest(bytes)) < q {

@@ -1,11 +1,11 @@
--- `link::questions::first_not_below`: where the largest byte is below q, all are.
+-- `question::first_not_below`: where the largest byte is below q, all are.
 use mathlib.Core.Path.{sym}
 use native.Mathlib.Omega.{arith}
 use borrow.Author.Needs.{needs}
 use denote.Ref.{now}
-use Rattle.link.proofs.Answers.{all-symbols}
-use Rattle.link.proofs.questions.first_not_below.Statement.{statement}
-use Rattle.link.proofs.questions.first_not_below.Tie as tie
+use Rattle.question.proofs.Answers.{all-symbols}
+use Rattle.question.proofs.first_not_below.Statement.{statement}
+use Rattle.question.proofs.first_not_below.Tie as tie
 
 returns : tie.Need-returns
 returns c =

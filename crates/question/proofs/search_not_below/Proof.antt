@@ -1,13 +1,13 @@
--- `link::questions::search_not_below`: the symbols before i are below q.
+-- `question::search_not_below`: the symbols before i are below q.
 use mathlib.Core.Path.{_≡_, sym, _∙_}
 use Prim.Native.Nat.{_+_, _-_, _≤_, _<_}
 use native.Mathlib.Omega.{arith}
 use denote.Ref.{now}
 use lib.ListN.{length, getD, drop}
-use Rattle.link.specs.Questions.{symbolsTo}
-use Rattle.link.proofs.Answers.{symbols-start, symbols-next, symbols-stop, symbols-end}
-use Rattle.link.proofs.questions.search_not_below.Statement.{statement}
-use Rattle.link.proofs.questions.search_not_below.Tie as tie
+use Rattle.question.specs.Questions.{symbolsTo}
+use Rattle.question.proofs.Answers.{symbols-start, symbols-next, symbols-stop, symbols-end}
+use Rattle.question.proofs.search_not_below.Statement.{statement}
+use Rattle.question.proofs.search_not_below.Tie as tie
 
 abbrev Inv-loop : tie.InvT-loop
 Inv-loop q bytes i₀ i = (i ≤ length bytes) × (symbolsTo q bytes ≡ i + symbolsTo q (drop i bytes))

@@ -1,4 +1,4 @@
--- `link::questions::encoding_questions` asks 1, 8, 3, 4 and 6 in order.
+-- `question::encoding_questions` asks 1, 8, 3, 4 and 6 in order.
 use mathlib.Core.Path.{_≡_, sym, subst, _∙_}
 use mathlib.Core.Bool.{true, false}
 use mathlib.Core.List.{_∷_}
@@ -8,10 +8,10 @@ use lib.Dec.{T}
 use borrow.Author.Tests.{eq-eqb, ne-eqb, le-leb, lt-leb, not-true, not-false}
 use Rattle.code.specs.Settings.{isSetting, settingOf}
 use Rattle.code.proofs.Settings.{Sizes, sizesOf}
-use Rattle.link.specs.Questions.{ask, firstNo}
-use Rattle.link.proofs.Answers.{first-no, after-first, encodingLater, transmission-most}
-use Rattle.link.proofs.questions.encoding_questions.Statement.{statement}
-use Rattle.link.proofs.questions.encoding_questions.Tie as tie
+use Rattle.question.specs.Questions.{ask, firstNo}
+use Rattle.question.proofs.Answers.{first-no, after-first, encodingLater, transmission-most}
+use Rattle.question.proofs.encoding_questions.Statement.{statement}
+use Rattle.question.proofs.encoding_questions.Tie as tie
 
 is-setting-requires : tie.Need-is-setting-requires
 is-setting-requires c κs = tt

@@ -1,4 +1,4 @@
--- `link::questions::decoding_questions` asks 1 to 3, then 4, 5 and 6 in order.
+-- `question::decoding_questions` asks 1 to 3, then 4, 5 and 6 in order.
 use mathlib.Core.Path.{_≡_, sym, ap, subst, _∙_}
 use mathlib.Core.List.{_++_}
 use native.Mathlib.Omega.{arith}
@@ -7,10 +7,10 @@ use lib.ListN.{length}
 use borrow.Author.Tests.{eq-eqb, ne-eqb, le-leb, lt-leb}
 use Rattle.code.specs.declared.Setting.{Setting}
 use Rattle.code.specs.Settings.{settingOf}
-use Rattle.link.specs.Questions.{firstNo, frameQuestions}
-use Rattle.link.proofs.Answers.{append-no, after-frame, decodingLater, FrameYes, frame-yes, Frame, message-most, transmission-most}
-use Rattle.link.proofs.questions.decoding_questions.Statement.{statement}
-use Rattle.link.proofs.questions.decoding_questions.Tie as tie
+use Rattle.question.specs.Questions.{firstNo, frameQuestions}
+use Rattle.question.proofs.Answers.{append-no, after-frame, decodingLater, FrameYes, frame-yes, Frame, message-most, transmission-most}
+use Rattle.question.proofs.decoding_questions.Statement.{statement}
+use Rattle.question.proofs.decoding_questions.Tie as tie
 
 frame-questions-requires : tie.Need-frame-questions-requires
 frame-questions-requires c κs = tt

@@ -1,14 +1,14 @@
--- `link::questions::display_questions` asks 1 to 3, then 12.
+-- `question::display_questions` asks 1 to 3, then 12.
 use mathlib.Core.Path.{_≡_, sym, ap, subst, _∙_}
 use mathlib.Core.List.{_++_}
 use native.Mathlib.Omega.{arith}
 use borrow.Author.Tests.{lt-ltb, le-ltb}
 use Rattle.code.specs.declared.Setting.{Setting}
 use Rattle.code.specs.Settings.{settingOf}
-use Rattle.link.specs.Questions.{firstNo, frameQuestions}
-use Rattle.link.proofs.Answers.{append-no, after-frame, displayLater, FrameYes, frame-yes, Frame}
-use Rattle.link.proofs.questions.display_questions.Statement.{statement}
-use Rattle.link.proofs.questions.display_questions.Tie as tie
+use Rattle.question.specs.Questions.{firstNo, frameQuestions}
+use Rattle.question.proofs.Answers.{append-no, after-frame, displayLater, FrameYes, frame-yes, Frame}
+use Rattle.question.proofs.display_questions.Statement.{statement}
+use Rattle.question.proofs.display_questions.Tie as tie
 
 frame-questions-requires : tie.Need-frame-questions-requires
 frame-questions-requires c κs = tt

@@ -22,7 +22,7 @@ use Rattle.code.specs.declared.Setting.{Setting}
 use Rattle.code.specs.Settings.{isSetting, settingOf}
 use Rattle.code.specs.Windows.{windowLength, Message}
 use Rattle.code.proofs.Settings.{largestOf, Sizes, sizesOf}
-use Rattle.link.specs.Questions.{Question, ask, answer, symbolQuestion, transmissionQuestion, firstNo, mostBlocks, mostSymbols, mostInformation, blocksOf, symbolsTo, frameQuestions, decodingQuestions, encodingQuestions, displayQuestions, marksQuestions}
+use Rattle.question.specs.Questions.{Question, ask, answer, symbolQuestion, transmissionQuestion, firstNo, mostBlocks, mostSymbols, mostInformation, blocksOf, symbolsTo, frameQuestions, decodingQuestions, encodingQuestions, displayQuestions, marksQuestions}
 
 -- One question: "yes" asks the rest, "no" is the answer.
 pub first-yes : (x : Question) (rest : List Question) → x .holds ≡ true → firstNo (x ∷ rest) ≡ firstNo rest

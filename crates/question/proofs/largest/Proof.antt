@@ -1,4 +1,4 @@
--- `link::questions::largest`: no byte before i exceeds the largest so far.
+-- `question::largest`: no byte before i exceeds the largest so far.
 use mathlib.Core.Path.{_≡_, sym, subst}
 use mathlib.Core.List.{List}
 use Prim.Native.Nat.{ℕ, _+_, _-_, _≤_, _<_}
@@ -6,8 +6,8 @@ use native.Mathlib.Omega.{arith}
 use native.Mathlib.Decide.{ℕ-discrete}
 use denote.Ref.{now}
 use lib.ListN.{length, getD}
-use Rattle.link.proofs.questions.largest.Statement.{statement}
-use Rattle.link.proofs.questions.largest.Tie as tie
+use Rattle.question.proofs.largest.Statement.{statement}
+use Rattle.question.proofs.largest.Tie as tie
 
 abbrev Inv-loop : tie.InvT-loop
 Inv-loop bytes most₀ i₀ most i = (i ≤ length bytes) × ((a : ℕ) → a < i → getD bytes a 0 ≤ most)

@@ -1,12 +1,12 @@
--- `link::questions::marks_questions` asks what the display asks, then 13.
+-- `question::marks_questions` asks what the display asks, then 13.
 use mathlib.Core.Path.{_≡_, sym, ap, _∙_}
 use mathlib.Core.List.{[], _∷_, _++_}
 use lib.Dec.{eqb}
 use borrow.Author.Tests.{eq-eqb, ne-eqb}
-use Rattle.link.specs.Questions.{ask, firstNo, displayQuestions}
-use Rattle.link.proofs.Answers.{append-no, append-yes}
-use Rattle.link.proofs.questions.marks_questions.Statement.{statement}
-use Rattle.link.proofs.questions.marks_questions.Tie as tie
+use Rattle.question.specs.Questions.{ask, firstNo, displayQuestions}
+use Rattle.question.proofs.Answers.{append-no, append-yes}
+use Rattle.question.proofs.marks_questions.Statement.{statement}
+use Rattle.question.proofs.marks_questions.Tie as tie
 
 display-questions-requires : tie.Need-display-questions-requires
 display-questions-requires c κs = tt

@@ -9,7 +9,7 @@ use Rattle.algebra.specs.Ops.{pick}
 use Rattle.code.specs.declared.Setting.{Setting}
 use Rattle.code.specs.Settings.{settings, isSetting, settingOf, largest}
 use Rattle.code.specs.Windows.{windowLength}
-use Rattle.link.specs.declared.Answer.{Answer}
+use Rattle.question.specs.declared.Answer.{Answer}
 
 -- A question: its number, its place if the answer is "no", and whether the answer is "yes".
 pub record Question : Type 0 where

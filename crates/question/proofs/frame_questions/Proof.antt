@@ -1,4 +1,4 @@
--- `link::questions::frame_questions` asks 1, 2 and 3 in order.
+-- `question::frame_questions` asks 1, 2 and 3 in order.
 use mathlib.Core.Path.{_≡_, sym, subst, _∙_}
 use mathlib.Core.Bool.{true, false}
 use mathlib.Core.List.{_∷_}
@@ -9,10 +9,10 @@ use lib.Dec.{T}
 use borrow.Author.Tests.{eq-eqb, ne-eqb, le-leb, lt-leb, not-true, not-false}
 use Rattle.code.specs.Settings.{isSetting, settingOf}
 use Rattle.code.proofs.Settings.{Sizes, sizesOf}
-use Rattle.link.specs.Questions.{firstNo, ask}
-use Rattle.link.proofs.Answers.{first-no, after-first, frameLater, window-small}
-use Rattle.link.proofs.questions.frame_questions.Statement.{statement}
-use Rattle.link.proofs.questions.frame_questions.Tie as tie
+use Rattle.question.specs.Questions.{firstNo, ask}
+use Rattle.question.proofs.Answers.{first-no, after-first, frameLater, window-small}
+use Rattle.question.proofs.frame_questions.Statement.{statement}
+use Rattle.question.proofs.frame_questions.Tie as tie
 
 is-setting-requires : tie.Need-is-setting-requires
 is-setting-requires c κs = tt
