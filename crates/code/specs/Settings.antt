@@ -44,11 +44,10 @@ abbrev pub largest : (Setting → ℕ) → List Setting → ℕ
 largest figure [] = 0
 largest figure (p ∷ rest) = max (figure p) (largest figure rest)
 
--- d_0, .., d_m, d and t.
+-- Examples, computed: 01's table, d_0, .., d_m, d and t of each setting.
 abbrev pub distancesOf : Setting → List ℕ
 distancesOf p = tabulate (p .m + 1) (levelDistance (p .n) (p .k)) ++ designDistance (p .n) (p .k) (p .m) ∷ limit (p .n) (p .k) (p .m) ∷ []
 
--- 01's table.
 pub table-of-distances : map distancesOf settings ≡ (4 ∷ 3 ∷ 2 ∷ 8 ∷ 4 ∷ []) ∷ (6 ∷ 4 ∷ 2 ∷ 11 ∷ 5 ∷ []) ∷ (5 ∷ 2 ∷ 6 ∷ 3 ∷ []) ∷ []
 unfolding distancesTo tabulate
 table-of-distances = refl

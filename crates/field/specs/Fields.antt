@@ -40,7 +40,7 @@ fieldPart q part =
 unfoldable pub opsOf : ℕ → Ops ℕ
 opsOf q = numbers q (fieldPart q (λ o. o .add)) (fieldPart q (λ o. o .neg)) (fieldPart q (λ o. o .mul))
 
--- The powers of α from α^0 on.
+-- Examples, computed: the powers of α from α^0 on.
 pub powers-of-five : map (power five alpha) (0 ∷ 1 ∷ 2 ∷ 3 ∷ []) ≡ 1 ∷ 2 ∷ 4 ∷ 3 ∷ []
 unfolding power five modular
 powers-of-five = refl

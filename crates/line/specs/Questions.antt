@@ -1,16 +1,16 @@
 -- The frame in a line, and the questions of a line (01, "Lines at the planning desk" and "Questions, asked in this order").
 -- Holds: `settingIn`, `blocksIn`, `symbolsIn`; `digitsTo`; `mostCharacters` with its number; `characterQuestions`, `lengthQuestion`, `headQuestions`, `HoldsFrame`,
--- `lineQuestions`.
+-- `lineQuestions`; `line-samples`.
 use mathlib.Core.Path.{_≡_, refl}
 use mathlib.Core.Bool.{_&&_}
 use mathlib.Core.List.{List, [], _∷_, _++_, map}
 use Prim.Native.Nat.{ℕ, _+_, _-_, _*_}
 use lib.Dec.{eqb, leb}
-use lib.ListN.{length, getD, drop}
+use lib.ListN.{length, getD, drop, replicate}
 use Rattle.code.specs.declared.Setting.{Setting}
 use Rattle.code.specs.Settings.{isSetting, settingOf}
-use Rattle.question.specs.Questions.{Question, ask, askAt, firstNo, mostBlocks, mostSymbols, symbolsTo, symbolQuestion}
-use Rattle.line.specs.Characters.{digitOf}
+use Rattle.question.specs.Questions.{Question, ask, askAt, answer, firstNo, mostBlocks, mostSymbols, symbolsTo, symbolQuestion}
+use Rattle.line.specs.Characters.{digitOf, characterOf}
 
 -- "one digit for the setting, three for T, then one a symbol for T+m blocks"
 abbrev pub settingIn : List ℕ → ℕ
@@ -60,3 +60,12 @@ HoldsFrame line = firstNo (characterQuestions line ++ headQuestions line) .numbe
 -- "A line: 11 .. 9 .. 1; 3; 10 .. 4; 7." 4 counts its place in symbols. (7 is asked of the frame: see `Answers`.)
 abbrev pub lineQuestions : List ℕ → List Question
 lineQuestions line = characterQuestions line ++ headQuestions line ++ symbolQuestion (settingOf (settingIn line) .q) (symbolsIn line) ∷ []
+
+-- Examples, computed: 11 comes before 9, and the place of 4 is counted in symbols, that of 9 in characters.
+pub line-samples : firstNo (lineQuestions (replicate (mostCharacters + 1) 122))
+    ∷ firstNo (lineQuestions (map characterOf (1 ∷ 0 ∷ 0 ∷ 1 ∷ 2 ∷ 4 ∷ 3 ∷ 5 ∷ 2 ∷ 3 ∷ 2 ∷ 3 ∷ 0 ∷ 0 ∷ 0 ∷ 0 ∷ [])))
+    ∷ firstNo (lineQuestions (49 ∷ 50 ∷ 103 ∷ []))
+    ∷ []
+    ≡ answer 11 0 0 ∷ answer 4 3 0 ∷ answer 9 2 0 ∷ []
+unfolding digitOf characterOf symbolsTo
+line-samples = refl

@@ -1,3 +1,2 @@
--- The questions in 01's order and words, and samples of their answers.
+-- The questions in 01's order and words.
 pub mod Questions
-pub mod Sample

@@ -1,10 +1,12 @@
 -- The questions of each call (01, "Questions, asked in this order"): a call's answer is the first "no".
--- Holds: `Question`, `firstNo`; `mostBlocks`, `mostSymbols`, `mostInformation`; `blocksOf` (T), `symbolsTo`; the questions of decoding, encoding, display and marks.
+-- Holds: `Question`, `firstNo`; `mostBlocks`, `mostSymbols`, `mostInformation`; `blocksOf` (T), `symbolsTo`; the questions of decoding, encoding, display and marks;
+-- `encoding-samples`, `decoding-samples`, `marks-samples`.
+use mathlib.Core.Path.{_≡_, refl}
 use mathlib.Core.Bool.{Bool, _&&_}
 use mathlib.Core.List.{List, [], _∷_, _++_}
 use Prim.Native.Nat.{ℕ, suc, _+_, _-_, _*_, _/_, _%_}
 use lib.Dec.{eqb, leb, ltb}
-use lib.ListN.{length}
+use lib.ListN.{length, replicate}
 use Rattle.algebra.specs.Ops.{pick}
 use Rattle.code.specs.declared.Setting.{Setting}
 use Rattle.code.specs.Settings.{settings, isSetting, settingOf, largest}
@@ -94,3 +96,40 @@ displayQuestions number long j = frameQuestions number long ++ ask 12 (ltb j (bl
 -- Marks: the same, then 13: "Are both lengths equal?" "For marks, 2 and 3 look at the reception."
 abbrev pub marksQuestions : ℕ → ℕ → ℕ → ℕ → List Question
 marksQuestions number receptionLong transmissionLong j = displayQuestions number receptionLong j ++ ask 13 (eqb receptionLong transmissionLong) ∷ []
+
+-- Examples, computed: which question comes first where several would be answered "no".
+-- No setting 257, though its last byte is 1; 8 before 3; 3 before 4; 4 with its place before 6; 6; yes.
+pub encoding-samples : firstNo (encodingQuestions 257 [] 0)
+    ∷ firstNo (encodingQuestions 2 (replicate 1027 9) 0)
+    ∷ firstNo (encodingQuestions 2 (replicate 1026 9) 0)
+    ∷ firstNo (encodingQuestions 2 (replicate 1023 7 ++ 8 ∷ []) 0)
+    ∷ firstNo (encodingQuestions 2 (replicate 1024 7) 3597)
+    ∷ firstNo (encodingQuestions 2 (replicate 1024 7) 3598)
+    ∷ []
+    ≡ answer 1 0 0 ∷ answer 8 0 0 ∷ answer 3 0 0 ∷ answer 4 1023 0 ∷ answer 6 0 0 ∷ answer 0 0 0 ∷ []
+unfolding symbolsTo
+encoding-samples = refl
+
+-- 1; 2 for a length that is no multiple of n, and for one below (m+1) × n; 3 before 4; 4 with its place before 5; 5 before 6; 6; yes.
+pub decoding-samples : firstNo (decodingQuestions 0 [] 0 0)
+    ∷ firstNo (decodingQuestions 3 (replicate 3592 9) 0 0)
+    ∷ firstNo (decodingQuestions 3 (replicate 7 9) 0 0)
+    ∷ firstNo (decodingQuestions 3 (replicate 3598 9) 0 0)
+    ∷ firstNo (decodingQuestions 3 (replicate 3590 7 ++ 8 ∷ []) 0 0)
+    ∷ firstNo (decodingQuestions 3 (replicate 3591 7) 1535 0)
+    ∷ firstNo (decodingQuestions 3 (replicate 3591 7) 1536 3590)
+    ∷ firstNo (decodingQuestions 3 (replicate 3591 7) 1536 3591)
+    ∷ []
+    ≡ answer 1 0 0 ∷ answer 2 0 0 ∷ answer 2 0 0 ∷ answer 3 0 0 ∷ answer 4 3590 0 ∷ answer 5 0 0 ∷ answer 6 0 0 ∷ answer 0 0 0 ∷ []
+unfolding symbolsTo
+decoding-samples = refl
+
+-- 3 before 12; 12, for any j, before 13; 13; yes.
+pub marks-samples : firstNo (marksQuestions 1 2060 0 513)
+    ∷ firstNo (marksQuestions 1 2056 0 512)
+    ∷ firstNo (marksQuestions 1 2056 0 18446744073709551615)
+    ∷ firstNo (marksQuestions 1 2056 2055 511)
+    ∷ firstNo (marksQuestions 1 2056 2056 511)
+    ∷ []
+    ≡ answer 3 0 0 ∷ answer 12 0 0 ∷ answer 12 0 0 ∷ answer 13 0 0 ∷ answer 0 0 0 ∷ []
+marks-samples = refl
