@@ -1,16 +1,16 @@
 -- The frame of a line that holds one (questions 11, 9, 1, 3 and 10 got "yes"), from decoding to the line's answer.
 -- Holds: `symbols-count`, `symbols-read`, `symbols-long`, `blocks-is` (the reception and T); `decoding-asked` (decoding's questions ask what is left, 4);
 -- `refusal-line`, `success-line`; `frame-answered` (what decoding gives), `frame-left`; `any-room`, `room-is` (the working areas); `head-refused`; `answers-most`,
--- `answer-most` (an output line's length); `answered-shown` (with room for every frame); `answers-kept` (a line too long is answered by its beginning).
+-- `answer-most`, `answers-sevenfold` (an output line's length); `answered-shown` (with room for every frame); `answers-kept` (a line too long is answered by its beginning).
 use mathlib.Core.Path.{_≡_, refl, sym, ap, ap₂, subst, _∙_}
 use mathlib.Core.Bool.{Bool, true, false, _&&_}
 use mathlib.Core.List.{List, [], _∷_, _++_, map}
 use Prim.Native.Nat.{ℕ, _+_, _-_, _*_, _/_, _%_, _≤_, _<_}
-use native.Mathlib.Nat.{mul-le-mul-right, le-trans, lt-of-lt-of-le}
+use native.Mathlib.Nat.{mul-le-mul, mul-le-mul-right, le-trans, lt-of-lt-of-le}
 use native.Mathlib.Omega.{arith}
 use native.Mathlib.Decide.{decLe}
 use lib.Arith.{digits-div, digits-mod}
-use lib.Dec.{T, eqb, leb, lit≤, leb→le}
+use lib.Dec.{T, eqb, leb, lit≤, leb→le, eqb→eq}
 use lib.ListN.{length, take, drop, length-map, length-drop}
 use lib.Seq.{length-take-le, take-at, take-all}
 use borrow.Author.Tests.{eq-eqb, ne-eqb, le-leb, lt-leb}
@@ -20,14 +20,14 @@ use Rattle.field.specs.Symbols.{Symbols}
 use Rattle.code.specs.declared.Setting.{Setting}
 use Rattle.code.specs.Settings.{isSetting, settingOf}
 use Rattle.code.specs.Windows.{windowLength}
-use Rattle.code.proofs.Settings.{soundOf, Sizes, sizesOf, largestOf}
+use Rattle.code.proofs.Settings.{soundOf, information-fits, Sizes, sizesOf, largestOf}
 use Rattle.question.specs.declared.Answer.{Answer}
 use Rattle.question.specs.Questions.{Question, ask, answer, firstNo, mostBlocks, mostSymbols, mostInformation, blocksOf, symbolQuestion, transmissionQuestion, frameQuestions, decodingQuestions}
 use Rattle.link.specs.Decoding.{FrameDecoded, found, none-fits, DecodedIn, Decoded, refused as decoding-refused, well-formed as decoding-well-formed}
 use Rattle.question.proofs.Answers.{first-no, all-yes, append-yes, message-most, transmission-most}
 use Rattle.link.proofs.Determined.{parts-long, message-front}
 use Rattle.line.specs.Characters.{digitOf}
-use Rattle.line.specs.Questions.{mostCharacters, settingIn, blocksIn, symbolsIn, characterQuestions, headQuestions, HoldsFrame, lineQuestions}
+use Rattle.line.specs.Questions.{mostCharacters, settingIn, blocksIn, symbolsIn, digitsTo, characterQuestions, headQuestions, HoldsFrame, lineQuestions}
 use Rattle.line.specs.Answering.{refusal, success, mostAnswer, outputLine, messageLength, messageIn, Answers, refused, well-formed, AnswerShown, Working, working, hasRoom, roomIn, RoomForAll, FrameLeft, Answered, no-frame, no-room, decoded}
 use Rattle.line.proofs.Asked.{HeadYes, head-yes, after-head, in-head}
 use Rattle.line.proofs.Placed.{six, success-long}
@@ -195,14 +195,15 @@ head-refused line r e never =
     let same : firstNo (lineQuestions line) ≡ firstNo (characterQuestions line ++ headQuestions line) = in-head line head in
     refused (λ z. head (ap (λ (a : Answer). a .number) (sym same) ∙ z)) (ap refusal (e ∙ sym same))
 
--- An output line is no longer than the longest success line.
-output-most : (line : List ℕ) (r : Answer) (x : List ℕ) → length x ≤ mostInformation → length (outputLine line r x) ≤ mostAnswer
-output-most line r x l = at (eqb (r .number) 0)
+-- An output line is an opening of ten characters and a message, or six characters.
+output-most : (line : List ℕ) (r : Answer) (x : List ℕ) → length (outputLine line r x) ≤ 10 + length x
+output-most line r x = at (eqb (r .number) 0)
   where
-    at : (b : Bool) → length (pick b (success (r .altered) (settingIn line) (blocksIn line) x) (refusal r)) ≤ mostAnswer
+    at : (b : Bool) → length (pick b (success (r .altered) (settingIn line) (blocksIn line) x) (refusal r)) ≤ 10 + length x
     at true = omega (arith, success-long (r .altered) (settingIn line) (blocksIn line) x)
     at false = omega (arith, six (r .number) (r .place))
 
+-- So it is no longer than the longest success line ..
 pub answers-most : (line text : List ℕ) → Answers line text → length text ≤ mostAnswer
 answers-most line text (refused h e) = omega (arith, ap length e, six (firstNo (lineQuestions line) .number) (firstNo (lineQuestions line) .place))
 answers-most line text (well-formed h r x y f e) =
@@ -210,7 +211,22 @@ answers-most line text (well-formed h r x y f e) =
     let p = settingOf (settingIn line) in
     let few : blocksIn line ≤ mostBlocks = leb→le (blocksIn line) mostBlocks (all .1 .1 .1 .0) in
     let long : length x ≡ blocksIn line * p .k = parts-long p (soundOf (settingIn line) (all .1 .1 .0)) (blocksIn line) (symbolsIn line) f .0 in
-    omega (arith, ap length e, output-most line r x (omega (arith, message-most (settingIn line) p (blocksIn line) (all .1 .1 .0) refl few)))
+    omega (arith, ap length e, output-most line r x, message-most (settingIn line) p (blocksIn line) (all .1 .1 .0) refl few)
+
+-- .. and, each with its newline, at most seven times as long as the line: no message is longer than its frame.
+pub answers-sevenfold : (line text : List ℕ) → Answers line text → length text + 1 ≤ 7 * (length line + 1)
+answers-sevenfold line text (refused h e) = omega (arith, ap length e, six (firstNo (lineQuestions line) .number) (firstNo (lineQuestions line) .place))
+answers-sevenfold line text (well-formed h r x y f e) =
+    let all = all-yes (lineQuestions line) tt h in
+    let p = settingOf (settingIn line) in
+    let T = blocksIn line in
+    let sound = soundOf (settingIn line) (all .1 .1 .0) in
+    let least : 4 ≤ length line = leb→le 4 (length line) (and-left (leb 4 (length line)) (eqb (digitsTo line) (length line)) (all .1 .0)) in
+    let frame : length line - 4 ≡ (T + p .m) * p .n =
+    eqb→eq (length line - 4) ((T + p .m) * p .n) (and-right (leb 1 T) (eqb (length line - 4) ((T + p .m) * p .n)) (all .1 .1 .1 .1 .0)) in
+    let message : length x ≡ T * p .k = parts-long p sound T (symbolsIn line) f .0 in
+    let blocks : T ≤ T + p .m = omega arith in
+    omega (arith, ap length e, output-most line r x, mul-le-mul blocks (information-fits p sound))
 
 pub answer-most : (line before : List ℕ) (r : ℕ) (after : List ℕ) → AnswerShown line before r after → r ≤ mostAnswer
 answer-most line before r after a = at (leb (length (a .text)) (length before)) (a .shown .long)
