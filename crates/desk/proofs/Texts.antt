@@ -1,26 +1,25 @@
 -- The lines of a text, read in parts; what is kept of a line that is begun; the answers behind one another.
--- Holds: `lines-append`, `rest-append` (a text in two parts); `lines-before`, `rest-before`, `newline-at` (up to the next newline); `held-copied`; `put-behind`;
--- `output-more`, `output-append`; `reached-none`, `reached-unended`,
--- `reached-ended`; `reached-then`, `whole-input` (an input in parts); `held-none`, `held-on`, `held-all`; `last-none`, `last-answered`.
+-- Holds: `lines-append`, `rest-append` (a text in two parts); `lines-before`, `rest-before`, `newline-at` (up to the next newline); `held-copied`; `answer-few`,
+-- `room-after`, `put-behind`; `output-append`, `output-more`; `reached-none`, `reached-unended`, `reached-ended`, `reached-all`; `last-none`, `last-answered`, `last-kept`.
 use mathlib.Core.Path.{_≡_, refl, sym, ap, ap₂, subst, _∙_}
 use mathlib.Core.Bool.{Bool, true, false}
 use mathlib.Core.List.{List, [], _∷_, _++_, append-nil, append-assoc}
-use Prim.Native.Nat.{ℕ, suc, _+_, _-_, _≤_, _<_, min}
+use Prim.Native.Nat.{ℕ, zero, suc, _+_, _-_, _*_, _≤_, _<_, min}
 use native.Mathlib.Numerals.{add-one}
 use native.Mathlib.Omega.{arith}
 use native.Mathlib.Decide.{decLe}
 use lib.Dec.{eqb, leb}
 use lib.ListN.{length, getD, take, drop, set, length-append, length-take, length-drop}
-use lib.Seq.{length-take-le, take-all, take-nil, take-suc, take-add, take-append-le, take-append-add, take-at, take-length, take-take, set-split, getD-drop}
+use lib.Seq.{length-take-le, take-all, take-nil, take-suc, take-add, take-append-le, take-append-add, take-at, take-length, set-split, getD-drop}
 use borrow.Author.Tests.{eqb-true, le-leb}
 use borrow.Rule.Slice.PartMut.{putMid}
 use Rattle.bytes.specs.Bytes.{indexAfter, indexOf, slice}
 use Rattle.algebra.specs.Ops.{pick}
 use Rattle.line.specs.Questions.{mostCharacters}
-use Rattle.line.specs.Answering.{mostAnswer, Answers, AnswerShown}
-use Rattle.line.proofs.Frames.{answers-most, answers-kept}
-use Rattle.desk.specs.Texts.{newline, linesOf, restOf, lastOf, allLines, Output, none, next}
-use Rattle.desk.specs.Reading.{answerRoom, Holds, Behind, Reached}
+use Rattle.line.specs.Answering.{Answers, AnswerShown}
+use Rattle.line.proofs.Frames.{answers-sevenfold, answers-kept}
+use Rattle.desk.specs.Texts.{newline, linesOf, restOf, lastOf, Output, none, next}
+use Rattle.desk.specs.parts.Reading.{Holds, Behind, Reached}
 
 -- A text in two parts.
 pub lines-append : (b s t : List ℕ) → linesOf b (s ++ t) ≡ linesOf b s ++ linesOf (restOf b s) t
@@ -101,36 +100,56 @@ copied-front held k area source over h =
     (ap (take (length source)) (append-assoc (take (length source) source) (drop (length source) over) (drop k (drop held area)))
     ∙ (take-at (take (length source) source) (drop (length source) over ++ drop k (drop held area)) (length source) (ap length (take-length source)) ∙ take-length source)))
 
-held-is : (begun area : List ℕ) (held : ℕ) → Holds begun area held → held ≡ min (length area) (length begun)
-held-is begun area held H = sym (length-take-le held area (H .within)) ∙ (ap length (H .kept) ∙ length-take (length area) begun)
+held-is : (begun area : List ℕ) (held : ℕ) → Holds begun area held → held ≡ min (length area - 1) (length begun)
+held-is begun area held H =
+    let inside : held < length area = H .within in
+    sym (length-take-le held area (omega arith)) ∙ (ap length (H .kept) ∙ length-take (length area - 1) begun)
 
 -- A part of the line came, of which there was room for so much.
-held-more : (begun part area after : List ℕ) (held r : ℕ) → Holds begun area held → length after ≡ length area → r ≤ length area
-    → take r after ≡ take held area ++ take (length area - held) part → Holds (begun ++ part) after r
+held-more : (begun part area after : List ℕ) (held r : ℕ) → Holds begun area held → length after ≡ length area → r < length area
+    → take r after ≡ take held area ++ take (length area - 1 - held) part → Holds (begun ++ part) after r
 held-more begun part area after held r H same room e =
     record {
       within = omega arith;
       kept =
           e
           ∙ (ap₂ (λ (l : List ℕ) (k : ℕ). l ++ take k part) (H .kept) left
-          ∙ (sym (take-append (length area) begun part) ∙ ap (λ (k : ℕ). take k (begun ++ part)) (sym same)));
+          ∙ (sym (take-append (length area - 1) begun part) ∙ ap (λ (k : ℕ). take (k - 1) (begun ++ part)) (sym same)));
     }
   where
-    left : length area - held ≡ length area - length begun
+    left : length area - 1 - held ≡ length area - 1 - length begun
     left = omega (arith, held-is begun area held H)
 
 -- The same, as copying leaves it.
-pub held-copied : (begun part area copied source over : List ℕ) (held k r : ℕ) → source ≡ take (length area - held) part
-    → copied ≡ take (length source) source ++ drop (length source) over → length (putMid held k area copied) ≡ length area → r ≡ held + length source → r ≤ length area
-    → Holds begun area held → Holds (begun ++ part) (putMid held k area copied) r
+pub held-copied : (begun part area copied source over : List ℕ) (held k r : ℕ) → source ≡ take (length area - 1 - held) part
+    → copied ≡ take (length source) source ++ drop (length source) over → length (putMid held k area copied) ≡ length area
+    → r ≡ held + length source → r < length area → Holds begun area held → Holds (begun ++ part) (putMid held k area copied) r
 held-copied begun part area copied source over held k r from-part is same r-is room H =
+    let inside : held < length area = H .within in
     held-more begun part area (putMid held k area copied) held r H same room
     (ap₂ (λ (n : ℕ) (l : List ℕ). take n (putMid held k area l)) r-is is
-    ∙ (copied-front held k area source over (H .within) ∙ ap (λ (l : List ℕ). take held area ++ l) from-part))
+    ∙ (copied-front held k area source over (omega arith) ∙ ap (λ (l : List ℕ). take held area ++ l) from-part))
+
+-- The length of an answer, in terms of its line's.
+pub answer-few : (line before : List ℕ) (r : ℕ) (after : List ℕ) → AnswerShown line before r after → r + 1 ≤ 7 * (length line + 1)
+answer-few line before r after a = at (leb (length (a .text)) (length before)) (a .shown .long)
+  where
+    at : (t : Bool) → r ≡ pick t (length (a .text)) 0 → r + 1 ≤ 7 * (length line + 1)
+    at true e = omega (arith, answers-sevenfold line (a .text) (a .answers))
+    at false e = omega arith
+
+-- The answer to a line that ends at `to` leaves room for those to what follows it.
+pub room-after : (filled held from to buffer output held' r : ℕ) (part line : List ℕ) → filled + 7 * (held + (buffer - from)) ≤ output → from ≤ to → to < buffer
+    → held' ≤ held + length (take (to - from) part) → r ≤ filled + 7 * (length (take (held' - 0) line) + 1) → r + 7 * (0 + (buffer - (to + 1))) ≤ output
+room-after filled held from to buffer output held' r part line room on inside few answer =
+    let a : length (take (to - from) part) ≤ to - from = omega (arith, length-take (to - from) part) in
+    let b : length (take (held' - 0) line) ≤ held' = omega (arith, length-take (held' - 0) line) in
+    omega arith
 
 -- An answer and its newline behind the output that waits, as the line's answer and a store leave it.
-pub put-behind : (line before over shown : List ℕ) (filled k r : ℕ) → filled + answerRoom ≤ length before → length over ≡ length before - filled → AnswerShown line over r shown
-    → filled + r < length (putMid filled k before shown) → Behind line before filled (set (putMid filled k before shown) (filled + r) newline) (filled + r + 1)
+pub put-behind : (line before over shown : List ℕ) (filled k r : ℕ) → filled + 7 * (length line + 1) ≤ length before → length over ≡ length before - filled
+    → AnswerShown line over r shown → filled + r < length (putMid filled k before shown)
+    → Behind line before filled (set (putMid filled k before shown) (filled + r) newline) (filled + r + 1)
 put-behind line before over shown filled k r room fits A inside =
     record {
       text = A .text;
@@ -148,8 +167,8 @@ put-behind line before over shown filled k r room fits A inside =
     front : List ℕ
     front = take filled before ++ A .text
 
-    most : length (A .text) ≤ mostAnswer
-    most = answers-most line (A .text) (A .answers)
+    most : length (A .text) + 1 ≤ 7 * (length line + 1)
+    most = answers-sevenfold line (A .text) (A .answers)
 
     has-room : leb (length (A .text)) (length over) ≡ true
     has-room = le-leb (length (A .text)) (length over) (omega (arith, most))
@@ -229,12 +248,12 @@ module _ (begun buffer : List ℕ) (from : ℕ) (area : List ℕ) (held : ℕ) (
       }
 
   -- The line ends, and was answered.
-  pub reached-ended : (output' : List ℕ) (filled' : ℕ) → mostCharacters < length area' → to < length buffer → Behind (take (held' - 0) area') output filled output' filled'
+  pub reached-ended : (output' : List ℕ) (filled' : ℕ) → mostCharacters + 1 < length area' → to < length buffer → Behind (take (held' - 0) area') output filled output' filled'
       → Reached begun (take (to + 1) buffer) area' 0 output' filled'
   unfolding before part linesOf restOf
   reached-ended output' filled' room inside B =
       record {
-        kept = subst (λ (l : List ℕ). Holds l area' 0) (sym rest-new) (record { within = omega arith; kept = sym (take-nil (length area')) });
+        kept = subst (λ (l : List ℕ). Holds l area' 0) (sym rest-new) (record { within = omega arith; kept = sym (take-nil (length area' - 1)) });
         answered = subst (λ (l : List (List ℕ)). Output l (take filled' output')) (sym lines-new)
             (subst (Output (linesOf begun before ++ (restOf begun before ++ part) ∷ [])) (sym (B .is))
             (output-more (restOf begun before ++ part) (B .text) (R .answered) answered));
@@ -243,7 +262,7 @@ module _ (begun buffer : List ℕ) (from : ℕ) (area : List ℕ) (held : ℕ) (
       answered : Answers (restOf begun before ++ part) (B .text)
       answered =
           let whole : held' - 0 ≡ held' = omega arith in
-          answers-kept (length area') room (restOf begun before ++ part) (B .text)
+          answers-kept (length area' - 1) (omega arith) (restOf begun before ++ part) (B .text)
           (subst (λ (l : List ℕ). Answers l (B .text)) (ap (λ (n : ℕ). take n area') whole ∙ keeps .kept) (B .answers))
 
       one-more : take (to + 1) buffer ≡ take to buffer ++ newline ∷ []
@@ -262,43 +281,31 @@ module _ (begun buffer : List ℕ) (from : ℕ) (area : List ℕ) (held : ℕ) (
       rest-new : restOf begun (take (to + 1) buffer) ≡ []
       rest-new = ap (restOf begun) one-more ∙ rest-append begun (take to buffer) (newline ∷ [])
 
--- So an input may come in parts: the answers to the first part and then those to the second are the answers to the whole ..
-pub reached-then : (begun s t : List ℕ) {out more : List ℕ} → Output (linesOf begun s) out → Output (linesOf (restOf begun s) t) more
-    → Output (linesOf begun (s ++ t)) (out ++ more)
-reached-then begun s t {out} {more} o p = subst (λ (l : List (List ℕ)). Output l (out ++ more)) (sym (lines-append begun s t)) (output-append o p)
-
--- .. and at its end the line that no newline ends comes last.
-pub whole-input : (input : List ℕ) {out last : List ℕ} → Output (linesOf [] input) out → Output (lastOf (restOf [] input)) last → Output (allLines input) (out ++ last)
-whole-input input o p = output-append o p
-
--- What is kept: nothing was read yet; the next part was read, as the code lends it; all was read.
-pub held-none : (begun text area : List ℕ) (held : ℕ) → Holds begun area held → Holds (restOf begun (take 0 text)) area held
-unfolding restOf
-held-none begun text area held H = H
-
-pub held-on : (begun text : List ℕ) (from more : ℕ) (area : List ℕ) (held : ℕ) → more ≤ length text - from
-    → Holds (restOf (restOf begun (take from text)) (take more (take (length text - from) (drop from text)))) area held
-    → Holds (restOf begun (take (from + more) text)) area held
-held-on begun text from more area held l H =
-    subst (λ (r : List ℕ). Holds r area held)
-    (ap (restOf (restOf begun (take from text))) (take-take more (length text - from) (drop from text) l)
-    ∙ (sym (rest-append begun (take from text) (take more (drop from text))) ∙ ap (restOf begun) (sym (take-add from more text)))) H
-
-pub held-all : (begun text : List ℕ) (from : ℕ) (area : List ℕ) (held : ℕ) → from ≡ length text → Holds (restOf begun (take from text)) area held → Holds (restOf begun text) area held
-held-all begun text from area held e H = subst (λ (r : List ℕ). Holds (restOf begun r) area held) (ap (λ (n : ℕ). take n text) e ∙ take-length text) H
+-- All of the buffer was read.
+pub reached-all : (begun buffer : List ℕ) (from : ℕ) (area : List ℕ) (held : ℕ) (output : List ℕ) (filled : ℕ) → from ≡ length buffer
+    → Reached begun (take from buffer) area held output filled → Reached begun buffer area held output filled
+reached-all begun buffer from area held output filled e R =
+    subst (λ (t : List ℕ). Reached begun t area held output filled) (ap (λ (n : ℕ). take n buffer) e ∙ take-length buffer) R
 
 -- The last line of an input, where no newline ends it.
-pub last-none : (begun area : List ℕ) (held : ℕ) (output : List ℕ) → mostCharacters < length area → held ≡ 0 → Holds begun area held → Output (lastOf begun) (take 0 output)
+pub last-none : (line output : List ℕ) → length line ≡ 0 → Output (lastOf line) (take 0 output)
 unfolding lastOf
-last-none [] area held output room e H = none
-last-none (c ∷ begun) area held output room e H = absurd (omega (arith, held-is (c ∷ begun) area held H))
+last-none [] output e = none
+last-none (c ∷ line) output e = absurd (omega arith)
 
-pub last-answered : (begun area : List ℕ) (held : ℕ) (output output' : List ℕ) (r : ℕ) → mostCharacters < length area → (held ≡ 0 → ⊥) → Holds begun area held
-    → Behind (take (held - 0) area) output 0 output' r → Output (lastOf begun) (take r output')
+pub last-answered : (line output output' : List ℕ) (r : ℕ) → (length line ≡ 0 → ⊥) → Behind line output 0 output' r → Output (lastOf line) (take r output')
 unfolding lastOf
-last-answered [] area held output output' r room d H B = absurd (d (omega (arith, held-is [] area held H)))
-last-answered (c ∷ begun) area held output output' r room d H B =
-    let whole : held - 0 ≡ held = omega arith in
-    subst (Output ((c ∷ begun) ∷ [])) (sym (B .is))
-    (next (c ∷ begun) (B .text) [] []
-    (answers-kept (length area) room (c ∷ begun) (B .text) (subst (λ (l : List ℕ). Answers l (B .text)) (ap (λ (n : ℕ). take n area) whole ∙ H .kept) (B .answers))) none)
+last-answered [] output output' r d B = absurd (d refl)
+last-answered (c ∷ line) output output' r d B =
+    subst (Output ((c ∷ line) ∷ [])) (sym (B .is)) (next (c ∷ line) (B .text) [] [] (B .answers) none)
+
+-- One line that gets another's answers.
+output-one : {l m out : List ℕ} → ((text : List ℕ) → Answers l text → Answers m text) → Output (l ∷ []) out → Output (m ∷ []) out
+output-one {m = m} same (next line text lines rest a none) = next m text [] [] (same text a) none
+
+-- It is answered by its beginning.
+pub last-kept : (room : ℕ) → mostCharacters < room → (begun : List ℕ) {out : List ℕ} → Output (lastOf (take room begun)) out → Output (lastOf begun) out
+unfolding lastOf
+last-kept room h [] {out} o = subst (λ (l : List ℕ). Output (lastOf l) out) (take-nil room) o
+last-kept zero h (c ∷ begun) o = absurd (omega arith)
+last-kept (suc room) h (c ∷ begun) o = output-one (answers-kept (suc room) h (c ∷ begun)) o

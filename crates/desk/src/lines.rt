@@ -1,30 +1,29 @@
-// The lines of a text that comes in buffers, and their answers: no reading or writing here.
-ghost use mathlib.Core.List.{List, _++_};
-ghost use Prim.Native.Nat.{ℕ, _+_, _≤_, _<_};
+// The lines of a text that comes in reads, and their answers: no reading or writing here.
+ghost use Prim.Native.Nat.{_+_, _*_, _≤_, _<_};
 ghost use lib.ListN.{length, take};
+ghost use Rattle.io.specs.Counts.{Counts};
 ghost use Rattle.line.specs.Answering.{working, RoomForAll};
 ghost use Rattle.desk.specs.Texts.{lastOf, Output};
-ghost use Rattle.desk.specs.Reading.{answerRoom, Within, Room, Holds, Behind, Stepped, LinesRead};
-
-// The longest answer, with its newline.
-const ANSWER_ROOM: usize = line::MOST_ANSWER + 1;
+ghost use Rattle.desk.specs.Turns.{Room, Turned};
+ghost use Rattle.desk.specs.parts.Reading.{Within, PartKept, Behind, Stepped, LinesRead};
 
 // How far a buffer is read, how many characters of the unfinished line there are kept, and how much output waits.
-pub struct Progress {
-    pub from: usize,
-    pub held: usize,
-    pub filled: usize,
+struct Progress {
+    from: usize,
+    held: usize,
+    filled: usize,
 }
 
-// Keeps a part of a line behind the characters that are kept already, as far as there is room: one character more than a line may have.
+// Keeps a part of a line behind the characters that are kept already, as far as there is room for it and a newline.
 fn keep(part: &[u8], line: &mut [u8], held: usize) -> usize
-    requires { ⌜ held ≤ length (now line) ⌝ }
-    ensures { λ r. ⌜ (r ≤ length (now (line .entry))) × ((begun : List ℕ) → Holds begun (now (line .entry)) held → Holds (begun ++ now (part .entry)) (now (line .exit)) r) ⌝ }
+    requires { ⌜ held < length (now line) ⌝ }
+    ensures { λ r. ⌜ PartKept (now (part .entry)) (now (line .entry)) held (now (line .exit)) r ⌝ }
 {
-    let room = line.len() - held;
+    let most = line.len() - 1;
+    let room = most - held;
     if room < part.len() {
         bytes::copy(&part[0..room], &mut line[held..]);
-        return line.len();
+        return most;
     }
     bytes::copy(part, &mut line[held..]);
     held + part.len()
@@ -39,7 +38,7 @@ fn put(
     output: &mut [u8],
     filled: usize,
 ) -> usize
-    requires { ⌜ (filled + answerRoom ≤ length (now output)) × RoomForAll (working (now reception) (now message) (now transmission)) ⌝ }
+    requires { ⌜ (filled + 7 * (length (now line) + 1) ≤ length (now output)) × RoomForAll (working (now reception) (now message) (now transmission)) ⌝ }
     ensures { λ r. ⌜ Behind (now (line .entry)) (now (output .entry)) filled (now (output .exit)) r ⌝ }
 {
     let long = line::answer_line(
@@ -64,7 +63,7 @@ fn step(
     output: &mut [u8],
     progress: Progress,
 ) -> Progress
-    requires { ⌜ Within (length (now buffer)) (length (now line)) (length (now output)) progress × Room (now line) (working (now reception) (now message) (now transmission)) (now output) × (progress .from < length (now buffer)) × (progress .filled + answerRoom ≤ length (now output)) ⌝ }
+    requires { ⌜ Within (length (now buffer)) (length (now line)) (length (now output)) progress × Room (now buffer) (now line) (working (now reception) (now message) (now transmission)) (now output) × (progress .from < length (now buffer)) ⌝ }
     ensures { λ r. ⌜ Stepped (now (buffer .entry)) (now (line .entry)) (now (output .entry)) progress (now (line .exit)) (now (output .exit)) r ⌝ }
 {
     let from = progress.from;
@@ -92,8 +91,8 @@ fn step(
     }
 }
 
-// Answers the lines that end in the buffer, as far as the output has room, and keeps the line that follows.
-pub fn answer_lines(
+// Answers the lines that end in the buffer, and keeps the line that follows.
+fn answer_lines(
     buffer: &[u8],
     line: &mut [u8],
     held: usize,
@@ -102,7 +101,7 @@ pub fn answer_lines(
     transmission: &mut [u8],
     output: &mut [u8],
 ) -> Progress
-    requires { ⌜ (held ≤ length (now line)) × Room (now line) (working (now reception) (now message) (now transmission)) (now output) ⌝ }
+    requires { ⌜ (held < length (now line)) × Room (now buffer) (now line) (working (now reception) (now message) (now transmission)) (now output) ⌝ }
     ensures { λ r. ⌜ LinesRead (now (buffer .entry)) (now (line .entry)) held (now (output .entry)) (now (line .exit)) (now (output .exit)) r ⌝ }
 {
     let mut progress = Progress {
@@ -111,9 +110,6 @@ pub fn answer_lines(
         filled: 0,
     };
     while progress.from < buffer.len() {
-        if output.len() - progress.filled < ANSWER_ROOM {
-            return progress;
-        }
         progress = step(
             buffer,
             line,
@@ -128,19 +124,55 @@ pub fn answer_lines(
 }
 
 // Answers the last line, where no newline ends it; an empty one is none.
-pub fn answer_last(
+fn answer_last(
     line: &[u8],
-    held: usize,
     reception: &mut [u8],
     message: &mut [u8],
     transmission: &mut [u8],
     output: &mut [u8],
 ) -> usize
-    requires { ⌜ (held ≤ length (now line)) × Room (now line) (working (now reception) (now message) (now transmission)) (now output) ⌝ }
-    ensures { λ r. ⌜ (r ≤ length (now (output .entry))) × ((begun : List ℕ) → Holds begun (now (line .entry)) held → Output (lastOf begun) (take r (now (output .exit)))) ⌝ }
+    requires { ⌜ (7 * (length (now line) + 1) ≤ length (now output)) × RoomForAll (working (now reception) (now message) (now transmission)) ⌝ }
+    ensures { λ r. ⌜ (r ≤ length (now (output .entry))) × Output (lastOf (now (line .entry))) (take r (now (output .exit))) ⌝ }
 {
-    if held == 0 {
+    if line.len() == 0 {
         return 0;
     }
-    put(&line[0..held], reception, message, transmission, output, 0)
+    put(line, reception, message, transmission, output, 0)
+}
+
+// One turn of the desk, once a read gave `got`: how much of the output it filled. What is kept of an unfinished line stands at the front of the line area, and a
+// newline follows it.
+pub fn turn(
+    got: isize,
+    input: &[u8],
+    line: &mut [u8],
+    reception: &mut [u8],
+    message: &mut [u8],
+    transmission: &mut [u8],
+    output: &mut [u8],
+) -> usize
+    requires { ⌜ Room (now input) (now line) (working (now reception) (now message) (now transmission)) (now output) ⌝ }
+    ensures { λ r. ⌜ Counts r (now (output .exit)) ⌝ }
+    ensures { λ r. ⌜ Turned got (now (input .entry)) (now (line .entry)) (now (line .exit)) (take r (now (output .exit))) ⌝ }
+{
+    if got < 0 {
+        return 0;
+    }
+    let held = bytes::scan::find(line, 0, line.len() - 1, b'\n');
+    if got == 0 {
+        return answer_last(&line[0..held], reception, message, transmission, output);
+    }
+    let n = io::count(got, input);
+    let next = answer_lines(
+        &input[0..n],
+        line,
+        held,
+        reception,
+        message,
+        transmission,
+        output,
+    );
+    let end = next.held;
+    line[end] = b'\n';
+    next.filled
 }

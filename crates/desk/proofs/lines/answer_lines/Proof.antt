@@ -1,12 +1,12 @@
 -- `desk::lines::answer_lines`: the buffer was read up to `progress.from`.
 use mathlib.Core.Path.{_≡_}
 use mathlib.Core.List.{List}
-use Prim.Native.Nat.{ℕ, _-_, _<_}
+use Prim.Native.Nat.{ℕ, _-_}
 use native.Mathlib.Omega.{arith}
 use denote.Ref.{now}
 use lib.ListN.{length, take}
-use Rattle.desk.specs.Reading.{Within, Holds, Reached}
-use Rattle.desk.proofs.Texts.{reached-none}
+use Rattle.desk.specs.parts.Reading.{Within, Holds, Reached}
+use Rattle.desk.proofs.Texts.{reached-none, reached-all}
 use Rattle.desk.proofs.lines.answer_lines.Statement.{statement}
 use Rattle.desk.proofs.lines.answer_lines.Tie as tie
 
@@ -14,7 +14,7 @@ abbrev Inv-loop : tie.InvT-loop
 Inv-loop buffer line₀ held reception₀ message₀ transmission₀ output₀ progress₀ line reception message transmission output progress =
     (length line ≡ length line₀) × (length reception ≡ length reception₀) × (length message ≡ length message₀) × (length transmission ≡ length transmission₀)
     × (length output ≡ length output₀) × Within (length buffer) (length line₀) (length output₀) progress
-    × (0 < progress .filled → 0 < progress .from) × ((begun : List ℕ) → Holds begun line₀ held → Reached begun (take (progress .from) buffer) line (progress .held) output (progress .filled))
+    × ((begun : List ℕ) → Holds begun line₀ held → Reached begun (take (progress .from) buffer) line (progress .held) output (progress .filled))
 
 abbrev μ-loop : tie.MeasureT-loop
 μ-loop buffer line₀ held reception₀ message₀ transmission₀ output₀ progress₀ line reception message transmission output progress = length buffer - progress .from
@@ -28,18 +28,8 @@ loop-holds c =
       omega arith,
       omega arith,
       record { place = omega arith; characters = omega arith; waiting = omega arith },
-      λ h. absurd (omega arith),
       λ begun H. reached-none begun (now (a .buffer)) (now (a .line)) (a .held) (now (a .output)) H,
     )
-
-sub-if2 : tie.Need-sub-if2 Inv-loop μ-loop
-sub-if2 c = omega arith
-
--- The output is full, so something was answered.
-returns : tie.Need-returns Inv-loop μ-loop
-returns c =
-    let l = c .before .before .before .before .loop in
-    record { within = l .inv .5; on = λ h. l .inv .6 (omega arith); reached = l .inv .7 }
 
 step-requires : tie.Need-step-requires Inv-loop μ-loop
 step-requires c κs = (
@@ -47,9 +37,8 @@ step-requires c κs = (
   record {
     characters = omega arith;
     frame = record { reception = omega arith; message = omega arith; transmission = omega arith };
-    answer = omega arith;
+    answers = omega arith;
   },
-  omega arith,
   omega arith,
 )
 
@@ -58,7 +47,7 @@ loop-less c = omega arith
 
 loop-again : tie.Need-loop-again Inv-loop μ-loop
 loop-again c =
-    let l = c .before .before .before .before .before .before .before .before .before .before .before .before .before .before .before .before .before .before .before .before .loop in
+    let l = c .before .before .before .before .before .before .before .before .before .before .before .before .before .before .before .before .before .before .loop in
     let done = c .before .before .before .before .before .before .before .before .before .before .step in (
       omega arith,
       omega arith,
@@ -66,14 +55,18 @@ loop-again c =
       omega arith,
       omega arith,
       record { place = omega arith; characters = omega arith; waiting = omega arith },
-      λ h. omega arith,
-      λ begun H. done .ensures .reached begun (l .inv .7 begun H),
+      λ begun H. done .ensures .reached begun (l .inv .6 begun H),
     )
 
-returns-2 : tie.Need-returns-2 Inv-loop μ-loop
-returns-2 c =
+returns : tie.Need-returns Inv-loop μ-loop
+returns c =
+    let a = c .before .before .before .before .before .before .before .before .before .args in
     let l = c .before .before .loop in
-    record { within = l .inv .5; on = λ h. omega arith; reached = l .inv .7 }
+    let p = l .progress in
+    record {
+      reached = λ begun H. reached-all begun (now (a .buffer)) (p .from) (l .line) (p .held) (l .output) (p .filled) (omega arith) (l .inv .6 begun H);
+      within = l .inv .5;
+    }
 
 pub answer-lines-spec : {M : Type 1} → statement M
 answer-lines-spec =
@@ -82,11 +75,8 @@ answer-lines-spec =
     Inv-loop
     μ-loop
     loop-holds
-    sub-if2
-    (omega arith) (omega arith) (omega arith) (omega arith) (omega arith)
-    returns
     step-requires
     loop-less
     loop-again
     (omega arith) (omega arith) (omega arith) (omega arith) (omega arith)
-    returns-2)
+    returns)

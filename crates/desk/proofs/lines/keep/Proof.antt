@@ -11,6 +11,9 @@ use Rattle.desk.proofs.Texts.{held-copied}
 use Rattle.desk.proofs.lines.keep.Statement.{statement}
 use Rattle.desk.proofs.lines.keep.Tie as tie
 
+sub-most : tie.Need-sub-most
+sub-most c = search needs
+
 sub-room : tie.Need-sub-room
 sub-room c = search needs
 
@@ -37,16 +40,21 @@ copy-requires c κs = search needs
 
 returns : tie.Need-returns
 returns c =
-    let a = c .before .before .before .before .before .before .before .before .args in
-    let same : length (putMid (a .held) (length (now (a .line)) - a .held) (now (a .line)) (c .before .before .copy .last .1 .0)) ≡ length (now (a .line)) = omega arith in
-    let room = length (now (a .line)) - a .held in
+    let entry = c .before .before .before .before .before .before .before .before in
+    let part = now (entry .args .part) in
+    let area = now (entry .args .line) in
+    let held = entry .args .held in
+    let done = c .before .before .copy in
+    let room = length area - 1 - held in
     let whole : room - 0 ≡ room = omega arith in
-    let long : length (take (room - 0) (now (a .part))) ≡ room - 0 = length-take-le (room - 0) (now (a .part)) (omega arith) in (
-      omega arith,
-      λ begun H. held-copied begun (now (a .part)) (now (a .line)) (c .before .before .copy .last .1 .0) (take (room - 0) (now (a .part))) _ (a .held) room _
-          (ap (λ (n : ℕ). take n (now (a .part))) whole)
-          (c .before .before .copy .ensures .1) same (omega (arith, long, c .before .before .before .before .before .before .before .before .pre)) (omega arith) H,
-    )
+    let long : length (take (room - 0) part) ≡ room - 0 = length-take-le (room - 0) part (omega arith) in
+    let same : length (putMid held (length area - held) area (done .last .1 .0)) ≡ length area = omega arith in
+    record {
+      within = omega arith;
+      few = omega arith;
+      holds = λ begun H. held-copied begun part area (done .last .1 .0) (take (room - 0) part) _ held (length area - held) _
+          (ap (λ (n : ℕ). take n part) whole) (done .ensures .1) same (omega (arith, long, entry .pre)) (omega arith) H;
+    }
 
 sub-copy-3 : tie.Need-sub-copy-3
 sub-copy-3 c = search needs
@@ -65,17 +73,24 @@ add-result c = search needs
 
 returns-2 : tie.Need-returns-2
 returns-2 c =
-    let a = c .before .before .before .before .before .before .before .args in
-    let same : length (putMid (a .held) (length (now (a .line)) - a .held) (now (a .line)) (c .before .before .copy2 .last .1 .0)) ≡ length (now (a .line)) = omega arith in (
-      omega arith,
-      λ begun H. held-copied begun (now (a .part)) (now (a .line)) (c .before .before .copy2 .last .1 .0) (now (a .part)) _ (a .held) (length (now (a .line)) - a .held) _
-          (sym (take-all (length (now (a .line)) - a .held) (now (a .part)) (omega arith))) (c .before .before .copy2 .ensures .1) same (omega arith) (omega arith) H,
-    )
+    let entry = c .before .before .before .before .before .before .before in
+    let part = now (entry .args .part) in
+    let area = now (entry .args .line) in
+    let held = entry .args .held in
+    let done = c .before .before .copy2 in
+    let same : length (putMid held (length area - held) area (done .last .1 .0)) ≡ length area = omega arith in
+    record {
+      within = omega arith;
+      few = omega arith;
+      holds = λ begun H. held-copied begun part area (done .last .1 .0) part _ held (length area - held) _
+          (sym (take-all (length area - 1 - held) part (omega arith))) (done .ensures .1) same (omega arith) (omega arith) H;
+    }
 
 pub keep-spec : {M : Type 1} → statement M
 keep-spec =
     tie.close
     (tie.spec
+    sub-most
     sub-room
     sub-copy
     part-copy-start

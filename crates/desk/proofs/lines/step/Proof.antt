@@ -1,8 +1,10 @@
 -- `desk::lines::step`: up to the next newline, or to the end of the buffer.
+use Prim.Native.Nat.{_+_, _*_, _-_, _≤_, _<_}
 use native.Mathlib.Omega.{arith}
 use borrow.Author.Needs.{needs}
 use denote.Ref.{now}
-use Rattle.desk.proofs.Texts.{reached-unended, reached-ended}
+use lib.ListN.{length, take, drop}
+use Rattle.desk.proofs.Texts.{room-after, reached-unended, reached-ended}
 use Rattle.desk.proofs.lines.step.Statement.{statement}
 use Rattle.desk.proofs.lines.step.Tie as tie
 
@@ -23,14 +25,17 @@ keep-requires c κs = search needs
 
 returns : tie.Need-returns
 returns c =
-    let a = c .before .before .before .before .before .before .before .before .before .before .before .before .before .args in
-    let found = c .before .before .before .before .before .before .find in
+    let found-at = c .before .before .before .before .before .before in
+    let entry = found-at .before .before .before .before .before .before .before in
+    let a = entry .args in
+    let p = a .progress in
+    let found = found-at .find in
     let kept = c .before .before .before .keep in
     record {
-      within = record { place = omega arith; characters = omega arith; waiting = omega arith };
+      reached = λ begun R. reached-unended begun (now (a .buffer)) (p .from) (now (a .line)) (p .held) (now (a .output)) (p .filled) R
+          (found .result) (found .ensures .0) (kept .last .1 .0) (kept .result) (kept .ensures .holds _ (R .kept));
       on = omega arith;
-      reached = λ begun R. reached-unended begun (now (a .buffer)) (a .progress .from) (now (a .line)) (a .progress .held) (now (a .output)) (a .progress .filled) R
-          (found .result) (found .ensures .0) (kept .last .1 .0) (kept .result) (kept .ensures .1 _ (R .kept));
+      within = record { place = omega arith; characters = omega arith; waiting = omega (arith, kept .ensures .few, entry .pre .0 .waiting) };
     }
 
 sub-put : tie.Need-sub-put
@@ -43,23 +48,37 @@ part-put-end : tie.Need-part-put-end
 part-put-end c = search needs
 
 put-requires : tie.Need-put-requires
-put-requires c κs = (omega (arith, c .before .before .before .before .before .before .before .before .before .before .before .before .before .before .before .before .before .before .before .pre .3), c .before .before .before .before .before .before .before .before .before .before .before .before .before .before .before .before .before .before .before .pre .1 .frame)
+put-requires c κs = search needs
 
 add-t12 : tie.Need-add-t12
 add-t12 c = search needs
 
 returns-2 : tie.Need-returns-2
 returns-2 c =
-    let entry = c .before .before .before .before .before .before .before .before .before .before .before .before .before .before .before .before .before .before .before .before .before .before .before .before .before .before .before .before in
-    let a = entry .args in
-    let found = c .before .before .before .before .before .before .before .before .before .before .before .before .before .before .before .before .before .before .before .before .before .find in
-    let kept = c .before .before .before .before .before .before .before .before .before .before .before .before .before .before .before .before .before .before .keep in
     let put = c .before .before .before .before .before .before .before .before .put in
+    let tested = c .before .before .before .before .before .before .before .before .before .before .before .before .before .before .before in
+    let kept-at = tested .before .before .before in
+    let found-at = kept-at .before .before .before in
+    let entry = found-at .before .before .before .before .before .before .before in
+    let a = entry .args in
+    let p = a .progress in
+    let buffer = now (a .buffer) in
+    let found = found-at .find in
+    let kept = kept-at .keep in
+    let area = kept .last .1 .0 in
+    let inside : found .result < length buffer = omega (arith, tested .if1 .left) in
+    let few : put .result ≤ p .filled + 7 * (length (take (kept .result - 0) area) + 1) = omega (arith, put .ensures .room) in
     record {
-      within = record { place = omega (arith, c .before .before .before .before .before .before .before .before .before .before .before .before .before .before .before .if1 .left); characters = omega arith; waiting = put .ensures .room };
+      reached = λ begun R. reached-ended begun buffer (p .from) (now (a .line)) (p .held) (now (a .output)) (p .filled) R
+          (found .result) (found .ensures .0) area (kept .result) (kept .ensures .holds _ (R .kept))
+          (put .last .1 .1 .1 .1 .0) (put .result) (omega arith) inside (put .ensures);
       on = omega arith;
-      reached = λ begun R. reached-ended begun (now (a .buffer)) (a .progress .from) (now (a .line)) (a .progress .held) (now (a .output)) (a .progress .filled) R
-          (found .result) (found .ensures .0) (kept .last .1 .0) (kept .result) (kept .ensures .1 _ (R .kept)) (put .last .1 .1 .1 .1 .0) (put .result) (omega arith) (omega (arith, c .before .before .before .before .before .before .before .before .before .before .before .before .before .before .before .if1 .left)) (put .ensures);
+      within = record {
+        place = omega arith;
+        characters = omega arith;
+        waiting = room-after (p .filled) (p .held) (p .from) (found .result) (length buffer) (length (now (a .output))) (kept .result) (put .result)
+            (drop (p .from) buffer) area (entry .pre .0 .waiting) (omega arith) inside (kept .ensures .few) few;
+      };
     }
 
 pub step-spec : {M : Type 1} → statement M

@@ -1,0 +1,2 @@
+-- What the desk's functions promise one another.
+pub mod Reading
