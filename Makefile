@@ -1,10 +1,11 @@
 # make run: the desk program on document 01's sample lines. make test: all tests. make figures: the benchmark.
 .PHONY: run test gate callers figures
 
-# Checks and builds first, which is quick when nothing changed.
+# Checks and builds first, which is quick when nothing changed; what the prover says is shown only if the check fails.
 run:
-	rt check desk
-	target/bin/desk < crates/desk/stdin
+	@mkdir -p target
+	@rt check desk > target/run.log 2>&1 || { cat target/run.log; exit 1; }
+	target/bin/desk < tests/sample.txt
 
 # The gate first, then the tests that use what it built; the gate's own last line comes last, and only if everything passed.
 test:

@@ -71,6 +71,15 @@ fn stored_lines() {
     assert_known(input, output);
 }
 
+/// The desk's own stored input: lines across reads, lines too long, and no newline at the end.
+#[test]
+fn desk_input() {
+    let input = include_bytes!("../../../crates/desk/stdin");
+    let output = include_bytes!("../../../crates/desk/stdout");
+    assert!(input.len() > 3 * 4096 && !input.ends_with(b"\n"));
+    assert_known(input, output);
+}
+
 #[test]
 fn sample_of_01() {
     let input = "1001243123230000\n1001243123200000\n1001243523230000\n\n4001\n1201\n1001243\n";

@@ -64,9 +64,11 @@ unbroken-one (suc n) (x ∷ begun) c h (more e u) = more e (unbroken-one n begun
 unbroken-rest : (n : ℕ) (text begun : List ℕ) → Unbroken (take n begun) → Unbroken (take n (restOf begun text))
 unfolding restOf
 unbroken-rest n [] begun u = u
-unbroken-rest n (c ∷ text) begun u = at (eqb c newline) refl (unbroken-rest n text [] (subst Unbroken (sym (take-nil n)) none)) (unbroken-rest n text (begun ++ c ∷ []))
+unbroken-rest n (c ∷ text) begun u =
+    at (eqb c newline) refl (unbroken-rest n text [] (subst Unbroken (sym (take-nil n)) none)) (unbroken-rest n text (begun ++ c ∷ []))
   where
-    at : (e : Bool) → eqb c newline ≡ e → Unbroken (take n (restOf [] text)) → (Unbroken (take n (begun ++ c ∷ [])) → Unbroken (take n (restOf (begun ++ c ∷ []) text)))
+    at : (e : Bool) → eqb c newline ≡ e → Unbroken (take n (restOf [] text))
+        → (Unbroken (take n (begun ++ c ∷ [])) → Unbroken (take n (restOf (begun ++ c ∷ []) text)))
         → Unbroken (take n (pick e (restOf [] text) (restOf (begun ++ c ∷ []) text)))
     at true h ended on = ended
     at false h ended on = on (unbroken-one n begun c h u)
@@ -77,7 +79,8 @@ unfolding indexOf indexAfter
 kept-none l = sym (take-nil (length (newline ∷ l) - 1))
 
 -- Where the area keeps a line, looking for a newline, but for the last place, finds how much.
-pub kept-holds : (begun area : List ℕ) (held : ℕ) → 0 < length area → held ≡ 0 + indexOf newline (slice 0 (length area - 1) area) → Kept begun area → Holds begun area held
+pub kept-holds : (begun area : List ℕ) (held : ℕ) → 0 < length area → held ≡ 0 + indexOf newline (slice 0 (length area - 1) area)
+    → Kept begun area → Holds begun area held
 unfolding slice
 kept-holds begun area held some e k =
     let first = indexOf newline area in
@@ -91,7 +94,8 @@ pub kept-again : (begun text before area : List ℕ) (held : ℕ) → length are
     → Kept (restOf begun text) (set area held newline)
 kept-again begun text before area held same k H =
     ap₂ (λ (i : ℕ) (l : List ℕ). take i l) there split
-    ∙ (take-at (take held area) (newline ∷ drop (suc held) area) held long ∙ (H .kept ∙ ap (λ (n : ℕ). take (n - 1) (restOf begun text)) (sym (length-set area held newline))))
+    ∙ (take-at (take held area) (newline ∷ drop (suc held) area) held long
+    ∙ (H .kept ∙ ap (λ (n : ℕ). take (n - 1) (restOf begun text)) (sym (length-set area held newline))))
   where
     inside : held < length area
     inside = H .within

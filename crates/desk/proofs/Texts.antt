@@ -1,6 +1,7 @@
 -- The lines of a text, read in parts; what is kept of a line that is begun; the answers behind one another.
--- Holds: `lines-append`, `rest-append` (a text in two parts); `lines-before`, `rest-before`, `newline-at` (up to the next newline); `held-copied`; `answer-few`,
--- `room-after`, `put-behind`; `output-append`, `output-more`; `reached-none`, `reached-unended`, `reached-ended`, `reached-all`; `last-none`, `last-answered`, `last-kept`.
+-- Holds: `lines-append`, `rest-append` (a text in two parts); `lines-before`, `rest-before`, `newline-at` (up to the next newline); `held-copied`;
+-- `answer-few`, `room-after`, `put-behind`; `output-append`, `output-more`; `reached-none`, `reached-unended`, `reached-ended`, `reached-all`;
+-- `last-none`, `last-answered`, `last-kept`.
 use mathlib.Core.Path.{_≡_, refl, sym, ap, ap₂, subst, _∙_}
 use mathlib.Core.Bool.{Bool, true, false}
 use mathlib.Core.List.{List, [], _∷_, _++_, append-nil, append-assoc}

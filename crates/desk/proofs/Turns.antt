@@ -1,7 +1,7 @@
--- One turn, from what its parts did, and turns to the end of an input. Holds: `counts`; `failed-turn`, `ended-turn`, `came-turn`, after the tests of what a read
--- gave; `run-answers` (the answers to the lines of a whole input).
+-- One turn, from what its parts did, and turns to the end of an input.
+-- Holds: `counts`; `failed-turn`, `ended-turn`, `came-turn` (after the tests of what a read gave); `run-answers` (the answers to the lines of a whole input).
 use mathlib.Core.Path.{_≡_, refl, sym, ap, ap₂, subst, _∙_}
-use mathlib.Core.Bool.{Bool, true, false}
+use mathlib.Core.Bool.{true, false}
 use mathlib.Core.List.{List, [], _++_, append-assoc}
 use Prim.Native.Nat.{ℕ, zero, suc, _+_, _-_, _≤_, _<_}
 use native.Mathlib.Omega.{arith}
@@ -86,7 +86,8 @@ of-came (ended e all) = absurd (let z : _≡_ {A = ℕ} 0 1 = cc in omega arith)
 of-came (came j e all) = all
 
 -- All lines of the texts that follow, where `begun` of a line came before them.
-run-from : (begun : List ℕ) {area text written : List ℕ} → Kept begun area → Run area text written → Output (linesOf begun text ++ lastOf (restOf begun text)) written
+run-from : (begun : List ℕ) {area text written : List ℕ} → Kept begun area → Run area text written
+    → Output (linesOf begun text ++ lastOf (restOf begun text)) written
 unfolding linesOf restOf
 run-from begun {text = text} kept (again {written = written} {rest = rest} k input turned run) =
     let nothing : rest ≡ written ++ rest = ap (λ (l : List ℕ). l ++ rest) (sym (of-failed turned .0)) in

@@ -140,8 +140,8 @@ fn answer_last(
     put(line, reception, message, transmission, output, 0)
 }
 
-// One turn of the desk, once a read gave `got`: how much of the output it filled. What is kept of an unfinished line stands at the front of the line area, and a
-// newline follows it.
+// One turn of the desk, once a read gave `got`, and how much of the output it filled. What is kept of an unfinished line stands at the front of the
+// line area, and a newline follows it.
 pub fn turn(
     got: isize,
     input: &[u8],

@@ -16,11 +16,12 @@ put-requires c κs = search needs
 
 returns-2 : tie.Need-returns-2
 returns-2 c =
-    let entry = c .before .before .before .before .before .before .before .before .before .before .before .before .before .before .before .before .before .before .before in
-    let a = entry .args in
-    let done = c .before .before .before .before .before .before .before .before .put in (
+    let done = c .before .before .before .before .before .before .before .before .put in
+    let tested = c .before .before .before .before .before .before .before .before .before .before .before .before .before in
+    let entry = tested .before .before .before .before .before .before in
+    let a = entry .args in (
       omega (arith, done .ensures .room, entry .pre .0),
-      last-answered (now (a .line)) (now (a .output)) (done .last .1 .1 .1 .1 .0) (done .result) (c .before .before .before .before .before .before .before .before .before .before .before .before .before .if1 .left) (done .ensures),
+      last-answered (now (a .line)) (now (a .output)) (done .last .1 .1 .1 .1 .0) (done .result) (tested .if1 .left) (done .ensures),
     )
 
 pub answer-last-spec : {M : Type 1} → statement M

@@ -17,7 +17,8 @@ Inv-loop buffer line₀ held reception₀ message₀ transmission₀ output₀ p
     × ((begun : List ℕ) → Holds begun line₀ held → Reached begun (take (progress .from) buffer) line (progress .held) output (progress .filled))
 
 abbrev μ-loop : tie.MeasureT-loop
-μ-loop buffer line₀ held reception₀ message₀ transmission₀ output₀ progress₀ line reception message transmission output progress = length buffer - progress .from
+μ-loop buffer line₀ held reception₀ message₀ transmission₀ output₀ progress₀ line reception message transmission output progress =
+    length buffer - progress .from
 
 loop-holds : tie.Need-loop-holds Inv-loop μ-loop
 loop-holds c =
@@ -47,15 +48,15 @@ loop-less c = omega arith
 
 loop-again : tie.Need-loop-again Inv-loop μ-loop
 loop-again c =
-    let l = c .before .before .before .before .before .before .before .before .before .before .before .before .before .before .before .before .before .before .loop in
-    let done = c .before .before .before .before .before .before .before .before .before .before .step in (
+    let stepped = c .before .before .before .before .before .before .before .before .before .before in
+    let l = stepped .before .before .before .before .before .before .before .before .loop in (
       omega arith,
       omega arith,
       omega arith,
       omega arith,
       omega arith,
       record { place = omega arith; characters = omega arith; waiting = omega arith },
-      λ begun H. done .ensures .reached begun (l .inv .6 begun H),
+      λ begun H. stepped .step .ensures .reached begun (l .inv .6 begun H),
     )
 
 returns : tie.Need-returns Inv-loop μ-loop

@@ -58,8 +58,9 @@ returns c =
     let a = entry .args in
     let done = answered .answer-line in
     let room = length (now (a .output)) - a .filled in
-    put-behind (now (a .line)) (now (a .output)) (take room (drop (a .filled) (now (a .output)))) (done .last .1 .1 .1 .1 .0) (a .filled) room (done .result) (entry .pre .0)
-    (length-take-le room (drop (a .filled) (now (a .output))) (omega (arith, length-drop (a .filled) (now (a .output)))))
+    let rest = drop (a .filled) (now (a .output)) in
+    put-behind (now (a .line)) (now (a .output)) (take room rest) (done .last .1 .1 .1 .1 .0) (a .filled) room (done .result) (entry .pre .0)
+    (length-take-le room rest (omega (arith, length-drop (a .filled) (now (a .output)))))
     (answered-shown _ _ _ _ _ _ (entry .pre .1) (done .ensures)) (omega (arith, few answered, entry .pre .0))
 
 pub put-spec : {M : Type 1} → statement M
