@@ -15,7 +15,8 @@ fn failed(got: isize) -> bool {
     false
 }
 
-// Reads, answers and writes, turn by turn. Nothing says that an input ends, so the turns are counted down from a number that no run uses up.
+// Reads, answers and writes, turn by turn; an interrupted read is a turn that fills nothing. Nothing says that an input ends, so the turns are counted down
+// from a number that no run uses up.
 fn desk(
     input: &mut [u8],
     line: &mut [u8],
