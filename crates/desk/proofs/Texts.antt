@@ -5,7 +5,7 @@
 use mathlib.Core.Path.{_≡_, refl, sym, ap, ap₂, subst, _∙_}
 use mathlib.Core.Bool.{Bool, true, false}
 use mathlib.Core.List.{List, [], _∷_, _++_, append-nil, append-assoc}
-use Prim.Native.Nat.{ℕ, zero, suc, _+_, _-_, _*_, _≤_, _<_, min}
+use Prim.Native.Nat.{ℕ, zero, suc, _+_, _-_, _≤_, _<_, min}
 use native.Mathlib.Numerals.{add-one}
 use native.Mathlib.Omega.{arith}
 use native.Mathlib.Decide.{decLe}
@@ -20,6 +20,7 @@ use Rattle.line.specs.Questions.{mostCharacters}
 use Rattle.line.specs.Answering.{Answers, AnswerShown}
 use Rattle.line.proofs.Frames.{answers-sevenfold, answers-kept}
 use Rattle.desk.specs.Texts.{newline, linesOf, restOf, lastOf, Output, none, next}
+use Rattle.desk.specs.Turns.{answersRoom}
 use Rattle.desk.specs.parts.Reading.{Holds, Behind, Reached}
 
 -- A text in two parts.
@@ -132,24 +133,25 @@ held-copied begun part area copied source over held k r from-part is same r-is r
     ∙ (copied-front held k area source over (omega arith) ∙ ap (λ (l : List ℕ). take held area ++ l) from-part))
 
 -- The length of an answer, in terms of its line's.
-pub answer-few : (line before : List ℕ) (r : ℕ) (after : List ℕ) → AnswerShown line before r after → r + 1 ≤ 7 * (length line + 1)
+pub answer-few : (line before : List ℕ) (r : ℕ) (after : List ℕ) → AnswerShown line before r after → r + 1 ≤ answersRoom (length line + 1)
 answer-few line before r after a = at (leb (length (a .text)) (length before)) (a .shown .long)
   where
-    at : (t : Bool) → r ≡ pick t (length (a .text)) 0 → r + 1 ≤ 7 * (length line + 1)
+    at : (t : Bool) → r ≡ pick t (length (a .text)) 0 → r + 1 ≤ answersRoom (length line + 1)
     at true e = omega (arith, answers-sevenfold line (a .text) (a .answers))
     at false e = omega arith
 
 -- The answer to a line that ends at `to` leaves room for those to what follows it.
-pub room-after : (filled held from to buffer output held' r : ℕ) (part line : List ℕ) → filled + 7 * (held + (buffer - from)) ≤ output → from ≤ to → to < buffer
-    → held' ≤ held + length (take (to - from) part) → r ≤ filled + 7 * (length (take (held' - 0) line) + 1) → r + 7 * (0 + (buffer - (to + 1))) ≤ output
+pub room-after : (filled held from to buffer output held' r : ℕ) (part line : List ℕ) → filled + answersRoom (held + (buffer - from)) ≤ output
+    → from ≤ to → to < buffer → held' ≤ held + length (take (to - from) part) → r ≤ filled + answersRoom (length (take (held' - 0) line) + 1)
+    → r + answersRoom (0 + (buffer - (to + 1))) ≤ output
 room-after filled held from to buffer output held' r part line room on inside few answer =
     let a : length (take (to - from) part) ≤ to - from = omega (arith, length-take (to - from) part) in
     let b : length (take (held' - 0) line) ≤ held' = omega (arith, length-take (held' - 0) line) in
     omega arith
 
 -- An answer and its newline behind the output that waits, as the line's answer and a store leave it.
-pub put-behind : (line before over shown : List ℕ) (filled k r : ℕ) → filled + 7 * (length line + 1) ≤ length before → length over ≡ length before - filled
-    → AnswerShown line over r shown → filled + r < length (putMid filled k before shown)
+pub put-behind : (line before over shown : List ℕ) (filled k r : ℕ) → filled + answersRoom (length line + 1) ≤ length before
+    → length over ≡ length before - filled → AnswerShown line over r shown → filled + r < length (putMid filled k before shown)
     → Behind line before filled (set (putMid filled k before shown) (filled + r) newline) (filled + r + 1)
 put-behind line before over shown filled k r room fits A inside =
     record {
@@ -168,7 +170,7 @@ put-behind line before over shown filled k r room fits A inside =
     front : List ℕ
     front = take filled before ++ A .text
 
-    most : length (A .text) + 1 ≤ 7 * (length line + 1)
+    most : length (A .text) + 1 ≤ answersRoom (length line + 1)
     most = answers-sevenfold line (A .text) (A .answers)
 
     has-room : leb (length (A .text)) (length over) ≡ true

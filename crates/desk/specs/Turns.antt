@@ -1,5 +1,5 @@
 -- One turn of the desk: a read, what is kept of a line from turn to turn, and what is written (01, "Lines at the planning desk").
--- Holds: `Kept`; `Room`; `textOf`, `Turned` (what `lines::turn` promises); `Run` (turns to the end of an input).
+-- Holds: `Kept`; `answersRoom`, `Room`; `textOf`, `Turned` (what `lines::turn` promises); `Run` (turns to the end of an input).
 use mathlib.Core.Path.{_≡_}
 use mathlib.Core.List.{List, [], _++_}
 use Prim.Native.Nat.{ℕ, suc, _+_, _-_, _*_, _≤_, _<_}
@@ -15,12 +15,15 @@ use Rattle.desk.specs.Texts.{newline, linesOf, restOf, lastOf, Output}
 abbrev pub Kept : List ℕ → List ℕ → Type 0
 Kept begun area = take (indexOf newline area) area ≡ take (length area - 1) begun
 
--- Room for a line one character too long and a newline, for the frame of every line, and for the answers to all lines of a read: an answer and its newline take
--- at most seven characters for each of the line and its newline.
+-- As many characters as answers with their newlines take at most, where their lines with their newlines take so many (`answers-sevenfold`, line/proofs/Frames).
+abbrev pub answersRoom : ℕ → ℕ
+answersRoom characters = 7 * characters
+
+-- Room for a line one character too long and a newline, for the frame of every line, and for the answers to all lines of a read.
 pub record Room (input area : List ℕ) (w : Working) (output : List ℕ) : Type 0 where
   pub characters : mostCharacters + 1 < length area
   pub frame : RoomForAll w
-  pub answers : 7 * (length area + length input) ≤ length output
+  pub answers : answersRoom (length area + length input) ≤ length output
 
 -- What a read put in the input area, where it gave `got`.
 abbrev pub textOf : ℤ → List ℕ → List ℕ
@@ -40,8 +43,11 @@ pub data Turned (got : ℤ) (input area area' written : List ℕ) : Type 0 where
 -- Turns one after another, each with the area that the one before left: the texts that came, to the end of the input, and all that was written.
 -- What they wrote are the answers to the lines of that input (`run-answers`, proofs/Turns).
 pub data Run : List ℕ → List ℕ → List ℕ → Type 0 where
+  -- A read failed, and another turn follows.
   again : {area area' text written rest : List ℕ} (k : ℕ) (input : List ℕ) → Turned (negsuc k) input area area' written → Run area' text rest
       → Run area text (written ++ rest)
+  -- A text came, and another turn follows.
   more : {area area' text written rest : List ℕ} (k : ℕ) (input : List ℕ) → Turned (pos (suc k)) input area area' written → Run area' text rest
       → Run area (textOf (pos (suc k)) input ++ text) (written ++ rest)
+  -- The input has ended.
   last : {area area' written : List ℕ} (input : List ℕ) → Turned (pos 0) input area area' written → Run area [] written

@@ -1,10 +1,10 @@
 // The lines of a text that comes in reads, and their answers: no reading or writing here.
-ghost use Prim.Native.Nat.{_+_, _*_, _≤_, _<_};
+ghost use Prim.Native.Nat.{_+_, _≤_, _<_};
 ghost use lib.ListN.{length, take};
 ghost use Rattle.io.specs.Counts.{Counts};
 ghost use Rattle.line.specs.Answering.{working, RoomForAll};
 ghost use Rattle.desk.specs.Texts.{lastOf, Output};
-ghost use Rattle.desk.specs.Turns.{Room, Turned};
+ghost use Rattle.desk.specs.Turns.{answersRoom, Room, Turned};
 ghost use Rattle.desk.specs.parts.Reading.{Within, PartKept, Behind, Stepped, LinesRead};
 
 // How far a buffer is read, how many characters of the unfinished line there are kept, and how much output waits.
@@ -38,7 +38,7 @@ fn put(
     output: &mut [u8],
     filled: usize,
 ) -> usize
-    requires { ⌜ (filled + 7 * (length (now line) + 1) ≤ length (now output)) × RoomForAll (working (now reception) (now message) (now transmission)) ⌝ }
+    requires { ⌜ (filled + answersRoom (length (now line) + 1) ≤ length (now output)) × RoomForAll (working (now reception) (now message) (now transmission)) ⌝ }
     ensures { λ r. ⌜ Behind (now (line .entry)) (now (output .entry)) filled (now (output .exit)) r ⌝ }
 {
     let long = line::answer_line(
@@ -131,7 +131,7 @@ fn answer_last(
     transmission: &mut [u8],
     output: &mut [u8],
 ) -> usize
-    requires { ⌜ (7 * (length (now line) + 1) ≤ length (now output)) × RoomForAll (working (now reception) (now message) (now transmission)) ⌝ }
+    requires { ⌜ (answersRoom (length (now line) + 1) ≤ length (now output)) × RoomForAll (working (now reception) (now message) (now transmission)) ⌝ }
     ensures { λ r. ⌜ (r ≤ length (now (output .entry))) × Output (lastOf (now (line .entry))) (take r (now (output .exit))) ⌝ }
 {
     if line.len() == 0 {

@@ -1,18 +1,19 @@
 -- What the desk's functions promise one another. Holds: `Within`; `Holds`, `PartKept`; `Behind`; `Reached`, `Stepped`, `LinesRead`.
 use mathlib.Core.Path.{_≡_}
 use mathlib.Core.List.{List, [], _∷_, _++_}
-use Prim.Native.Nat.{ℕ, _+_, _-_, _*_, _≤_, _<_}
+use Prim.Native.Nat.{ℕ, _+_, _-_, _≤_, _<_}
 use lib.ListN.{length, take}
 use Rattle.line.specs.Answering.{Answers}
 use Rattle.desk.specs.declared.lines.Progress.{Progress}
 use Rattle.desk.specs.Texts.{newline, linesOf, restOf, Output}
+use Rattle.desk.specs.Turns.{answersRoom}
 
 -- In a buffer, an area and an output of these lengths: the place is in the buffer, a newline has room behind the characters kept, and so have the answers to
 -- them and to what is left of the buffer behind those that wait.
 pub record Within (buffer area output : ℕ) (p : Progress) : Type 0 where
   pub place : p .from ≤ buffer
   pub characters : p .held < area
-  pub waiting : p .filled + 7 * (p .held + (buffer - p .from)) ≤ output
+  pub waiting : p .filled + answersRoom (p .held + (buffer - p .from)) ≤ output
 
 -- The first `held` characters of the area are those of the line that is begun: all, or as many as leave room for a newline.
 pub record Holds (begun area : List ℕ) (held : ℕ) : Type 0 where
@@ -30,7 +31,7 @@ pub record Behind (line before : List ℕ) (filled : ℕ) (after : List ℕ) (r 
   pub text : List ℕ
   pub answers : Answers line text
   pub is : take r after ≡ take filled before ++ (text ++ newline ∷ [])
-  pub room : r ≤ filled + 7 * (length line + 1)
+  pub room : r ≤ filled + answersRoom (length line + 1)
 
 -- Where `begun` of a line came before, all of a text was read: its lines are answered, and the line that it does not end is kept.
 pub record Reached (begun text area : List ℕ) (held : ℕ) (output : List ℕ) (filled : ℕ) : Type 0 where

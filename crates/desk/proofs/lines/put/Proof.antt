@@ -1,11 +1,13 @@
 -- `desk::lines::put`: an answer has room, and its newline comes behind it.
-use Prim.Native.Nat.{_+_, _*_, _-_, _≤_}
+use Prim.Native.Nat.{_+_, _-_, _≤_}
 use native.Mathlib.Omega.{arith}
 use borrow.Author.Needs.{needs}
 use denote.Ref.{now}
 use lib.ListN.{length, take, drop, length-drop}
 use lib.Seq.{length-take-le}
+use Rattle.line.specs.Answering.{working}
 use Rattle.line.proofs.Frames.{answered-shown}
+use Rattle.desk.specs.Turns.{answersRoom}
 use Rattle.desk.proofs.Texts.{answer-few, put-behind}
 use Rattle.desk.proofs.lines.put.Statement.{statement}
 use Rattle.desk.proofs.lines.put.Tie as tie
@@ -25,7 +27,7 @@ answer-line-requires c κs = search needs
 -- The answer was not longer than there was room for.
 few : (c : tie.After-answer-line)
     → let entry = c .before .before .before .before .before .before .before .before .before .before in
-    c .answer-line .result + 1 ≤ 7 * (length (now (entry .args .line)) + 1)
+    c .answer-line .result + 1 ≤ answersRoom (length (now (entry .args .line)) + 1)
 few c =
     let entry = c .before .before .before .before .before .before .before .before .before .before in
     answer-few _ _ _ _ (answered-shown _ _ _ _ _ _ (entry .pre .1) (c .answer-line .ensures))
@@ -59,9 +61,10 @@ returns c =
     let done = answered .answer-line in
     let room = length (now (a .output)) - a .filled in
     let rest = drop (a .filled) (now (a .output)) in
+    let after = working (done .last .1 .0) (done .last .1 .1 .0) (done .last .1 .1 .1 .0) in
     put-behind (now (a .line)) (now (a .output)) (take room rest) (done .last .1 .1 .1 .1 .0) (a .filled) room (done .result) (entry .pre .0)
     (length-take-le room rest (omega (arith, length-drop (a .filled) (now (a .output)))))
-    (answered-shown _ _ _ _ _ _ (entry .pre .1) (done .ensures)) (omega (arith, few answered, entry .pre .0))
+    (answered-shown _ _ _ _ after _ (entry .pre .1) (done .ensures)) (omega (arith, few answered, entry .pre .0))
 
 pub put-spec : {M : Type 1} → statement M
 put-spec =

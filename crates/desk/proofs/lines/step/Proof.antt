@@ -1,9 +1,10 @@
 -- `desk::lines::step`: up to the next newline, or to the end of the buffer.
-use Prim.Native.Nat.{_+_, _*_, _-_, _≤_, _<_}
+use Prim.Native.Nat.{_+_, _-_, _≤_, _<_}
 use native.Mathlib.Omega.{arith}
 use borrow.Author.Needs.{needs}
 use denote.Ref.{now}
 use lib.ListN.{length, take, drop}
+use Rattle.desk.specs.Turns.{answersRoom}
 use Rattle.desk.proofs.Texts.{room-after, reached-unended, reached-ended}
 use Rattle.desk.proofs.lines.step.Statement.{statement}
 use Rattle.desk.proofs.lines.step.Tie as tie
@@ -67,7 +68,7 @@ returns-2 c =
     let kept = kept-at .keep in
     let area = kept .last .1 .0 in
     let inside : found .result < length buffer = omega (arith, tested .if1 .left) in
-    let few : put .result ≤ p .filled + 7 * (length (take (kept .result - 0) area) + 1) = omega (arith, put .ensures .room) in
+    let few : put .result ≤ p .filled + answersRoom (length (take (kept .result - 0) area) + 1) = omega (arith, put .ensures .room) in
     record {
       reached = λ begun R. reached-ended begun buffer (p .from) (now (a .line)) (p .held) (now (a .output)) (p .filled) R
           (found .result) (found .ensures .0) area (kept .result) (kept .ensures .holds _ (R .kept))
