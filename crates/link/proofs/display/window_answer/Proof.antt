@@ -1,0 +1,13 @@
+-- `link::display::window_answer`: the display's questions.
+use borrow.Author.Needs.{needs}
+use Rattle.link.proofs.display.window_answer.Statement.{statement}
+use Rattle.link.proofs.display.window_answer.Tie as tie
+
+display-questions-requires : tie.Need-display-questions-requires
+display-questions-requires c κs = search needs
+
+returns : tie.Need-returns
+returns c = c .display-questions .ensures
+
+pub window-answer-spec : {M : Type 1} → statement M
+window-answer-spec = tie.close (tie.spec display-questions-requires returns)
