@@ -24,8 +24,8 @@
 /* Where a page that must not be touched lies. */
 enum side { BEHIND, BEFORE, SIDES };
 
-/* How many bytes more than needed an area has where that is tried, and the longest area. */
-enum { MORE = 5, ROOM = (MOST_BLOCKS + 3) * 7 };
+/* How many bytes more than needed an area has where that is tried, and room for the longest. */
+enum { MORE = 5, ROOM = 64 * 1024 };
 
 /* An area between two pages that must not be touched, against one of them. */
 struct area {
@@ -313,6 +313,7 @@ int main(void)
     EXPECT(sigaction(SIGSEGV, &action, NULL) == 0 && sigaction(SIGBUS, &action, NULL) == 0);
     try_pages();
     for (size_t i = 0; i < SETTING_COUNT; i++) {
+        EXPECT(transmission_length(&settings[i], MOST_BLOCKS + 1) <= ROOM);
         for (size_t b = 0; b < sizeof blocks / sizeof blocks[0]; b++)
             try_blocks(&settings[i], blocks[b]);
         try_too_long(&settings[i]);
