@@ -26,7 +26,7 @@
  *   may be longer than needed; what lies behind the bytes that it fills keeps
  *   its value. Areas passed as const are only read. No call keeps a pointer,
  *   allocates memory or has state of its own, so threads may call at the same
- *   time, each with areas of its own.
+ *   time, each with areas of its own. A call takes less than 64 KiB of stack.
  *
  *   The areas of one call must not overlap: nothing is encoded or decoded in
  *   place. A call does not detect it: whatever it answers and leaves, number 0
@@ -35,7 +35,8 @@
  * Numbers
  *   A call asks the questions below in the order given with it. The first "no"
  *   is its number; with every "yes" the number is 0. The place is 0 but for
- *   number 4. Other numbers do not occur.
+ *   number 4. Other numbers do not occur. The setting and j are 64 bits wide
+ *   and may have any value.
  *
  *    1  Is the setting 1, 2 or 3?
  *    2  Is the reception's length a multiple of n and at least (m + 1) * n?
