@@ -29,7 +29,8 @@ fn adjust(
     let size = (p.m + 1) * n;
     let start = i * n;
     let end = start + size;
-    message[place] = field::add(q, message[place], v);
+    let sum = field::add(q, message[place], v);
+    message[place] = sum;
     let less = field::negate(q, v);
     tables::product::add_rows(p, products, rows, r, less, &mut left[start..end]);
 }

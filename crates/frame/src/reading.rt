@@ -155,7 +155,8 @@ fn compare_windows(p: Setting, blocks: usize, left: &[u8], bound: usize) -> bool
     let mut j: usize = 0;
     while j < blocks {
         let end = start + size;
-        if bound <= super::area::cost(&left[start..end]) {
+        let cost = super::area::cost(&left[start..end]);
+        if bound <= cost {
             return false;
         }
         start += n;

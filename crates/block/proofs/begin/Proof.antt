@@ -61,5 +61,5 @@ begin-spec =
     add-values-requires
     add-locate
     locate-requires
-    (search needs) (search needs) (search needs) (search needs)
+    (λ c. omega arith) (λ c. omega arith) (λ c. omega arith) (λ c. omega arith)
     returns)

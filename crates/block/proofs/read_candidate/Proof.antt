@@ -59,5 +59,5 @@ read-candidate-spec =
     add-values-requires
     extend-requires
     read-requires
-    (search needs) (search needs) (search needs)
+    (λ c. omega arith) (λ c. omega arith) (λ c. omega arith)
     returns)

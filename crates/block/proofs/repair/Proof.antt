@@ -72,11 +72,11 @@ repair-spec =
     add-distance-2
     begin-requires
     mul-if1
-    (search needs) (search needs) (search needs) (search needs)
+    (λ c. omega arith) (λ c. omega arith) (λ c. omega arith) (λ c. omega arith)
     returns
     read-candidate-requires
     cost-requires
-    (search needs) (search needs) (search needs) (search needs)
+    (λ c. omega arith) (λ c. omega arith) (λ c. omega arith) (λ c. omega arith)
     returns-2
-    (search needs) (search needs) (search needs) (search needs)
+    (λ c. omega arith) (λ c. omega arith) (λ c. omega arith) (λ c. omega arith)
     returns-3)

@@ -13,4 +13,4 @@ returns c =
     sym (all-symbols (a .q) (now (a .bytes)) (record { below = λ i h. omega (arith, c .before .before .largest .ensures .below i h, c .before .wide .ensures, c .if1 .taken) }))
 
 pub first-not-below-spec : {M : Type 1} → statement M
-first-not-below-spec = tie.close (tie.spec (search needs) (search needs) returns (search needs) (search needs))
+first-not-below-spec = tie.close (tie.spec (λ c. omega arith) (λ c. omega arith) returns (λ c. omega arith) (λ c. omega arith))

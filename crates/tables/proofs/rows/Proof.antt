@@ -38,11 +38,11 @@ rows-spec =
     tie.close
     (tie.spec
     rows-1-requires
-    (search needs)
+    (λ c. omega arith)
     returns
     rows-2-requires
-    (search needs)
+    (λ c. omega arith)
     returns-2
     rows-3-requires
-    (search needs)
+    (λ c. omega arith)
     returns-3)

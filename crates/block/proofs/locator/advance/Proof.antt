@@ -95,7 +95,7 @@ advance-spec =
     tail-requires
     shared-slice-read-add
     add-requires
-    (search needs)
+    (λ c. omega arith)
     returns
     multiply-requires
     sub-shift
@@ -103,10 +103,10 @@ advance-spec =
     add-count
     add-if2
     subtract-multiple-requires
-    (search needs) (search needs)
+    (λ c. omega arith) (λ c. omega arith)
     returns-2
     exchange-requires
     sub-t21
     inverse-requires
-    (search needs) (search needs) (search needs)
+    (λ c. omega arith) (λ c. omega arith) (λ c. omega arith)
     returns-3)

@@ -1,4 +1,5 @@
 -- `block::locator::exchange` meets its contract: what was copied is the locator.
+use native.Mathlib.Omega.{arith}
 use mathlib.Core.Path.{_≡_, sym, ap, _∙_}
 use borrow.Author.Needs.{needs}
 use denote.Ref.{now}
@@ -32,5 +33,5 @@ exchange-spec =
     copy-requires
     subtract-multiple-requires
     copy-requires-2
-    (search needs) (search needs) (search needs)
+    (λ c. omega arith) (λ c. omega arith) (λ c. omega arith)
     returns)

@@ -107,5 +107,5 @@ adjust-spec =
     part-add-rows-start
     part-add-rows-end
     add-rows-requires
-    (search needs) (search needs)
+    (search needs) (λ c. omega arith)
     returns)

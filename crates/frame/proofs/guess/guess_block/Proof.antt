@@ -48,12 +48,12 @@ guess-block-spec =
     (tie.spec
     returns
     is-light-requires
-    (search needs)
+    (λ c. omega arith)
     returns-2
     guess-from-start-requires
     is-light-requires-2
-    (search needs) (search needs)
+    (λ c. omega arith) (λ c. omega arith)
     returns-3
     guess-from-end-requires
-    (search needs) (search needs)
+    (λ c. omega arith) (λ c. omega arith)
     returns-4)

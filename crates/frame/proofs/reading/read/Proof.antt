@@ -1,4 +1,5 @@
 -- `frame::reading::read`: the windows in turn, then the last comparison.
+use native.Mathlib.Omega.{arith}
 use denote.Ref.{now}
 use Rattle.frame.specs.parts.Frame.{none}
 use Rattle.frame.proofs.Begin.{begin}
@@ -56,8 +57,8 @@ read-spec =
     clear-requires
     copy-requires
     read-windows-requires
-    (search needs) (search needs) (search needs) (search needs) (search needs) (search needs)
+    (λ c. omega arith) (λ c. omega arith) (λ c. omega arith) (λ c. omega arith) (λ c. omega arith) (λ c. omega arith)
     returns
     compare-windows-requires
-    (search needs) (search needs) (search needs) (search needs) (search needs) (search needs)
+    (λ c. omega arith) (λ c. omega arith) (λ c. omega arith) (λ c. omega arith) (λ c. omega arith) (λ c. omega arith)
     returns-2)

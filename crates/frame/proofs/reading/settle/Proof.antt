@@ -39,7 +39,7 @@ part-cost-start : tie.Need-part-cost-start
 part-cost-start c = search needs
 
 part-cost-end : tie.Need-part-cost-end
-part-cost-end c = room (c .before .before .before .before .before .before .before .before .before .before .before .before)
+part-cost-end c = omega (arith, room (c .before .before .before .before .before .before .before .before .before .before .before .before))
 
 cost-requires : tie.Need-cost-requires
 cost-requires c κs = search needs
@@ -57,7 +57,7 @@ part-find-level-start : tie.Need-part-find-level-start
 part-find-level-start c = search needs
 
 part-find-level-end : tie.Need-part-find-level-end
-part-find-level-end c = room (c .before .before .before .before .before .before .before .before .before .before .before .before .before .before .before .before)
+part-find-level-end c = omega (arith, room (c .before .before .before .before .before .before .before .before .before .before .before .before .before .before .before .before))
 
 find-level-requires : tie.Need-find-level-requires
 find-level-requires c κs =
@@ -104,14 +104,14 @@ settle-spec =
     part-cost-start
     part-cost-end
     cost-requires
-    (search needs)
+    (λ c. omega arith)
     returns
     sub-find-level
     part-find-level-start
     part-find-level-end
     find-level-requires
-    (search needs) (search needs) (search needs) (search needs) (search needs)
+    (λ c. omega arith) (λ c. omega arith) (λ c. omega arith) (λ c. omega arith) (λ c. omega arith)
     returns-2
     add-found-requires
-    (search needs) (search needs) (search needs) (search needs) (search needs) (search needs)
+    (λ c. omega arith) (λ c. omega arith) (λ c. omega arith) (λ c. omega arith) (λ c. omega arith) (λ c. omega arith)
     returns-3)

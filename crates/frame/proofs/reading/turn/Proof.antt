@@ -33,5 +33,5 @@ turn-spec =
     (tie.spec
     guess-window-requires
     settle-requires
-    (search needs) (search needs) (search needs) (search needs) (search needs) (search needs)
+    (λ c. omega arith) (λ c. omega arith) (λ c. omega arith) (λ c. omega arith) (λ c. omega arith) (λ c. omega arith)
     returns)

@@ -71,5 +71,5 @@ add-row-spec =
     part-add-multiple-start
     part-add-multiple-end
     add-multiple-requires
-    (search needs)
+    (λ c. omega arith)
     returns)
