@@ -69,11 +69,11 @@ answer-line-spec =
     (tie.spec
     frame-questions-requires
     write-refusal-requires
-    (search needs)
+    (λ c. omega arith)
     returns
     has-room-requires
     returns-2
     decode-line-requires
     write-answer-requires
-    (search needs) (search needs) (search needs) (search needs)
+    (λ c. omega arith) (λ c. omega arith) (λ c. omega arith) (λ c. omega arith)
     returns-3)

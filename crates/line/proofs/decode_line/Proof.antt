@@ -79,5 +79,5 @@ decode-line-spec =
     slice-reshare-prefix-decode
     slice-aggregate-decode
     decode-requires
-    (search needs) (search needs) (search needs)
+    (λ c. omega arith) (λ c. omega arith) (λ c. omega arith)
     returns)

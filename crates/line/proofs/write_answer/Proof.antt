@@ -60,12 +60,12 @@ write-answer-spec =
     tie.close
     (tie.spec
     write-refusal-requires
-    (search needs)
+    (λ c. omega arith)
     returns
     setting-in-requires
     blocks-in-requires
     message-length-requires
     slice-aggregate-write-success
     write-success-requires
-    (search needs)
+    (λ c. omega arith)
     returns-2)

@@ -91,5 +91,5 @@ write-opening-spec =
     part-write-number-start-4
     part-write-number-end-4
     write-number-requires-4
-    (search needs)
+    (λ c. omega arith)
     returns)

@@ -69,5 +69,5 @@ write-refusal-spec =
     part-write-number-start-2
     part-write-number-end-2
     write-number-requires-2
-    (search needs)
+    (λ c. omega arith)
     returns-2)

@@ -52,5 +52,5 @@ write-success-spec =
     part-write-symbols-start
     part-write-symbols-end
     write-symbols-requires
-    (search needs)
+    (λ c. omega arith)
     returns-2)

@@ -100,5 +100,5 @@ decode-spec =
     slice-relend-prefix-decode-frame-2
     slice-aggregate-decode-frame-2
     decode-frame-requires
-    (search needs) (search needs)
+    (λ c. omega arith) (λ c. omega arith)
     returns-2)

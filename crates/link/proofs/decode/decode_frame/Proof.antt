@@ -96,5 +96,5 @@ decode-frame-spec =
     array-borrow-prefix-information
     slice-aggregate-decode-lent-5
     decode-lent-requires
-    (search needs) (search needs)
+    (λ c. omega arith) (λ c. omega arith)
     returns)

@@ -56,6 +56,7 @@ cast-t37 c =
       read .kept .1 .1 .1 .1 .1 .1 .0,
       entry .pre .6,
       entry .pre .3,
+      entry .pre .2,
       transmission-small (a .p) (a .blocks) (sizes (a .p) (entry .pre .0 .sound)) (entry .pre .2),
     )
 
@@ -73,10 +74,10 @@ decode-lent-spec =
     clear-requires
     clear-requires-2
     no-requires
-    (search needs) (search needs) (search needs) (search needs) (search needs) (search needs)
+    (λ c. omega arith) (λ c. omega arith) (λ c. omega arith) (λ c. omega arith) (λ c. omega arith) (λ c. omega arith)
     returns
     weight-requires
     restore-requires
     cast-t37
-    (search needs) (search needs) (search needs) (search needs) (search needs) (search needs)
+    (λ c. omega arith) (λ c. omega arith) (λ c. omega arith) (λ c. omega arith) (λ c. omega arith) (λ c. omega arith)
     returns-2)

@@ -54,10 +54,10 @@ mul-long : tie.Need-mul-long
 mul-long c = omega (arith, room (c .before))
 
 slice-relend-prefix-encode-frame : tie.Need-slice-relend-prefix-encode-frame
-slice-relend-prefix-encode-frame c = room (c .before)
+slice-relend-prefix-encode-frame c = omega (arith, room (c .before))
 
 slice-aggregate-encode-frame : tie.Need-slice-aggregate-encode-frame
-slice-aggregate-encode-frame c = sym (length-take-le _ _ (room (c .before .before)))
+slice-aggregate-encode-frame c = sym (length-take-le _ _ (slice-relend-prefix-encode-frame (c .before)))
 
 encode-frame-requires : tie.Need-encode-frame-requires
 encode-frame-requires c κs =
@@ -93,5 +93,5 @@ encode-spec =
     slice-relend-prefix-encode-frame
     slice-aggregate-encode-frame
     encode-frame-requires
-    (search needs)
+    (λ c. omega arith)
     returns-2)

@@ -1,4 +1,5 @@
 -- `link::encode::encode_frame` meets its contract: the tables are the setting's.
+use native.Mathlib.Omega.{arith}
 use mathlib.Core.Path.{sym, subst}
 use Prim.Native.Nat.{_≤_}
 use Rattle.code.specs.declared.Setting.{Setting}
@@ -47,5 +48,5 @@ encode-frame-spec =
     tables-requires
     slice-aggregate-send
     send-requires
-    (search needs)
+    (λ c. omega arith)
     returns)
