@@ -12,7 +12,8 @@ use Rattle.code.specs.declared.Setting.{Setting}
 use Rattle.code.specs.Code.{levelDistance}
 use Rattle.code.specs.Transmission.{view}
 use Rattle.code.specs.parts.Cost.{symbolCost, blockCost}
-use Rattle.code.specs.Settings.{codeOf, Sound}
+use Rattle.code.specs.Settings.{codeOf}
+use Rattle.code.specs.parts.Sound.{Sound}
 use Rattle.code.specs.parts.Reading.{levelCost}
 use Rattle.code.proofs.Blocks.{combination-ext}
 use Rattle.block.specs.parts.Area.{at}

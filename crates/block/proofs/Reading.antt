@@ -19,7 +19,8 @@ use Rattle.code.specs.declared.Setting.{Setting}
 use Rattle.code.specs.Generator.{timesG}
 use Rattle.code.specs.Transmission.{view}
 use Rattle.code.specs.parts.Recovery.{ending, Recovered}
-use Rattle.code.specs.Settings.{codeOf, Sound}
+use Rattle.code.specs.Settings.{codeOf}
+use Rattle.code.specs.parts.Sound.{Sound}
 use Rattle.code.proofs.Blocks.{timesG-ext}
 use Rattle.block.specs.parts.Area.{AllBelow, at}
 use Rattle.block.specs.parts.Information.{lacking, BlockRead, Read}

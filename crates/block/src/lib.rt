@@ -12,7 +12,7 @@ ghost use Prim.Native.Nat.{_≤_};
 ghost use lib.ListN.{length};
 ghost use Rattle.field.specs.Symbols.{Symbols};
 ghost use Rattle.field.specs.parts.Tables.{Lent};
-ghost use Rattle.code.specs.Settings.{Sound};
+ghost use Rattle.code.specs.parts.Sound.{Sound};
 ghost use Rattle.tables.specs.parts.Tables.{Ready};
 ghost use Rattle.block.specs.parts.Area.{Working};
 ghost use Rattle.block.specs.parts.Candidate.{Begun, Candidate};

@@ -21,7 +21,7 @@ use Rattle.code.specs.declared.Setting.{Setting}
 use Rattle.code.specs.Code.{distancesTo, limit}
 use Rattle.code.specs.Transmission.{view, sentSymbol}
 use Rattle.code.specs.parts.Cost.{symbolCost, costTo}
-use Rattle.code.specs.Settings.{Sound}
+use Rattle.code.specs.parts.Sound.{Sound}
 use Rattle.code.specs.Windows.{transmission, windowLength, windowDistance, Message, Fits}
 use Rattle.code.specs.parts.Reading.{messageCost, NearWindow}
 use Rattle.code.proofs.Numbers.{fieldOf, overField, lifted, number-sub, sent-number, message-below, transmission-view}

@@ -21,7 +21,8 @@ use Rattle.field.specs.Symbols.{Symbols}
 use Rattle.code.specs.declared.Setting.{Setting}
 use Rattle.code.specs.Code.{Code, levelDistance}
 use Rattle.code.specs.Level.{combination, InLevel, Vanishes, LevelBlocks}
-use Rattle.code.specs.Settings.{Sound, settingOf}
+use Rattle.code.specs.Settings.{settingOf}
+use Rattle.code.specs.parts.Sound.{Sound}
 use Rattle.code.proofs.Blocks.{combination-vanishes}
 use Rattle.code.proofs.LevelCode.{informationOf, level-code}
 use Rattle.code.proofs.Naturality.{combination-natural}

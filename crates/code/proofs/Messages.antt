@@ -17,7 +17,8 @@ use Rattle.code.specs.Windows.{Message}
 use Rattle.code.specs.parts.Reading.{messageCost, NearWindow}
 use Rattle.code.proofs.Certainty.{block-certain, agree-through}
 use Rattle.code.proofs.Lists.{equal-part}
-use Rattle.code.specs.Settings.{codeOf, Sound}
+use Rattle.code.specs.Settings.{codeOf}
+use Rattle.code.specs.parts.Sound.{Sound}
 use Rattle.code.proofs.Numbers.{fieldOf, rootOf, orderAt, overField, lifted, lifted-same, number-lifted, message-below}
 use Rattle.code.proofs.Cost.{byteCost, bytes-apart, message-cost}
 

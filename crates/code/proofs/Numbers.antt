@@ -30,7 +30,7 @@ use Rattle.code.specs.Windows.{transmission, Message}
 use Rattle.code.proofs.Blocks.{codeOver, combination-ext}
 use Rattle.code.proofs.Naturality.{mapped, rowSymbol-natural, timesG-natural, sentSymbol-natural, combination-natural, ending-natural}
 use Rattle.code.proofs.Lists.{length-tabulate, getD-tabulate, view-tabulate}
-use Rattle.code.specs.Settings.{Sound}
+use Rattle.code.specs.parts.Sound.{Sound}
 
 pub transmission-long : (p : Setting) (x : List ℕ) → length (transmission p x) ≡ (length x / p .k + p .m) * p .n
 unfolding transmission

@@ -14,7 +14,8 @@ use Rattle.code.specs.Code.{levelDistance, distancesTo}
 use Rattle.code.specs.Transmission.{view}
 use Rattle.code.specs.Level.{combination}
 use Rattle.code.specs.parts.Cost.{symbolCost, blockCost, rebuiltCost}
-use Rattle.code.specs.Settings.{codeOf, Sound}
+use Rattle.code.specs.Settings.{codeOf}
+use Rattle.code.specs.parts.Sound.{Sound}
 use Rattle.code.specs.Windows.{windowLength}
 use Rattle.code.specs.parts.Reading.{Below, levelCost, windowCost, zeroCost}
 use Rattle.code.proofs.Blocks.{combination-ext}

@@ -17,7 +17,8 @@ use Rattle.field.specs.Fields.{opsOf}
 use Rattle.code.specs.declared.Setting.{Setting}
 use Rattle.code.specs.Generator.{rowSymbol, timesG}
 use Rattle.code.specs.Transmission.{view, earlier, sentSymbol}
-use Rattle.code.specs.Settings.{codeOf, Sound}
+use Rattle.code.specs.Settings.{codeOf}
+use Rattle.code.specs.parts.Sound.{Sound}
 use Rattle.code.specs.parts.Reading.{only, Residual}
 use Rattle.code.proofs.Blocks.{timesG-ext}
 use Rattle.code.proofs.Windows.{sent-sub, sent-zeros}

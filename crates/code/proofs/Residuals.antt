@@ -18,7 +18,8 @@ use Rattle.code.specs.declared.Setting.{Setting}
 use Rattle.code.specs.Transmission.{view, sentSymbol}
 use Rattle.code.specs.Level.{combination}
 use Rattle.code.specs.parts.Cost.{symbolCost, costTo, blockCost, rebuiltCost}
-use Rattle.code.specs.Settings.{codeOf, Sound}
+use Rattle.code.specs.Settings.{codeOf}
+use Rattle.code.specs.parts.Sound.{Sound}
 use Rattle.code.specs.Windows.{windowLength, Message}
 use Rattle.code.specs.parts.Reading.{Below, windowCost, zeroCost, messageCost, Residual}
 use Rattle.code.proofs.Blocks.{combination-ext}

@@ -24,7 +24,8 @@ use Rattle.code.specs.declared.Setting.{Setting}
 use Rattle.code.specs.Code.{Code, limit}
 use Rattle.code.specs.Generator.{rowSymbol, timesG}
 use Rattle.code.specs.Transmission.{view, earlier, sentSymbol}
-use Rattle.code.specs.Settings.{codeOf, Sound}
+use Rattle.code.specs.Settings.{codeOf}
+use Rattle.code.specs.parts.Sound.{Sound}
 use Rattle.code.specs.Windows.{transmission, windowLength, windowDistance, Message, Fits}
 use Rattle.code.proofs.Lists.{getD-tabulate}
 use Rattle.code.proofs.Numbers.{positive, message-blocks}

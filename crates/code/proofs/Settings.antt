@@ -12,7 +12,8 @@ use Rattle.algebra.proofs.Tests.{and-left, and-right}
 use Rattle.field.specs.Fields.{Good, five-elements, eight-elements}
 use Rattle.field.proofs.Operations.{good-small}
 use Rattle.code.specs.declared.Setting.{Setting}
-use Rattle.code.specs.Settings.{setting, settings, isSetting, settingOf, Sound, largest}
+use Rattle.code.specs.Settings.{setting, settings, isSetting, settingOf, largest}
+use Rattle.code.specs.parts.Sound.{Sound}
 
 -- The property holds of each setting of a list.
 pub data Each (P : Setting → Type 0) : List Setting → Type 0 where

@@ -1,12 +1,12 @@
 -- The three settings (01, "Two fields and three settings"), chosen by number, and the code of each.
--- Holds: `settings`, `isSetting`, `settingOf`, `codeOf`, `Sound`, `largest`; 01's table of distances, computed.
+-- Holds: `settings`, `isSetting`, `settingOf`, `codeOf`, `largest`; 01's table of distances, computed.
 use mathlib.Core.Path.{_≡_, refl}
 use mathlib.Core.Bool.{Bool, _&&_}
 use mathlib.Core.List.{List, [], _∷_, _++_, map}
-use Prim.Native.Nat.{ℕ, _+_, _-_, _*_, _≤_, max}
+use Prim.Native.Nat.{ℕ, _+_, _-_, max}
 use lib.Dec.{leb}
 use lib.ListN.{length, getD}
-use Rattle.field.specs.Fields.{Good, opsOf, alpha}
+use Rattle.field.specs.Fields.{opsOf, alpha}
 use Rattle.code.specs.declared.Setting.{Setting}
 use Rattle.code.specs.Code.{Code, levelDistance, distancesTo, designDistance, limit}
 use Rattle.code.specs.Transmission.{tabulate}
@@ -30,14 +30,6 @@ settingOf s = getD settings (s - 1) (setting 0 0 0)
 -- The code of a setting, over the field with q elements.
 abbrev pub codeOf : Setting → Code ℕ
 codeOf p = record { ops = opsOf (p .q); α = alpha; n = p .n; k = p .k; m = p .m }
-
--- What a setting satisfies; all that is proved of the settings follows from it. The field is one of ours, a block has one symbol for each nonzero
--- element, information blocks are not empty, and level m has room.
-pub record Sound (p : Setting) : Type 0 where
-  pub good : Good (p .q)
-  pub block : p .n ≡ p .q - 1
-  pub information : 1 ≤ p .k
-  pub room : (p .m + 1) * p .k ≤ p .n
 
 -- The largest of a figure of the settings: what has room for that has room for each.
 abbrev pub largest : (Setting → ℕ) → List Setting → ℕ

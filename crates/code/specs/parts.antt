@@ -1,4 +1,5 @@
--- What the contracts and proofs of the layers above share, and no reader has to believe: costs, recovery, reading.
+-- What the contracts and proofs of the layers above share, and no reader has to believe: what a setting satisfies, costs, recovery, reading.
+pub mod Sound
 pub mod Cost
 pub mod Recovery
 pub mod Reading

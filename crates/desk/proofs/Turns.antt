@@ -17,8 +17,8 @@ use Rattle.bytes.specs.Bytes.{indexOf, slice}
 use Rattle.io.specs.Counts.{Counts, clamped}
 use Rattle.algebra.proofs.Tests.{false-not-true}
 use Rattle.line.specs.Questions.{mostCharacters}
-use Rattle.desk.specs.Texts.{newline, linesOf, restOf, lastOf, allLines, Output}
-use Rattle.desk.specs.Turns.{Kept, textOf, Turned, failed, ended, came, Run, again, more, last}
+use Rattle.desk.specs.Texts.{newline, linesOf, restOf, lastOf, Output}
+use Rattle.desk.specs.Turns.{Kept, textOf, Turned, failed, ended, came, Run, again, more, last, RunAnswers}
 use Rattle.desk.specs.parts.Reading.{Holds, Reached}
 use Rattle.desk.proofs.Texts.{lines-append, rest-append, output-append, last-kept}
 use Rattle.desk.proofs.Kept.{kept-holds, kept-again}
@@ -103,5 +103,5 @@ run-from begun kept (more {text = text} {written = written} {rest = rest} k inpu
 run-from begun kept (last input turned) = of-ended turned begun kept
 
 -- An input that came in any number of reads, from an area that keeps no line: one answer for each of its lines.
-pub run-answers : {area text written : List ℕ} → Kept [] area → Run area text written → Output (allLines text) written
-run-answers = run-from []
+pub run-answers : RunAnswers
+run-answers area text written = run-from []

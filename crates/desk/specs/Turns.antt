@@ -1,5 +1,5 @@
 -- One turn of the desk: a read, what is kept of a line from turn to turn, and what is written (01, "Lines at the planning desk").
--- Holds: `Kept`; `answersRoom`, `Room`; `textOf`, `Turned` (what `lines::turn` promises); `Run` (turns to the end of an input).
+-- Holds: `Kept`; `answersRoom`, `Room`; `textOf`, `Turned` (what `lines::turn` promises); `Run` (turns to the end of an input), `RunAnswers`.
 use mathlib.Core.Path.{_≡_}
 use mathlib.Core.List.{List, [], _++_}
 use Prim.Native.Nat.{ℕ, suc, _+_, _-_, _*_, _≤_, _<_}
@@ -9,7 +9,7 @@ use Rattle.bytes.specs.Bytes.{indexOf}
 use Rattle.io.specs.Counts.{clamped}
 use Rattle.line.specs.Questions.{mostCharacters}
 use Rattle.line.specs.Answering.{Working, RoomForAll}
-use Rattle.desk.specs.Texts.{newline, linesOf, restOf, lastOf, Output}
+use Rattle.desk.specs.Texts.{newline, linesOf, restOf, lastOf, allLines, Output}
 
 -- The area keeps a line that is begun: before its first newline stand the line's first characters, all or as many as there is room for.
 abbrev pub Kept : List ℕ → List ℕ → Type 0
@@ -41,7 +41,6 @@ pub data Turned (got : ℤ) (input area area' written : List ℕ) : Type 0 where
       → Turned got input area area' written
 
 -- Turns one after another, each with the area that the one before left: the texts that came, to the end of the input, and all that was written.
--- What they wrote are the answers to the lines of that input (`run-answers`, proofs/Turns).
 pub data Run : List ℕ → List ℕ → List ℕ → Type 0 where
   -- A read failed, and another turn follows.
   again : {area area' text written rest : List ℕ} (k : ℕ) (input : List ℕ) → Turned (negsuc k) input area area' written → Run area' text rest
@@ -51,3 +50,7 @@ pub data Run : List ℕ → List ℕ → List ℕ → Type 0 where
       → Run area (textOf (pos (suc k)) input ++ text) (written ++ rest)
   -- The input has ended.
   last : {area area' written : List ℕ} (input : List ℕ) → Turned (pos 0) input area area' written → Run area [] written
+
+-- The answers to the lines of a whole input, in reads of any length (`run-answers`, proofs/Turns).
+abbrev pub RunAnswers : Type 0
+RunAnswers = (area text written : List ℕ) → Kept [] area → Run area text written → Output (allLines text) written

@@ -10,7 +10,7 @@ use Rattle.algebra.proofs.Tests.{false-not-true}
 use Rattle.field.specs.Symbols.{Symbols}
 use Rattle.code.specs.declared.Setting.{Setting}
 use Rattle.code.specs.Code.{distancesTo}
-use Rattle.code.specs.Settings.{Sound}
+use Rattle.code.specs.parts.Sound.{Sound}
 use Rattle.code.specs.Windows.{windowLength}
 use Rattle.code.specs.parts.Reading.{zeroCost}
 use Rattle.frame.specs.parts.Window.{Near, Levels, served, none-serves}

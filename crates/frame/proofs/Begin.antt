@@ -6,7 +6,7 @@ use Prim.Native.Nat.{ℕ, _+_, _*_}
 use lib.ListN.{length, take, drop, replicate}
 use Rattle.field.specs.Symbols.{Symbols}
 use Rattle.code.specs.declared.Setting.{Setting}
-use Rattle.code.specs.Settings.{Sound}
+use Rattle.code.specs.parts.Sound.{Sound}
 use Rattle.code.proofs.Lists.{copied-whole}
 use Rattle.frame.specs.parts.Frame.{Progress}
 use Rattle.frame.proofs.Progress.{progress-start}

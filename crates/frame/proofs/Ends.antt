@@ -17,7 +17,7 @@ use Rattle.field.proofs.Symbols.{symbol-below}
 use Rattle.code.specs.declared.Setting.{Setting}
 use Rattle.code.specs.Code.{distancesTo}
 use Rattle.code.specs.Transmission.{view}
-use Rattle.code.specs.Settings.{Sound}
+use Rattle.code.specs.parts.Sound.{Sound}
 use Rattle.code.specs.Windows.{transmission, windowLength, altered, Message}
 use Rattle.code.specs.parts.Reading.{zeroCost, messageCost, NearWindow, Residual}
 use Rattle.code.proofs.Messages.{place-in-blocks}

@@ -20,7 +20,8 @@ use Rattle.field.proofs.Symbols.{symbol-below, symbols-set}
 use Rattle.code.specs.declared.Setting.{Setting}
 use Rattle.code.specs.Generator.{rowSymbol, timesG}
 use Rattle.code.specs.Transmission.{view}
-use Rattle.code.specs.Settings.{codeOf, Sound}
+use Rattle.code.specs.Settings.{codeOf}
+use Rattle.code.specs.parts.Sound.{Sound}
 use Rattle.code.specs.Windows.{windowLength}
 use Rattle.code.specs.parts.Reading.{only}
 use Rattle.code.proofs.Numbers.{laws, positive, rowSymbol-below}

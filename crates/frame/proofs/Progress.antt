@@ -12,7 +12,7 @@ use Rattle.field.specs.Fields.{opsOf}
 use Rattle.field.specs.Symbols.{Symbols}
 use Rattle.field.proofs.Symbols.{symbol-below, symbols-zeros}
 use Rattle.code.specs.declared.Setting.{Setting}
-use Rattle.code.specs.Settings.{Sound}
+use Rattle.code.specs.parts.Sound.{Sound}
 use Rattle.code.specs.Windows.{Fits}
 use Rattle.code.specs.parts.Reading.{Below}
 use Rattle.code.proofs.Lists.{getD-zeros}

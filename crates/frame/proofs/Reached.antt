@@ -10,7 +10,7 @@ use lib.ListN.{getD}
 use Rattle.algebra.proofs.Tests.{false-not-true}
 use Rattle.code.specs.declared.Setting.{Setting}
 use Rattle.code.specs.Transmission.{view}
-use Rattle.code.specs.Settings.{Sound}
+use Rattle.code.specs.parts.Sound.{Sound}
 use Rattle.code.specs.parts.Reading.{Below}
 use Rattle.code.proofs.Reading.{first-certain, level-drops, level-ends}
 use Rattle.frame.specs.parts.Window.{Near, Tried, serves, fails, Levels, served, none-serves}

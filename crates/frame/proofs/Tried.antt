@@ -9,7 +9,7 @@ use Rattle.algebra.proofs.Tests.{false-not-true}
 use Rattle.code.specs.declared.Setting.{Setting}
 use Rattle.code.specs.Code.{distancesTo}
 use Rattle.code.specs.Transmission.{view}
-use Rattle.code.specs.Settings.{Sound}
+use Rattle.code.specs.parts.Sound.{Sound}
 use Rattle.code.specs.parts.Reading.{windowCost}
 use Rattle.code.proofs.Reading.{level-refused}
 use Rattle.block.specs.parts.Area.{AllBelow}

@@ -2,7 +2,7 @@
 ghost use Prim.Native.Nat.{_+_, _*_, _≤_, _<_};
 ghost use lib.ListN.{length, getD};
 ghost use Rattle.field.specs.Symbols.{Symbols};
-ghost use Rattle.code.specs.Settings.{Sound};
+ghost use Rattle.code.specs.parts.Sound.{Sound};
 ghost use Rattle.tables.specs.parts.Tables.{Ready};
 ghost use Rattle.frame.specs.parts.Frame.{Areas, Revised, Adjusted, Added};
 use code::Setting;

@@ -4,7 +4,7 @@ ghost use Prim.Native.Nat.{_+_, _*_, _≤_, _<_};
 ghost use lib.ListN.{length};
 ghost use Rattle.field.specs.Symbols.{Symbols};
 ghost use Rattle.code.specs.Code.{distancesTo};
-ghost use Rattle.code.specs.Settings.{Sound};
+ghost use Rattle.code.specs.parts.Sound.{Sound};
 ghost use Rattle.tables.specs.parts.Tables.{Ready};
 ghost use Rattle.block.specs.parts.Area.{Working};
 ghost use Rattle.frame.specs.parts.Frame.{Progress, Advanced, Compared, FrameRead};

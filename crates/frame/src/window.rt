@@ -5,7 +5,7 @@ ghost use lib.ListN.{length};
 ghost use Rattle.field.specs.Symbols.{Symbols};
 ghost use Rattle.code.specs.Code.{distancesTo};
 ghost use Rattle.code.specs.Transmission.{view};
-ghost use Rattle.code.specs.Settings.{Sound};
+ghost use Rattle.code.specs.parts.Sound.{Sound};
 ghost use Rattle.code.specs.Windows.{windowLength};
 ghost use Rattle.code.specs.parts.Reading.{windowCost};
 ghost use Rattle.tables.specs.parts.Tables.{Ready};

@@ -16,7 +16,8 @@ use Rattle.algebra.proofs.Tests.{false-not-true}
 use Rattle.field.specs.Fields.{opsOf}
 use Rattle.field.specs.Symbols.{Symbols}
 use Rattle.code.specs.declared.Setting.{Setting}
-use Rattle.code.specs.Settings.{settingOf, Sound}
+use Rattle.code.specs.Settings.{settingOf}
+use Rattle.code.specs.parts.Sound.{Sound}
 use Rattle.code.specs.Windows.{transmission}
 use Rattle.code.proofs.Numbers.{transmission-length}
 use Rattle.code.proofs.Settings.{Sizes, sizesOf}

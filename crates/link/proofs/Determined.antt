@@ -7,7 +7,8 @@ use Prim.Native.Nat.{ℕ, _+_, _*_}
 use lib.ListN.{length, take, drop, length-replicate}
 use lib.Seq.{take-at}
 use Rattle.code.specs.declared.Setting.{Setting}
-use Rattle.code.specs.Settings.{settingOf, Sound}
+use Rattle.code.specs.Settings.{settingOf}
+use Rattle.code.specs.parts.Sound.{Sound}
 use Rattle.code.specs.Windows.{transmission, altered}
 use Rattle.code.proofs.Settings.{soundOf}
 use Rattle.code.proofs.Numbers.{transmission-length}

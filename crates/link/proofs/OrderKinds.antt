@@ -12,7 +12,8 @@ use borrow.Author.Tests.{eq-eqb, eqb-true}
 use Rattle.algebra.specs.Ops.{pick}
 use Rattle.algebra.proofs.Tests.{and-left, and-right}
 use Rattle.code.specs.declared.Setting.{Setting}
-use Rattle.code.specs.Settings.{settingOf, Sound}
+use Rattle.code.specs.Settings.{settingOf}
+use Rattle.code.specs.parts.Sound.{Sound}
 use Rattle.code.specs.Windows.{transmission, altered, Fits}
 use Rattle.code.proofs.Numbers.{transmission-long, transmission-length}
 use Rattle.code.proofs.Settings.{soundOf}

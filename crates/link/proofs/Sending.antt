@@ -14,7 +14,8 @@ use Rattle.field.specs.Symbols.{Symbols}
 use Rattle.field.proofs.Symbols.{symbol-below, symbols-zeros}
 use Rattle.code.specs.declared.Setting.{Setting}
 use Rattle.code.specs.Transmission.{view, sentSymbol}
-use Rattle.code.specs.Settings.{codeOf, Sound}
+use Rattle.code.specs.Settings.{codeOf}
+use Rattle.code.specs.parts.Sound.{Sound}
 use Rattle.code.specs.Windows.{transmission, windowLength, Message}
 use Rattle.code.proofs.Lists.{getD-zeros}
 use Rattle.code.proofs.Numbers.{laws, positive, message-below, transmission-view, transmission-length, sent-below, transmission-symbols}

@@ -16,7 +16,8 @@ use Rattle.field.proofs.Symbols.{symbols-set}
 use Rattle.code.specs.declared.Setting.{Setting}
 use Rattle.code.specs.Generator.{rowSymbol}
 use Rattle.code.specs.Transmission.{view}
-use Rattle.code.specs.Settings.{codeOf, Sound}
+use Rattle.code.specs.Settings.{codeOf}
+use Rattle.code.specs.parts.Sound.{Sound}
 use Rattle.code.proofs.Numbers.{rowSymbol-below}
 use Rattle.tables.specs.parts.Tables.{RowsOf}
 use Rattle.tables.specs.parts.Adding.{plusRow, MultipleAdded, RowAdded, RowsAdded}

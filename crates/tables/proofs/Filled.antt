@@ -15,7 +15,7 @@ use Rattle.code.specs.Generator.{rowSymbol}
 use Rattle.code.specs.Transmission.{tabulate}
 use Rattle.code.specs.Settings.{codeOf}
 use Rattle.code.proofs.Lists.{getD-tabulate}
-use Rattle.code.specs.Settings.{Sound}
+use Rattle.code.specs.parts.Sound.{Sound}
 use Rattle.code.proofs.Settings.{block-positive}
 use Rattle.tables.specs.parts.Tables.{generatorOf, rowsLength, RowsOf}
 use Rattle.tables.proofs.Parts.{put-length, put-before, put-inside}

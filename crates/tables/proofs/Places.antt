@@ -15,7 +15,8 @@ use Rattle.code.specs.declared.Setting.{Setting}
 use Rattle.code.specs.Generator.{timesG}
 use Rattle.code.specs.Transmission.{view}
 use Rattle.code.specs.Level.{combination}
-use Rattle.code.specs.Settings.{codeOf, Sound}
+use Rattle.code.specs.Settings.{codeOf}
+use Rattle.code.specs.parts.Sound.{Sound}
 use Rattle.code.proofs.Settings.{block-positive}
 use Rattle.code.proofs.Numbers.{rowSymbol-below}
 use Rattle.tables.specs.parts.Tables.{rowsLength, RowsOf}

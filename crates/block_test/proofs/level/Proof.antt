@@ -2,7 +2,7 @@
 use mathlib.Core.Path.{sym, subst}
 use Prim.Native.Nat.{_≤_}
 use Rattle.code.specs.declared.Setting.{Setting}
-use Rattle.code.specs.Settings.{Sound}
+use Rattle.code.specs.parts.Sound.{Sound}
 use Rattle.code.proofs.Settings.{soundOf, largestOf}
 use Rattle.tables.specs.parts.Tables.{rowsLength, longestBlock}
 use Rattle.tables.proofs.Lending.{readyOf}

@@ -8,7 +8,8 @@ use Rattle.code.specs.declared.Setting.{Setting}
 use Rattle.code.specs.Generator.{rowSymbol}
 use Rattle.code.specs.Transmission.{tabulate}
 use Rattle.field.specs.parts.Tables.{Products, Lent}
-use Rattle.code.specs.Settings.{settings, codeOf, Sound, largest}
+use Rattle.code.specs.Settings.{settings, codeOf, largest}
+use Rattle.code.specs.parts.Sound.{Sound}
 
 -- "kept power of z by power of z, row by row, as one nested table"
 unfoldable pub generatorOf : Setting → List (List (List ℕ))

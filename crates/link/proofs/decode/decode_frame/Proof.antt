@@ -4,7 +4,7 @@ use Prim.Native.Nat.{_+_, _≤_}
 use native.Mathlib.Omega.{arith}
 use lib.Seq.{length-take-le}
 use Rattle.code.specs.declared.Setting.{Setting}
-use Rattle.code.specs.Settings.{Sound}
+use Rattle.code.specs.parts.Sound.{Sound}
 use Rattle.code.proofs.Settings.{soundOf, sizes}
 use Rattle.tables.specs.parts.Tables.{rowsLength, mostRows, longestBlock}
 use Rattle.tables.proofs.Lending.{readyOf}

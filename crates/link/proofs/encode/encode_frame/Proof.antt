@@ -3,7 +3,7 @@ use native.Mathlib.Omega.{arith}
 use mathlib.Core.Path.{sym, subst}
 use Prim.Native.Nat.{_≤_}
 use Rattle.code.specs.declared.Setting.{Setting}
-use Rattle.code.specs.Settings.{Sound}
+use Rattle.code.specs.parts.Sound.{Sound}
 use Rattle.code.proofs.Settings.{soundOf}
 use Rattle.tables.specs.parts.Tables.{rowsLength, mostRows}
 use Rattle.tables.proofs.Lending.{readyOf}
