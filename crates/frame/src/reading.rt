@@ -62,45 +62,7 @@ fn settle(
     true
 }
 
-// One turn: the blocks of window j are guessed, and then block j is made certain.
-fn turn(
-    p: Setting,
-    products: &Tables,
-    rows: &[u8],
-    scale: u8,
-    bound: usize,
-    blocks: usize,
-    reception: &[u8],
-    j: usize,
-    message: &mut [u8],
-    left: &mut [u8],
-    series: &mut [u8],
-    locator: &mut [u8],
-    values: &mut [u8],
-    information: &mut [u8],
-) -> bool
-    requires { ⌜ Ready p (now products) (now rows) × (scale < p .q) × (bound ≡ distancesTo (p .n) (p .k) (p .m)) × (length (now reception) ≡ (blocks + p .m) * p .n) × Symbols (p .q) (now reception) × (j < blocks) × Progress p blocks (now reception) j (now message) (now left) × Working p (now series) (now locator) (now values) (now information) ⌝ }
-    ensures { λ r. ⌜ Advanced p blocks (now (reception .entry)) (j + 1) (now (message .exit)) (now (left .exit)) r ⌝ }
-{
-    super::guess::guess_window(p, products, rows, scale, blocks, j, message, left);
-    settle(
-        p,
-        products,
-        rows,
-        bound,
-        blocks,
-        reception,
-        j,
-        message,
-        left,
-        series,
-        locator,
-        values,
-        information,
-    )
-}
-
-// The windows in turn.
+// The windows in turn: the blocks of window j are guessed, and then block j is made certain.
 fn read_windows(
     p: Setting,
     products: &Tables,
@@ -121,11 +83,11 @@ fn read_windows(
     let scale = field::inverse(p.q, products, rows[0]);
     let mut j: usize = 0;
     while j < blocks {
-        if !turn(
+        super::guess::guess_window(p, products, rows, scale, blocks, j, message, left);
+        if !settle(
             p,
             products,
             rows,
-            scale,
             bound,
             blocks,
             reception,

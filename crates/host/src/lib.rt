@@ -2,8 +2,8 @@
 ghost use Rattle.link.specs.Encoding.{Encoded};
 ghost use Rattle.link.specs.Decoding.{Decoded};
 ghost use Rattle.link.specs.Marks.{Marked};
-use question::Answer;
 use link::Marks;
+use question::Answer;
 
 // struct orderlink_answer orderlink_encode(uint64_t setting, const uint8_t *message, size_t message_len,
 //                                          uint8_t *transmission, size_t transmission_len);

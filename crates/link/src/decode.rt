@@ -11,9 +11,9 @@ ghost use Rattle.tables.specs.parts.Tables.{Narrow, Ready};
 ghost use Rattle.block.specs.parts.Area.{Working};
 ghost use Rattle.link.specs.parts.Restoring.{Restored};
 ghost use Rattle.link.specs.Decoding.{FrameDecoded, Decoded};
-use question::Answer;
 use code::Setting;
 use field::Tables;
+use question::Answer;
 
 // The reception less what is left of it: the transmission, in the place of what is left.
 fn restore(q: usize, reception: &[u8], left: &mut [u8])

@@ -9,9 +9,9 @@ ghost use Rattle.tables.specs.parts.Tables.{Narrow};
 ghost use Rattle.question.specs.Questions.{mostBlocks};
 ghost use Rattle.link.specs.parts.Sending.{Sending, SentTo};
 ghost use Rattle.link.specs.Encoding.{Encoded};
-use question::Answer;
 use code::Setting;
 use field::Tables;
+use question::Answer;
 
 // Sends information block i: adds what it contributes to the m+1 blocks that it reaches.
 fn send_block(
