@@ -101,7 +101,7 @@ fn read_windows(
         ) {
             return false;
         }
-        j += 1;
+        j = j + 1;
     }
     true
 }
