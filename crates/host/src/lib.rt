@@ -1,8 +1,8 @@
 // The three functions that a C program calls (include/orderlink.h), thin over the proved library.
 ghost use Rattle.link.specs.Encoding.{Encoded};
 ghost use Rattle.link.specs.Decoding.{Decoded};
-ghost use Rattle.link.specs.Marks.{Marked};
-use link::Marks;
+ghost use Rattle.display.specs.Marks.{Marked};
+use display::Marks;
 use question::Answer;
 
 // struct orderlink_answer orderlink_encode(uint64_t setting, const uint8_t *message, size_t message_len,
@@ -43,5 +43,5 @@ pub extern "C" fn orderlink_marks(
 ) -> Marks
     ensures { λ r. ⌜ Marked setting (now (reception .entry)) (now (transmission .entry)) j r ⌝ }
 {
-    link::mark::marks(setting, reception, transmission, j)
+    display::mark::marks(setting, reception, transmission, j)
 }

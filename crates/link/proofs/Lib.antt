@@ -1,9 +1,6 @@
 -- What the proofs of the public calls share.
 pub mod Sending
 pub mod Encoding
-pub mod Bits
-pub mod Counted
-pub mod Windows
 pub mod Decoding
 pub mod CountBound
 pub mod Determined

@@ -1,7 +1,5 @@
 -- What the public calls promise, in 01's order and words.
 pub mod Encoding
-pub mod Display
-pub mod Marks
 pub mod Decoding
 pub mod Demand3
 pub mod Orders

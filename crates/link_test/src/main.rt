@@ -129,16 +129,16 @@ fn decode(
 }
 
 fn window(number: u64, reception: &[u8], j: u64, digits: &mut [u8]) {
-    let answer = link::display::window_answer(number, reception, j);
+    let answer = display::window_answer(number, reception, j);
     show_answer(answer);
     space();
-    let part = link::display::window(number, reception, j);
+    let part = display::window(number, reception, j);
     show(part, digits);
     end_line();
 }
 
 fn marks(number: u64, reception: &[u8], transmission: &[u8], j: u64) {
-    let found = link::mark::marks(number, reception, transmission, j);
+    let found = display::mark::marks(number, reception, transmission, j);
     let answer = found.answer;
     show_answer(answer);
     space();

@@ -1,4 +1,4 @@
--- `host::orderlink_marks`: the promise of `link::mark::marks`.
+-- `host::orderlink_marks`: the promise of `display::mark::marks`.
 use borrow.Author.Needs.{needs}
 use Rattle.host.proofs.orderlink_marks.Statement.{statement}
 use Rattle.host.proofs.orderlink_marks.Tie as tie

@@ -1,7 +1,7 @@
--- `link::display::window_answer`: the display's questions.
+-- `display::window_answer`: the display's questions.
 use borrow.Author.Needs.{needs}
-use Rattle.link.proofs.display.window_answer.Statement.{statement}
-use Rattle.link.proofs.display.window_answer.Tie as tie
+use Rattle.display.proofs.window_answer.Statement.{statement}
+use Rattle.display.proofs.window_answer.Tie as tie
 
 display-questions-requires : tie.Need-display-questions-requires
 display-questions-requires c κs = search needs

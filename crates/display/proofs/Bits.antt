@@ -11,7 +11,7 @@ use lib.Pow.{pow-mono}
 use Rattle.algebra.specs.Ops.{pick}
 use Rattle.algebra.specs.Weight.{total, countOf}
 use Rattle.algebra.proofs.Weights.{one-le}
-use Rattle.link.specs.Marks.{bits}
+use Rattle.display.specs.Marks.{bits}
 
 -- The lowest bit, and the others.
 module _ (n : ℕ) (test : ℕ → Bool) where

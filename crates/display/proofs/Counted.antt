@@ -9,8 +9,8 @@ use Rattle.algebra.specs.Ops.{pick}
 use Rattle.algebra.specs.Weight.{countOf}
 use Rattle.code.specs.Settings.{settingOf}
 use Rattle.code.specs.Windows.{windowLength}
-use Rattle.link.specs.Marks.{bits, SetCounts}
-use Rattle.link.proofs.Bits.{ones-bits}
+use Rattle.display.specs.Marks.{bits, SetCounts}
+use Rattle.display.proofs.Bits.{ones-bits}
 
 -- Of the marks and the count where the questions got "yes", and of the zeros after a "no".
 ones-either : (b : Bool) (n : ℕ) (test : ℕ → Bool) → ones (pick b (bits n test) 0) ≡ pick b (countOf n test) 0

@@ -1,10 +1,10 @@
--- `link::mark::differ`: one test.
+-- `display::mark::differ`: one test.
 use mathlib.Core.Path.{sym, ap}
 use mathlib.Core.Bool.{Bool, not}
 use borrow.Author.Tests.{eq-eqb, ne-eqb}
 use Rattle.algebra.specs.Ops.{pick}
-use Rattle.link.proofs.mark.differ.Statement.{statement}
-use Rattle.link.proofs.mark.differ.Tie as tie
+use Rattle.display.proofs.mark.differ.Statement.{statement}
+use Rattle.display.proofs.mark.differ.Tie as tie
 
 returns : tie.Need-returns
 returns c = sym (ap (λ (t : Bool). pick (not t) 1 0) (eq-eqb (c .before .args .a) (c .before .args .b) (c .if1 .taken)))

@@ -17,10 +17,10 @@ use Rattle.code.specs.Windows.{windowLength, windowDistance, mostWindow}
 use Rattle.code.proofs.Settings.{Sizes, largestOf}
 use Rattle.question.specs.declared.Answer.{Answer}
 use Rattle.question.specs.Questions.{firstNo, blocksOf, displayQuestions, marksQuestions}
-use Rattle.link.specs.Display.{windowOf}
-use Rattle.link.specs.Marks.{marksOf, Marked}
+use Rattle.display.specs.Display.{windowOf}
+use Rattle.display.specs.Marks.{marksOf, Marked}
 use Rattle.question.proofs.Answers.{WindowYes}
-use Rattle.link.proofs.Bits.{ones-bits}
+use Rattle.display.proofs.Bits.{ones-bits}
 
 -- Window j lies within a frame of this length, and is no longer than any.
 pub record Window (p : Setting) (long j : ℕ) : Type 0 where

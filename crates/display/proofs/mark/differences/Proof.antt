@@ -1,4 +1,4 @@
--- `link::mark::differences`: from the last place down, each mark is set below those of the later places.
+-- `display::mark::differences`: from the last place down, each mark is set below those of the later places.
 use mathlib.Core.Path.{_≡_, sym, ap, _∙_}
 use mathlib.Core.Bool.{Bool, not}
 use mathlib.Core.List.{List}
@@ -7,10 +7,10 @@ use native.Mathlib.Omega.{arith}
 use denote.Ref.{now}
 use lib.Dec.{eqb}
 use lib.ListN.{getD}
-use Rattle.link.specs.Marks.{bits}
-use Rattle.link.proofs.Bits.{bits-more, bits-whole}
-use Rattle.link.proofs.mark.differences.Statement.{statement}
-use Rattle.link.proofs.mark.differences.Tie as tie
+use Rattle.display.specs.Marks.{bits}
+use Rattle.display.proofs.Bits.{bits-more, bits-whole}
+use Rattle.display.proofs.mark.differences.Statement.{statement}
+use Rattle.display.proofs.mark.differences.Tie as tie
 
 -- Whether symbol i from `from` on differs.
 abbrev test : List ℕ → List ℕ → ℕ → ℕ → Bool

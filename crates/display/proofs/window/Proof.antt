@@ -1,14 +1,14 @@
--- `link::display::window`: the part from j × n on, or none.
+-- `display::window`: the part from j × n on, or none.
 use mathlib.Core.Path.{_≡_, sym, ap, _∙_}
 use native.Mathlib.Omega.{arith}
 use denote.Ref.{now}
 use lib.ListN.{length}
 use Rattle.question.specs.Questions.{firstNo, displayQuestions}
 use Rattle.question.proofs.Answers.{WindowYes, display-yes}
-use Rattle.link.proofs.Windows.{Window, window-yes, window-refused, window-shown}
+use Rattle.display.proofs.Windows.{Window, window-yes, window-refused, window-shown}
 use borrow.Author.Needs.{needs}
-use Rattle.link.proofs.display.window.Statement.{statement}
-use Rattle.link.proofs.display.window.Tie as tie
+use Rattle.display.proofs.window.Statement.{statement}
+use Rattle.display.proofs.window.Tie as tie
 
 display-questions-requires : tie.Need-display-questions-requires
 display-questions-requires c κs = tt

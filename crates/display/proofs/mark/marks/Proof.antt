@@ -1,12 +1,12 @@
--- `link::mark::marks`: refused by the first "no", or the marks of the window and how many are set.
+-- `display::mark::marks`: refused by the first "no", or the marks of the window and how many are set.
 use mathlib.Core.Path.{_≡_, sym, ap, _∙_}
 use native.Mathlib.Omega.{arith}
 use denote.Ref.{now}
 use lib.ListN.{length}
 use Rattle.question.proofs.Answers.{WindowYes, marks-yes}
-use Rattle.link.proofs.Windows.{Window, window-yes, marked-refused, marked-found}
-use Rattle.link.proofs.mark.marks.Statement.{statement}
-use Rattle.link.proofs.mark.marks.Tie as tie
+use Rattle.display.proofs.Windows.{Window, window-yes, marked-refused, marked-found}
+use Rattle.display.proofs.mark.marks.Statement.{statement}
+use Rattle.display.proofs.mark.marks.Tie as tie
 
 marks-questions-requires : tie.Need-marks-questions-requires
 marks-questions-requires c κs = tt

@@ -5,7 +5,7 @@ ghost use Prim.Native.Nat.{_+_, _*_, _≤_, _<_};
 ghost use lib.Dec.{eqb};
 ghost use lib.ListN.{length, getD};
 ghost use Rattle.algebra.specs.Ops.{pick};
-ghost use Rattle.link.specs.Marks.{bits, Marked};
+ghost use Rattle.display.specs.Marks.{bits, Marked};
 use super::Marks;
 
 // 1 where two symbols differ, 0 where they are the same.

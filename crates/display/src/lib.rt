@@ -1,9 +1,19 @@
-// The display: window j of a reception, as that part of the caller's own bytes.
+// What is shown of a window: window j of a reception, as that part of the caller's own bytes, and where it differs from a transmission (module `mark`).
+pub mod mark;
+
 ghost use mathlib.Core.Path.{_≡_};
 ghost use lib.ListN.{length};
 ghost use Rattle.question.specs.Questions.{firstNo, displayQuestions};
-ghost use Rattle.link.specs.Display.{windowOf};
+ghost use Rattle.display.specs.Display.{windowOf};
 use question::Answer;
+
+// The differences in a window, one bit a symbol, the earliest lowest, and how many are set.
+#[repr(C)]
+pub struct Marks {
+    pub answer: Answer,
+    pub marks: u32,
+    pub set: u32,
+}
 
 // Window j, the m+1 blocks from block j on; empty where one of questions 1, 2, 3 and 12 gets "no".
 pub fn window(setting: u64, reception: &[u8], j: u64) -> &[u8]

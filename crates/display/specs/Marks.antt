@@ -11,7 +11,7 @@ use Rattle.algebra.specs.Ops.{pick}
 use Rattle.code.specs.declared.Setting.{Setting}
 use Rattle.code.specs.Settings.{settingOf}
 use Rattle.code.specs.Windows.{windowLength, windowDistance}
-use Rattle.link.specs.declared.Marks.{Marks}
+use Rattle.display.specs.declared.Marks.{Marks}
 use Rattle.question.specs.Questions.{firstNo, marksQuestions}
 
 -- The number with a bit for each of n tests, the first lowest.

@@ -1,0 +1,3 @@
+-- What the display and marks promise, in 01's words.
+pub mod Display
+pub mod Marks
