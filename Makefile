@@ -4,6 +4,7 @@
 # Checks and builds first, which is quick when nothing changed; what the prover says is shown only if the check fails.
 run:
 	@mkdir -p target
+	@[ -x target/bin/desk ] || echo "proving and building the desk: some minutes the first time (target/run.log)"
 	@rt check desk > target/run.log 2>&1 || { cat target/run.log; exit 1; }
 	target/bin/desk < tests/sample.txt
 

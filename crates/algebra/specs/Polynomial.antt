@@ -1,5 +1,5 @@
 -- Polynomials as coefficient lists, lowest power first (01, "The transmission").
--- Holds: `value`, the value of a polynomial as 01 words it; `timesRoot` and `fromRoots`, products of (x - a).
+-- Holds: `value`, the value of a polynomial as 01 words it; `timesRootAfter`, `timesRoot` and `fromRoots`, products of (x - a).
 use mathlib.Core.List.{List, [], _∷_}
 use Rattle.algebra.specs.Ops.{Ops, sub}
 

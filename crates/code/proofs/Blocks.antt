@@ -1,4 +1,4 @@
--- Block facts over any field, α of order n and 1 ≤ k ≤ n (000, section 2 and Theorem 3.1; BLUEPRINT of the proof: zeros of f, twist, spectrum).
+-- Block facts over any field, α of order n and 1 ≤ k ≤ n (000, section 2 and Theorem 3.1): zeros of f, twist, spectrum.
 -- Holds: `codeOver`; `timesG-ext` and `combination-ext` (only the information's symbols count); `base-zero` and `base-nonzero` (the zeros of f); `valueOf-timesG` (the value of x × G_j);
 -- `spectrum-combination`, `combination-vanishes` and `combination-on-stretch` (the spectrum of a combination).
 use mathlib.Core.Path.{_≡_, refl, sym, ap, ap₂, _∙_}

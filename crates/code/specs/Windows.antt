@@ -1,5 +1,5 @@
 -- Transmissions, windows and fits on lists of bytes, as the demands and 01 word them.
--- Holds: `transmission`, `windowLength`, `mostWindow`, `windowDistance`, `altered`, `mostAltered`, `Message`, `WithinLimit`, `Fits`.
+-- Holds: `transmission`, `windowLength`, `windowDistance`, `altered`, `mostAltered`, `Message`, `WithinLimit`, `Fits`.
 use mathlib.Core.Path.{_≡_}
 use mathlib.Core.List.{List}
 use Prim.Native.Nat.{ℕ, _+_, _*_, _/_, _%_, _≤_, _<_}
@@ -9,7 +9,7 @@ use Rattle.field.specs.Symbols.{Symbols}
 use Rattle.code.specs.declared.Setting.{Setting}
 use Rattle.code.specs.Code.{limit}
 use Rattle.code.specs.Transmission.{view, sentSymbol, tabulate}
-use Rattle.code.specs.Settings.{settings, codeOf, largest}
+use Rattle.code.specs.Settings.{codeOf}
 
 -- The transmission (the codeword) of a message (the information word): T+m blocks, "the m closing blocks" (the tail that returns the encoder to
 -- zero) among them, one after the other.
@@ -20,10 +20,6 @@ transmission p message =
 -- "A window is m+1 consecutive blocks starting at an information block."
 abbrev pub windowLength : Setting → ℕ
 windowLength p = (p .m + 1) * p .n
-
--- The longest window of any setting.
-abbrev pub mostWindow : ℕ
-mostWindow = largest windowLength settings
 
 -- In how many symbols of window j two frames differ.
 abbrev pub windowDistance : Setting → List ℕ → List ℕ → ℕ → ℕ

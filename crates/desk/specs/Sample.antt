@@ -1,5 +1,5 @@
 -- The lines of small inputs, computed: an empty line counts, an input may be empty, and its last line may lack a newline; a line may come in two texts, and an
--- area keeps what is begun of it.
+-- area keeps what is begun of it. Holds: `three-lines` to `kept-nothing`.
 use mathlib.Core.Path.{_≡_, refl}
 use mathlib.Core.List.{[], _∷_}
 use Rattle.bytes.specs.Bytes.{indexAfter, indexOf}

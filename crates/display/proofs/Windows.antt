@@ -12,8 +12,8 @@ use lib.ListN.{length, getD, take, drop}
 use borrow.Author.Tests.{eq-eqb, ne-eqb}
 use Rattle.algebra.specs.Ops.{pick}
 use Rattle.code.specs.declared.Setting.{Setting}
-use Rattle.code.specs.Settings.{settingOf}
-use Rattle.code.specs.Windows.{windowLength, windowDistance, mostWindow}
+use Rattle.code.specs.Settings.{settings, settingOf, largest}
+use Rattle.code.specs.Windows.{windowLength, windowDistance}
 use Rattle.code.proofs.Settings.{Sizes, largestOf}
 use Rattle.question.specs.declared.Answer.{Answer}
 use Rattle.question.specs.Questions.{firstNo, blocksOf, displayQuestions, marksQuestions}
@@ -21,6 +21,10 @@ use Rattle.display.specs.Display.{windowOf}
 use Rattle.display.specs.Marks.{marksOf, Marked}
 use Rattle.question.proofs.Answers.{WindowYes}
 use Rattle.display.proofs.Bits.{ones-bits}
+
+-- The longest window of any setting.
+abbrev mostWindow : ℕ
+mostWindow = largest windowLength settings
 
 -- Window j lies within a frame of this length, and is no longer than any.
 pub record Window (p : Setting) (long j : ℕ) : Type 0 where

@@ -1,4 +1,4 @@
--- The windows in turn (BLUEPRINT: residual, zero window, refusal chain, put together on bytes).
+-- The windows in turn: residual, zero window and the chain of refusals, put together on bytes.
 -- Holds: `progress-start`, `near-of-fits`, `progress-none`, `progress-revised`, `progress-found`.
 use mathlib.Core.Path.{_≡_, sym, ap, subst, _∙_}
 use mathlib.Core.List.{List}

@@ -1,7 +1,7 @@
 -- The frame of a line that holds one (questions 11, 9, 1, 3 and 10 got "yes"), from decoding to the line's answer.
 -- Holds: `symbols-count`, `symbols-read`, `symbols-long`, `blocks-is` (the reception and T); `decoding-asked` (decoding's questions ask what is left, 4);
 -- `refusal-line`, `success-line`; `frame-answered` (what decoding gives), `frame-left`; `any-room`, `room-is` (the working areas); `head-refused`; `answers-most`,
--- `answer-most`, `answers-sevenfold` (an output line's length); `answered-shown` (with room for every frame); `answers-kept` (a line too long is answered
+-- `answers-sevenfold` (an output line's length); `answered-shown` (with room for every frame); `answers-kept` (a line too long is answered
 -- by its beginning).
 use mathlib.Core.Path.{_≡_, refl, sym, ap, ap₂, subst, _∙_}
 use mathlib.Core.Bool.{Bool, true, false, _&&_}
@@ -29,7 +29,7 @@ use Rattle.question.proofs.Answers.{first-no, all-yes, append-yes, message-most
 use Rattle.link.proofs.Determined.{parts-long, message-front}
 use Rattle.line.specs.Characters.{digitOf}
 use Rattle.line.specs.Questions.{mostCharacters, settingIn, blocksIn, symbolsIn, digitsTo, characterQuestions, headQuestions, HoldsFrame, lineQuestions}
-use Rattle.line.specs.Answering.{refusal, success, mostAnswer, outputLine, messageLength, messageIn, Answers, refused, well-formed, AnswerShown, Working, working, hasRoom, roomIn, RoomForAll, FrameLeft, Answered, no-frame, no-room, decoded}
+use Rattle.line.specs.Answering.{refusal, success, outputLine, messageLength, messageIn, Answers, refused, well-formed, AnswerShown, Working, working, hasRoom, roomIn, RoomForAll, FrameLeft, Answered, no-frame, no-room, decoded}
 use Rattle.line.proofs.Asked.{HeadYes, head-yes, after-head, in-head}
 use Rattle.line.proofs.Placed.{six, success-long}
 
@@ -204,6 +204,10 @@ output-most line r x = at (eqb (r .number) 0)
     at true = omega (arith, success-long (r .altered) (settingIn line) (blocksIn line) x)
     at false = omega (arith, six (r .number) (r .place))
 
+-- The longest output line: an opening, and the longest message.
+abbrev pub mostAnswer : ℕ
+mostAnswer = 10 + mostInformation
+
 -- So it is no longer than the longest success line ..
 pub answers-most : (line text : List ℕ) → Answers line text → length text ≤ mostAnswer
 answers-most line text (refused h e) = omega (arith, ap length e, six (firstNo (lineQuestions line) .number) (firstNo (lineQuestions line) .place))
@@ -228,13 +232,6 @@ answers-sevenfold line text (well-formed h r x y f e) =
     let message : length x ≡ T * p .k = parts-long p sound T (symbolsIn line) f .0 in
     let blocks : T ≤ T + p .m = omega arith in
     omega (arith, ap length e, output-most line r x, mul-le-mul blocks (information-fits p sound))
-
-pub answer-most : (line before : List ℕ) (r : ℕ) (after : List ℕ) → AnswerShown line before r after → r ≤ mostAnswer
-answer-most line before r after a = at (leb (length (a .text)) (length before)) (a .shown .long)
-  where
-    at : (t : Bool) → r ≡ pick t (length (a .text)) 0 → r ≤ mostAnswer
-    at true e = omega (arith, answers-most line (a .text) (a .answers))
-    at false e = omega arith
 
 -- With room for every frame each line is answered.
 pub answered-shown : (line : List ℕ) (w : Working) (output : List ℕ) (r : ℕ) (w' : Working) (output' : List ℕ) → RoomForAll w

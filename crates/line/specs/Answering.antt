@@ -1,5 +1,5 @@
 -- What answering a line promises (01, "Lines at the planning desk"). Holds: `refusal`, `opening` and `success`, the two kinds of output line; `messageLength`, `messageIn`;
--- `mostAnswer`; `outputLine`, `Answers`, which of them a line gets; `Shown`, a text in a lent area; `AnswerShown`; `Working`, `working`, the working areas,
+-- `outputLine`, `Answers`, which of them a line gets; `Shown`, a text in a lent area; `AnswerShown`; `Working`, `working`, the working areas,
 -- `hasRoom`, `roomIn`, `RoomForAll`, `FrameLeft`; `Answered`, a whole call.
 use mathlib.Core.Path.{_≡_}
 use mathlib.Core.Bool.{Bool, true, false, _&&_}
@@ -32,10 +32,6 @@ messageLength line = blocksIn line * settingOf (settingIn line) .k
 
 abbrev pub messageIn : List ℕ → List ℕ → List ℕ
 messageIn line area = take (messageLength line) area
-
--- The longest output line: an opening, and the longest message.
-abbrev pub mostAnswer : ℕ
-mostAnswer = 10 + mostInformation
 
 -- The output line of an answer to a line, and the message where a message fits.
 abbrev pub outputLine : List ℕ → Answer → List ℕ → List ℕ

@@ -22,7 +22,7 @@ use Rattle.code.proofs.Search.{fitsTest, fits-of-test, noneFits, no-message-fit
 use Rattle.question.specs.declared.Answer.{Answer}
 use Rattle.question.specs.Questions.{answer, firstNo, blocksOf, decodingQuestions, encodingQuestions}
 use Rattle.link.specs.Encoding.{Encoded, encodedArea}
-use Rattle.link.specs.Orders.{Call, encoding, decoding, Order, Promised, Begun, Kept}
+use Rattle.link.specs.Orders.{Call, encoding, decoding, Order, Promised, Begun, OrderKept}
 use Rattle.link.specs.Decoding.{FrameDecoded, found, none-fits, Decoded, refused, well-formed}
 use Rattle.question.proofs.Answers.{all-yes, yes-all, decoding-yes}
 
@@ -300,11 +300,11 @@ order-kept decoding o t = at (eqb (o .number) 0) refl (and-right place kind (and
         seven-order o yes-to clear-place (eqb→eq (o .number) 7 (and-left (eqb (o .number) 7) (sevenTest o) t)) (and-right (eqb (o .number) 7) (sevenTest o) t)
 
 -- A list that passes is kept.
-pub each-kept : (l : List Order) → Passes (ordersTest l) → (o : Order) → List·Memᴰ o l → Kept o
+pub each-kept : (l : List Order) → Passes (ordersTest l) → (o : Order) → List·Memᴰ o l → OrderKept o
 unfolding ordersTest
 each-kept [] t o h = absurd (List·Memᴰ·not-nil h)
 each-kept (x ∷ rest) t o h = at (List·Memᴰ·cases-cons h) (each-kept rest (and-right (testOf (x .call) x) (ordersTest rest) t) o)
   where
-    at : (o ≡ x) ⊎ List·Memᴰ o rest → (List·Memᴰ o rest → Kept o) → Kept o
-    at (inl e) more = subst Kept (sym e) (order-kept (x .call) x (and-left (testOf (x .call) x) (ordersTest rest) t))
+    at : (o ≡ x) ⊎ List·Memᴰ o rest → (List·Memᴰ o rest → OrderKept o) → OrderKept o
+    at (inl e) more = subst OrderKept (sym e) (order-kept (x .call) x (and-left (testOf (x .call) x) (ordersTest rest) t))
     at (inr m) more = more m

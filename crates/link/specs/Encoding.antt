@@ -1,4 +1,4 @@
--- What encoding promises. Holds: `Encoded`.
+-- What encoding promises. Holds: `encodedArea`, `Encoded`.
 use mathlib.Core.Path.{_≡_}
 use mathlib.Core.List.{List, _++_}
 use Prim.Native.Nat.{ℕ, _+_, _*_, _/_}

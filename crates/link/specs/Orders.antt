@@ -1,4 +1,4 @@
--- What is said of an order that was worked through (01; order, message: the information word). Holds: `Order`, `Kept`; `encodes`, `reads` and `getsSeven`, the
+-- What is said of an order that was worked through (01; order, message: the information word). Holds: `Call`, `Order`; `Begun`, `Promised`, `OrderKept`; `encodes`, `reads` and `getsSeven`, the
 -- three kinds of order. The orders themselves stand in specs/Sample.
 use mathlib.Core.Path.{_≡_}
 use mathlib.Core.List.{List, _++_}
@@ -37,8 +37,8 @@ Promised decoding o = (message message' sent sent' : List ℕ) (r : Answer) → 
     → Decoded (o .setting) (o .given) message sent r message' sent'
     → (r ≡ answer (o .number) (o .place) (o .count)) × Begun (o .message) message message' × Begun (o .sent) sent sent'
 
-abbrev pub Kept : Order → Type 0
-Kept o = Promised (o .call) o
+abbrev pub OrderKept : Order → Type 0
+OrderKept o = Promised (o .call) o
 
 -- A message, given, and its transmission.
 abbrev pub encodes : ℕ → List ℕ → List ℕ → Order

@@ -2,7 +2,7 @@
 -- proofs/Orders). One more order is one more line: encoded, read, or with number 7. Holds: `orders`, `OrdersKept`.
 use mathlib.Core.List.{List, [], _∷_, List·Memᴰ}
 use lib.ListN.{replicate}
-use Rattle.link.specs.Orders.{Order, Kept, encodes, reads, getsSeven}
+use Rattle.link.specs.Orders.{Order, OrderKept, encodes, reads, getsSeven}
 
 unfoldable pub orders : List Order
 orders =
@@ -35,4 +35,4 @@ orders =
 
 -- Every order of the list is kept.
 abbrev pub OrdersKept : Type 0
-OrdersKept = (o : Order) → List·Memᴰ o orders → Kept o
+OrdersKept = (o : Order) → List·Memᴰ o orders → OrderKept o

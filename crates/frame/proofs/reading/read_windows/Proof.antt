@@ -1,6 +1,7 @@
 -- `frame::reading::read_windows`: the windows before j were read.
 use mathlib.Core.Path.{_≡_, refl, subst, _∙_}
-use Prim.Native.Nat.{ℕ, _-_, _≤_}
+use Prim.Native.Nat.{ℕ, _-_, _*_, _≤_}
+use native.Mathlib.Nat.{mul-le-mul-left}
 use native.Mathlib.Omega.{arith}
 use denote.Ref.{now}
 use lib.ListN.{length}
@@ -14,7 +15,7 @@ use Rattle.frame.proofs.reading.read_windows.Tie as tie
 
 abbrev Inv-loop : tie.InvT-loop
 Inv-loop p products rows bound blocks reception message₀ left₀ series₀ locator₀ values₀ information₀ scale j₀ message left series locator values information j =
-    (j ≤ blocks) × Progress p blocks reception j message left
+    Progress p blocks reception j message left × (j ≤ blocks)
     × (length series ≡ length series₀) × (length locator ≡ length locator₀) × (length values ≡ length values₀) × (length information ≡ length information₀)
 
 abbrev μ-loop : tie.MeasureT-loop
@@ -29,12 +30,12 @@ inverse-requires c κs =
     (entry .pre .0 .sound .good, entry .pre .0 .products, first-place (entry .args .p) (entry .pre .0 .sound) (now (entry .args .rows)) (entry .pre .0 .rows) .1)
 
 loop-holds : tie.Need-loop-holds Inv-loop μ-loop
-loop-holds c = let entry = c .before .before .before .before .before .before .before .before .before .before in (omega arith, entry .pre .4, refl, refl, refl, refl)
+loop-holds c = let entry = c .before .before .before .before .before .before .before .before .before .before in (entry .pre .4, omega arith, refl, refl, refl, refl)
 
 guess-window-requires : tie.Need-guess-window-requires Inv-loop μ-loop
 guess-window-requires c κs =
     let entry = c .before .before .before .before .before .before .before .before .before .before .before .before .before .before in
-    (entry .pre .0, c .before .before .before .before .inverse .ensures .below, c .before .before .loop-test .taken, c .before .before .before .loop .inv .1 .areas)
+    (entry .pre .0, c .before .before .before .before .inverse .ensures .below, c .before .before .loop-test .taken, c .before .before .before .loop .inv .0 .areas)
 
 -- What was known is known of the new guess.
 settle-requires : tie.Need-settle-requires Inv-loop μ-loop
@@ -48,7 +49,7 @@ settle-requires c κs =
       entry .pre .2,
       entry .pre .3,
       c .before .before .before .before .before .before .before .before .before .before .before .before .before .loop-test .taken,
-      progress-revised (a .p) (entry .pre .0 .sound) (a .blocks) (now (a .reception)) (entry .pre .3) (entry .pre .2) (l .j) (l .message) (l .left) (l .inv .1)
+      progress-revised (a .p) (entry .pre .0 .sound) (a .blocks) (now (a .reception)) (entry .pre .3) (entry .pre .2) (l .j) (l .message) (l .left) (l .inv .0)
           (l .j) (guessed .last .1 .1 .1 .1 .1 .1 .0) (guessed .last .1 .1 .1 .1 .1 .1 .1 .0) (omega arith) (guessed .ensures),
       working-kept (entry .pre .5) (l .inv .2) (l .inv .3) (l .inv .4) (l .inv .5),
     )
@@ -56,12 +57,12 @@ settle-requires c κs =
 same-length : tie.Need-same-length Inv-loop μ-loop
 same-length c =
     let entry = c .before .before .before .before .before .before .before .before .before .before .before .before .before .before .before .before .before .before .before .before .before .before .before .before .before .before .before .before .before .before .before .before .before .before .before .before .before .before .before in
-    omega (arith, c .before .before .before .before .before .before .before .before .before .before .before .before .before .settle .kept, c .before .before .before .before .before .before .before .before .before .before .before .before .before .before .before .before .before .before .before .before .before .before .before .before .guess-window .kept, c .before .before .before .before .before .before .before .before .before .before .before .before .before .before .before .before .before .before .before .before .before .before .before .before .before .before .before .before .loop .inv .1 .areas, entry .pre .4 .areas)
+    omega (arith, c .before .before .before .before .before .before .before .before .before .before .before .before .before .settle .kept, c .before .before .before .before .before .before .before .before .before .before .before .before .before .before .before .before .before .before .before .before .before .before .before .before .guess-window .kept, c .before .before .before .before .before .before .before .before .before .before .before .before .before .before .before .before .before .before .before .before .before .before .before .before .before .before .before .before .loop .inv .0 .areas, entry .pre .4 .areas)
 
 same-length-2 : tie.Need-same-length-2 Inv-loop μ-loop
 same-length-2 c =
     let entry = c .before .before .before .before .before .before .before .before .before .before .before .before .before .before .before .before .before .before .before .before .before .before .before .before .before .before .before .before .before .before .before .before .before .before .before .before .before .before .before in
-    omega (arith, c .before .before .before .before .before .before .before .before .before .before .before .before .before .settle .kept, c .before .before .before .before .before .before .before .before .before .before .before .before .before .before .before .before .before .before .before .before .before .before .before .before .guess-window .kept, c .before .before .before .before .before .before .before .before .before .before .before .before .before .before .before .before .before .before .before .before .before .before .before .before .before .before .before .before .loop .inv .1 .areas, entry .pre .4 .areas)
+    omega (arith, c .before .before .before .before .before .before .before .before .before .before .before .before .before .settle .kept, c .before .before .before .before .before .before .before .before .before .before .before .before .before .before .before .before .before .before .before .before .before .before .before .before .guess-window .kept, c .before .before .before .before .before .before .before .before .before .before .before .before .before .before .before .before .before .before .before .before .before .before .before .before .before .before .before .before .loop .inv .0 .areas, entry .pre .4 .areas)
 
 same-length-3 : tie.Need-same-length-3 Inv-loop μ-loop
 same-length-3 c = c .before .before .before .before .before .before .before .before .before .before .before .before .before .settle .kept .1 .1 .1 .1 .1 .1 .1 .1 .1 .0 ∙ c .before .before .before .before .before .before .before .before .before .before .before .before .before .before .before .before .before .before .before .before .before .before .before .before .before .before .before .before .loop .inv .2
@@ -79,7 +80,11 @@ returns : tie.Need-returns Inv-loop μ-loop
 returns c = advance-stopped (c .before .before .before .before .before .before .before .before .before .before .before .before .before .settle .ensures) (c .if1 .taken)
 
 add-j : tie.Need-add-j Inv-loop μ-loop
-add-j c = omega (arith, c .before .before .before .before .before .before .before .before .before .before .before .before .before .before .before .before .before .before .before .before .before .before .before .before .before .before .before .loop-test .taken, c .before .before .before .before .before .before .before .before .before .before .before .before .before .before .before .before .before .before .before .before .before .before .before .before .before .before .before .before .before .before .before .before .before .before .before .before .before .before .before .fits .blocks)
+add-j c =
+    let entry = c .before .before .before .before .before .before .before .before .before .before .before .before .before .before .before .before .before .before .before .before .before .before .before .before .before .before .before .before .before .before .before .before .before .before .before .before .before .before .before in
+    let blocks = entry .args .blocks in
+    let few : blocks * 1 ≤ blocks * entry .args .p .k = mul-le-mul-left blocks (entry .pre .0 .sound .information) in
+    omega (arith, c .before .before .before .before .before .before .before .before .before .before .before .before .before .before .before .before .before .before .before .before .before .before .before .before .before .before .before .loop-test .taken, entry .pre .4 .areas .message-long)
 
 loop-less : tie.Need-loop-less Inv-loop μ-loop
 loop-less c = omega (arith, c .before .before .before .before .before .before .before .before .before .before .before .before .before .before .before .before .before .before .before .before .before .before .before .before .before .before .before .loop-test .taken)
@@ -88,8 +93,8 @@ loop-again : tie.Need-loop-again Inv-loop μ-loop
 loop-again c =
     let l = c .before .before .before .before .before .before .before .before .before .before .before .before .before .before .before .before .before .before .before .before .before .before .before .before .before .before .before .before .loop in
     let settled = c .before .before .before .before .before .before .before .before .before .before .before .before .before .settle in (
-      omega (arith, c .before .before .before .before .before .before .before .before .before .before .before .before .before .before .before .before .before .before .before .before .before .before .before .before .before .before .before .loop-test .taken),
       advance-more (settled .ensures) (c .if1 .left),
+      omega (arith, c .before .before .before .before .before .before .before .before .before .before .before .before .before .before .before .before .before .before .before .before .before .before .before .before .before .before .before .loop-test .taken),
       settled .kept .1 .1 .1 .1 .1 .1 .1 .1 .1 .0 ∙ l .inv .2,
       settled .kept .1 .1 .1 .1 .1 .1 .1 .1 .1 .1 .0 ∙ l .inv .3,
       settled .kept .1 .1 .1 .1 .1 .1 .1 .1 .1 .1 .1 .0 ∙ l .inv .4,
@@ -100,7 +105,7 @@ returns-2 : tie.Need-returns-2 Inv-loop μ-loop
 returns-2 c =
     let a = c .before .before .before .before .before .before .before .before .before .before .before .before .args in
     let done : c .before .loop .j ≡ a .blocks = omega arith in
-    advanced (subst (λ (t : ℕ). Progress (a .p) (a .blocks) (now (a .reception)) t (c .before .loop .message) (c .before .loop .left)) done (c .before .loop .inv .1))
+    advanced (subst (λ (t : ℕ). Progress (a .p) (a .blocks) (now (a .reception)) t (c .before .loop .message) (c .before .loop .left)) done (c .before .loop .inv .0))
 
 pub read-windows-spec : {M : Type 1} → statement M
 read-windows-spec =
