@@ -1,5 +1,5 @@
 -- `tables::setting` gives 01's table.
-use mathlib.Core.Path.{_≡_, sym, ap}
+use mathlib.Core.Path.{_≡_, ap}
 use native.Mathlib.Omega.{arith}
 use Rattle.code.specs.Settings.{settingOf}
 use Rattle.code.proofs.Settings.{setting-range}
@@ -7,10 +7,14 @@ use Rattle.tables.proofs.setting.Statement.{statement}
 use Rattle.tables.proofs.setting.Tie as tie
 
 returns : tie.Need-returns
-returns c = ap settingOf (sym (c .if1 .taken))
+returns c =
+    let first : 1 ≡ c .before .args .number = omega (arith, setting-range (c .before .args .number) (c .before .pre)) in
+    ap settingOf first
 
 returns-2 : tie.Need-returns-2
-returns-2 c = ap settingOf (sym (c .if2 .taken))
+returns-2 c =
+    let second : 2 ≡ c .before .before .args .number = omega (arith, setting-range (c .before .before .args .number) (c .before .before .pre)) in
+    ap settingOf second
 
 returns-3 : tie.Need-returns-3
 returns-3 c =
