@@ -6,10 +6,9 @@ use mathlib.Core.Bool.{not}
 use mathlib.Core.List.{List}
 use Prim.Native.Nat.{ℕ, _+_, _-_, _*_, _≤_, _<_}
 use native.Mathlib.Omega.{arith}
-use lib.Dec.{T, eqb}
+use lib.Dec.{eqb}
 use lib.ListN.{length, getD}
 use Rattle.algebra.specs.Sum.{power}
-use Rattle.algebra.specs.Polynomial.{value}
 use Rattle.algebra.specs.parts.Values.{valueOf}
 use Rattle.algebra.specs.Weight.{countOf, weight}
 use Rattle.algebra.proofs.Polynomials.{valueOf-ext}

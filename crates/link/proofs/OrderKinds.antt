@@ -21,7 +21,7 @@ use Rattle.code.proofs.Demand3.{at-most-one-fits}
 use Rattle.code.proofs.Search.{fitsTest, fits-of-test, noneFits, no-message-fits}
 use Rattle.question.specs.declared.Answer.{Answer}
 use Rattle.question.specs.Questions.{answer, firstNo, blocksOf, decodingQuestions, encodingQuestions}
-use Rattle.link.specs.Encoding.{Encoded, encodedArea}
+use Rattle.link.specs.Encoding.{encodedArea}
 use Rattle.link.specs.Orders.{Call, encoding, decoding, Order, Promised, Begun, OrderKept}
 use Rattle.link.specs.Decoding.{FrameDecoded, found, none-fits, Decoded, refused, well-formed}
 use Rattle.question.proofs.Answers.{all-yes, yes-all, decoding-yes}

@@ -1,7 +1,6 @@
 -- `question::first_not_below`: where the largest byte is below q, all are.
 use mathlib.Core.Path.{sym}
 use native.Mathlib.Omega.{arith}
-use borrow.Author.Needs.{needs}
 use denote.Ref.{now}
 use Rattle.question.proofs.Answers.{all-symbols}
 use Rattle.question.proofs.first_not_below.Statement.{statement}
