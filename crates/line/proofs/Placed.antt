@@ -9,12 +9,12 @@ use lib.Dec.{leb}
 use lib.ListN.{length, take, drop, length-append, length-map, length-take, length-drop}
 use lib.Seq.{take-at, drop-append-add}
 use borrow.Author.Tests.{le-leb, lt-leb}
-use borrow.Rule.Slice.PartMut.{putMid, post-is}
+use borrow.Rule.Slice.PartMut.{putMid, post-is, same-len-mid}
 use lib.Seq.{drop-drop}
 use Rattle.algebra.specs.Ops.{pick}
 use Rattle.line.specs.Characters.{characterOf, hex}
 use Rattle.line.specs.Answering.{opening, success, Shown}
-use Rattle.line.specs.parts.Writing.{Placed}
+use Rattle.line.specs.parts.Writing.{Placed, Continued}
 use Rattle.line.proofs.Numbers.{length-hex}
 
 pub placed-none : (before : List ℕ) → Placed [] before before
@@ -51,15 +51,20 @@ placed-part done part before area from to start long order room w =
         ap₂ (λ (a b : List ℕ). a ++ (part ++ b)) front (post-is from to area order ∙ rest)
         ∙ sym (append-assoc done part (drop (length (done ++ part)) before))
 
--- A number is the next part.
-pub placed-number : (number : ℕ) (done before area : List ℕ) (from to : ℕ) {part : List ℕ} → length done ≡ from → from ≤ to → to ≤ length before
-    → part ≡ hex (length (take (to - from) (drop from area))) number
-    → Placed done before area → Placed (done ++ hex (to - from) number) before (putMid from (to - from) area part)
-placed-number number done before area from to {part} start order room e w =
-    let whole : length area ≡ length before = placed-long done before area w in
+-- A number is the next part, in all the places from one to another.
+pub placed-number : (number from to : ℕ) (area : List ℕ) {part : List ℕ} → from ≤ to → to ≤ length area
+    → part ≡ hex (length (take (to - from) (drop from area))) number → Continued from (hex (to - from) number) area (putMid from (to - from) area part)
+placed-number number from to area {part} order room e =
     let places : length (take (to - from) (drop from area)) ≡ to - from = omega (arith, length-take (to - from) (drop from area), length-drop from area) in
-    subst (λ (t : List ℕ). Placed (done ++ hex (to - from) number) before (putMid from (to - from) area t)) (sym (e ∙ ap (λ (t : ℕ). hex t number) places))
-    (placed-part done (hex (to - from) number) before area from to start (length-hex (to - from) number) order room w)
+    let digits : part ≡ hex (to - from) number = e ∙ ap (λ (t : ℕ). hex t number) places in
+    let count : length part ≡ to - from = ap length digits ∙ length-hex (to - from) number in
+    record {
+      long = same-len-mid from (to - from) area part (ap length e ∙ length-hex (length (take (to - from) (drop from area))) number);
+      behind = λ {done} {start} ends w.
+          let whole : length area ≡ length start = placed-long done start area w in
+          subst (λ (t : List ℕ). Placed (done ++ t) start (putMid from (to - from) area part)) digits
+          (placed-part done part start area from to ends count order (omega arith) w);
+    }
 
 -- The lengths of output lines, part by part.
 number-next : (done : List ℕ) (count number from : ℕ) → length done ≡ from → length (done ++ hex count number) ≡ from + count

@@ -1,13 +1,13 @@
 // Output lines.
 ghost use mathlib.Core.Path.{_≡_};
 ghost use mathlib.Core.List.{map};
-ghost use Prim.Native.Nat.{_≤_, _<_, _%_};
+ghost use Prim.Native.Nat.{_-_, _≤_, _<_, _%_};
 ghost use lib.ListN.{length};
 ghost use Rattle.field.specs.Symbols.{Symbols};
 ghost use Rattle.question.specs.Questions.{mostInformation};
 ghost use Rattle.line.specs.Characters.{characterOf, hex};
 ghost use Rattle.line.specs.Answering.{refusal, opening, success, Shown};
-ghost use Rattle.line.specs.parts.Writing.{Placed};
+ghost use Rattle.line.specs.parts.Writing.{Placed, Continued};
 use super::characters;
 use question::Answer;
 
@@ -32,6 +32,14 @@ fn write_number(number: u64, area: &mut [u8])
     }
 }
 
+// A number behind what is written: in the places from one up to another.
+fn put_number(number: u64, from: usize, to: usize, output: &mut [u8])
+    requires { ⌜ (from ≤ to) × (to ≤ length (now output)) ⌝ }
+    ensures { λ _. ⌜ Continued from (hex (to - from) number) (now (output .entry)) (now (output .exit)) ⌝ }
+{
+    write_number(number, &mut output[from..to]);
+}
+
 // The symbols of a message, one digit each.
 fn write_symbols(symbols: &[u8], area: &mut [u8])
     requires { ⌜ Symbols 16 (now symbols) × (length (now symbols) ≡ length (now area)) ⌝ }
@@ -52,8 +60,8 @@ pub fn write_refusal(answer: Answer, output: &mut [u8]) -> usize
     if output.len() < 6 {
         return 0;
     }
-    write_number(answer.number as u64, &mut output[0..2]);
-    write_number(answer.place, &mut output[2..6]);
+    put_number(answer.number as u64, 0, 2, output);
+    put_number(answer.place, 2, 6, output);
     6
 }
 
@@ -62,10 +70,10 @@ fn write_opening(count: u32, number: u64, blocks: u64, output: &mut [u8])
     requires { ⌜ 10 ≤ length (now output) ⌝ }
     ensures { λ _. ⌜ Placed (opening count number blocks) (now (output .entry)) (now (output .exit)) ⌝ }
 {
-    write_number(0, &mut output[0..2]);
-    write_number(count as u64, &mut output[2..6]);
-    write_number(number, &mut output[6..7]);
-    write_number(blocks, &mut output[7..10]);
+    put_number(0, 0, 2, output);
+    put_number(count as u64, 2, 6, output);
+    put_number(number, 6, 7, output);
+    put_number(blocks, 7, 10, output);
 }
 
 // The opening "and the message symbols".
