@@ -1,15 +1,14 @@
 -- Digits: values of characters, and runs of them that loops read and write.
 -- Holds: `digit-low`, `digit-number`, `digit-between`, `digit-letter`, `digit-high`, `digit-most`; `character-number`, `character-letter`;
--- `getD-map`; `mapped-none`, `mapped-more`, `mapped-all` (a map, as a loop fills it).
+-- `Filled`, `filled-none`, `filled-more`, `filled-all` (a map, as a loop fills it).
 use mathlib.Core.Path.{_≡_, refl, sym, ap, ap₂, _∙_}
 use mathlib.Core.List.{List, [], _∷_, _++_, map, map-append}
-use Prim.Native.Nat.{ℕ, zero, suc, _+_, _-_, _≤_, _<_}
-use native.Mathlib.Nat.{not-suc-le-zero, le-of-suc-le-suc}
+use Prim.Native.Nat.{ℕ, _+_, _-_, _≤_, _<_}
 use native.Mathlib.Numerals.{add-one}
 use native.Mathlib.Omega.{arith}
 use native.Mathlib.Decide.{decLt, decLe}
-use lib.ListN.{length, getD, take, set}
-use lib.Seq.{take-suc, take-suc-set, take-length}
+use lib.ListN.{length, getD, take, set, length-set}
+use lib.Seq.{take-suc, take-suc-set, take-all}
 use borrow.Author.Tests.{le-leb, lt-leb, lt-ltb, le-ltb}
 use Rattle.line.specs.Characters.{digitOf, characterOf}
 
@@ -68,26 +67,28 @@ pub character-letter : (d : ℕ) → 10 ≤ d → characterOf d ≡ d + 87
 unfolding characterOf
 character-letter d h = simp (le-ltb d 10 h) (omega arith)
 
--- Lists mapped.
-pub getD-map : (f : ℕ → ℕ) (l : List ℕ) (i : ℕ) → i < length l → getD (map f l) i 0 ≡ f (getD l i 0)
-getD-map f [] i h = absurd (not-suc-le-zero h)
-getD-map f (x ∷ l) zero h = refl
-getD-map f (x ∷ l) (suc i) h = getD-map f l i (le-of-suc-le-suc h)
-
 -- A loop that fills an area with the values of f: the first i are written.
-module _ (f : ℕ → ℕ) where
-  pub mapped-none : (from area : List ℕ) → take 0 area ≡ map f (take 0 from)
-  mapped-none from area = refl
+pub record Filled (f : ℕ → ℕ) (from : List ℕ) (i : ℕ) (area : List ℕ) : Type 0 where
+  pub place : i ≤ length from
+  pub long : length area ≡ length from
+  pub written : take i area ≡ map f (take i from)
 
-  pub mapped-more : (from area : List ℕ) (i v : ℕ) → i < length from → i < length area → v ≡ f (getD from i 0) → take i area ≡ map f (take i from)
-      → take (i + 1) (set area i v) ≡ map f (take (i + 1) from)
-  mapped-more from area i v h g e w =
+pub filled-none : {f : ℕ → ℕ} {from area : List ℕ} → length from ≡ length area → Filled f from 0 area
+filled-none e = record { place = omega arith; long = sym e; written = refl }
+
+pub filled-more : {f : ℕ → ℕ} {from area : List ℕ} {i v : ℕ} → Filled f from i area → i < length from → v ≡ f (getD from i 0)
+    → Filled f from (i + 1) (set area i v)
+filled-more {f} {from} {area} {i} {v} w h e = record {
+  place = omega arith;
+  long = length-set area i v ∙ w .long;
+  written =
       ap (λ (t : ℕ). take t (set area i v)) (add-one i)
-      ∙ (take-suc-set area i v g
-      ∙ (ap₂ (λ (a : List ℕ) (b : ℕ). a ++ b ∷ []) w e
+      ∙ (take-suc-set area i v (omega (arith, w .long))
+      ∙ (ap₂ (λ (a : List ℕ) (b : ℕ). a ++ b ∷ []) (w .written) e
       ∙ sym (ap (λ (t : ℕ). map f (take t from)) (add-one i)
-      ∙ (ap (map f) (take-suc from i 0 h) ∙ map-append f (take i from) (getD from i 0 ∷ [])))))
+      ∙ (ap (map f) (take-suc from i 0 h) ∙ map-append f (take i from) (getD from i 0 ∷ [])))));
+}
 
-  pub mapped-all : (from area : List ℕ) (i : ℕ) → i ≡ length from → take i area ≡ map f (take i from) → take (length from) area ≡ map f from
-  mapped-all from area i e w =
-      ap (λ (t : ℕ). take t area) (sym e) ∙ (w ∙ (ap (λ (t : ℕ). map f (take t from)) e ∙ ap (map f) (take-length from)))
+pub filled-all : {f : ℕ → ℕ} {from area : List ℕ} {i : ℕ} → Filled f from i area → length from ≤ i → area ≡ map f from
+filled-all {f} {from} {area} {i} w h =
+    sym (take-all i area (omega (arith, w .long))) ∙ (w .written ∙ ap (map f) (take-all i from h))

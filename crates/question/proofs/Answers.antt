@@ -1,11 +1,11 @@
 -- What the first "no" of a list of questions says, and what a call knows when every answer was "yes".
 -- Holds: `first-yes`, `first-no` (one question), `append-yes`, `append-no` (a list of questions before others), `all-yes`, `yes-all` (number 0 says that every
--- answer was "yes"), `after-first`, `after-frame` (what is left to ask, over the setting in hand); `symbols-start`, `symbols-next`, `symbols-stop`,
--- `symbols-end` (question 4, as a loop asks it), `all-symbols`, `symbols-all`; `Frame`; `FrameYes`, `DecodingYes`, `EncodingYes`, `WindowYes` and `frame-yes`,
+-- answer was "yes"), `after-first`, `after-frame` (what is left to ask, over the setting in hand); `Searched`, `searched-none`, `searched-more`,
+-- `searched-stop`, `searched-all` (question 4, as a loop asks it), `map-same`, `all-symbols`, `symbols-all`; `Frame`; `FrameYes`, `DecodingYes`, `EncodingYes`, `WindowYes` and `frame-yes`,
 -- `decoding-yes`, `encoding-yes`, `display-yes`, `marks-yes`; `message-most`, `transmission-most`, `transmission-small`, `window-small` (the areas' sizes).
 use mathlib.Core.Path.{_≡_, refl, sym, ap, subst, _∙_}
 use mathlib.Core.Bool.{Bool, true, false, not, _&&_}
-use mathlib.Core.List.{List, [], _∷_, _++_}
+use mathlib.Core.List.{List, [], _∷_, _++_, map}
 use Prim.Native.Nat.{ℕ, suc, _+_, _-_, _*_, _/_, _%_, _≤_, _<_}
 use native.Mathlib.Nat.{div-add-mod', le-div-iff-mul-le, le-trans, mul-le-mul, mul-le-mul-right}
 use native.Mathlib.Numerals.{add-one}
@@ -116,30 +116,42 @@ pub after-frame : (number long : ℕ) (p : Setting) (later : Setting → List Qu
 after-frame number long p later known e =
     append-yes (frameQuestions number long) (later (settingOf number)) tt known ∙ ap (λ (t : Setting). firstNo (later t)) (sym e)
 
--- Question 4, as a loop asks it: the symbols before place i are below q.
-pub symbols-start : (q : ℕ) (l : List ℕ) → symbolsTo q l ≡ 0 + symbolsTo q (drop 0 l)
-symbols-start q l = omega arith
+-- Question 4, as a loop asks it of values that it reads by f: those before place i are below q.
+pub record Searched (q : ℕ) (f : ℕ → ℕ) (l : List ℕ) (i : ℕ) : Type 0 where
+  pub place : i ≤ length l
+  pub rest : symbolsTo q (map f l) ≡ i + symbolsTo q (map f (drop i l))
 
-pub symbols-next : (q : ℕ) (l : List ℕ) (i : ℕ) → i < length l → getD l i 0 < q → i + symbolsTo q (drop i l) ≡ i + 1 + symbolsTo q (drop (i + 1) l)
-unfolding symbolsTo
-symbols-next q l i h b =
-    let more : symbolsTo q (drop i l) ≡ suc (symbolsTo q (drop (suc i) l)) =
-    ap (symbolsTo q) (drop-cons l i 0 h) ∙ ap (λ (t : Bool). pick t (suc (symbolsTo q (drop (suc i) l))) 0) (lt-ltb (getD l i 0) q b) in
-    let place : symbolsTo q (drop (i + 1) l) ≡ symbolsTo q (drop (suc i) l) = ap (λ (t : ℕ). symbolsTo q (drop t l)) (add-one i) in
-    omega arith
+pub searched-none : {q : ℕ} {f : ℕ → ℕ} {l : List ℕ} → Searched q f l 0
+searched-none = record { place = omega arith; rest = omega arith }
 
-pub symbols-stop : (q : ℕ) (l : List ℕ) (i : ℕ) → i < length l → q ≤ getD l i 0 → i + symbolsTo q (drop i l) ≡ i
+-- The value in place i is looked at.
+searched-at : {q : ℕ} {f : ℕ → ℕ} {l : List ℕ} {i : ℕ} {t : Bool} → Searched q f l i → i < length l → ltb (f (getD l i 0)) q ≡ t
+    → symbolsTo q (map f l) ≡ i + pick t (suc (symbolsTo q (map f (drop (suc i) l)))) 0
 unfolding symbolsTo
-symbols-stop q l i h b =
-    let none : symbolsTo q (drop i l) ≡ 0 =
-    ap (symbolsTo q) (drop-cons l i 0 h) ∙ ap (λ (t : Bool). pick t (suc (symbolsTo q (drop (suc i) l))) 0) (le-ltb (getD l i 0) q b) in
-    omega arith
+searched-at {q} {f} {l} {i} s h e =
+    s .rest ∙ ap (λ (t : ℕ). i + t)
+    (ap (λ (t : List ℕ). symbolsTo q (map f t)) (drop-cons l i 0 h) ∙ ap (λ (t : Bool). pick t (suc (symbolsTo q (map f (drop (suc i) l)))) 0) e)
 
-pub symbols-end : (q : ℕ) (l : List ℕ) (i : ℕ) → i ≡ length l → i + symbolsTo q (drop i l) ≡ i
+pub searched-more : {q : ℕ} {f : ℕ → ℕ} {l : List ℕ} {i : ℕ} → Searched q f l i → i < length l → f (getD l i 0) < q → Searched q f l (i + 1)
+searched-more {q} {f} {l} {i} s h b =
+    let more = searched-at s h (lt-ltb (f (getD l i 0)) q b) in
+    let next : symbolsTo q (map f (drop (i + 1) l)) ≡ symbolsTo q (map f (drop (suc i) l)) = ap (λ (t : ℕ). symbolsTo q (map f (drop t l))) (add-one i) in
+    record { place = omega arith; rest = omega arith }
+
+pub searched-stop : {q : ℕ} {f : ℕ → ℕ} {l : List ℕ} {i : ℕ} → Searched q f l i → i < length l → q ≤ f (getD l i 0) → i ≡ symbolsTo q (map f l)
+searched-stop {q} {f} {l} {i} s h b = let none = searched-at s h (le-ltb (f (getD l i 0)) q b) in omega arith
+
+pub searched-all : {q : ℕ} {f : ℕ → ℕ} {l : List ℕ} {i : ℕ} → Searched q f l i → length l ≤ i → i ≡ symbolsTo q (map f l)
 unfolding symbolsTo
-symbols-end q l i e =
-    let none : symbolsTo q (drop i l) ≡ 0 = ap (symbolsTo q) (ap (λ (t : ℕ). drop t l) e ∙ drop-length l) in
-    omega arith
+searched-all {q} {f} {l} {i} s h =
+    let end : i ≡ length l = omega (arith, s .place) in
+    let none : symbolsTo q (map f (drop i l)) ≡ 0 = ap (λ (t : List ℕ). symbolsTo q (map f t)) (ap (λ (t : ℕ). drop t l) end ∙ drop-length l) in
+    omega (arith, s .rest)
+
+-- Bytes that are read as they stand.
+pub map-same : (l : List ℕ) → map (λ (x : ℕ). x) l ≡ l
+map-same [] = refl
+map-same (x ∷ l) = ap (λ (t : List ℕ). x ∷ t) (map-same l)
 
 -- All of them are symbols.
 pub all-symbols : (q : ℕ) (l : List ℕ) → Symbols q l → symbolsTo q l ≡ length l

@@ -1,5 +1,4 @@
 -- `line::writing::put_number`: the digits come home to their places.
-use native.Mathlib.Omega.{arith}
 use denote.Ref.{now}
 use borrow.Author.Needs.{needs}
 use Rattle.line.proofs.Placed.{placed-number}
