@@ -1,7 +1,6 @@
--- What the questions of a line say. Holds: `head-of`, `after-setting` (questions 1, 3 and 10 over the numbers in hand); `characters-yes`, `HeadYes`,
+-- What the questions of a line say. Holds: `head-of`, `after-setting` (questions 1, 3 and 10 over the numbers in hand); `characters-least`, `HeadYes`,
 -- `head-yes` (a line whose questions got "yes"); `after-head`, `in-head` (question 4 is the last).
-use mathlib.Core.Path.{_≡_, sym, ap₂, _∙_}
-use mathlib.Core.Bool.{true}
+use mathlib.Core.Path.{_≡_, sym, ap, ap₂, _∙_}
 use mathlib.Core.List.{List, [], _∷_, _++_}
 use Prim.Native.Nat.{ℕ, _+_, _-_, _*_, _≤_}
 use lib.Dec.{T, eqb, leb, leb→le, eqb→eq}
@@ -9,8 +8,9 @@ use lib.ListN.{length}
 use Rattle.algebra.proofs.Tests.{and-left, and-right}
 use Rattle.code.specs.declared.Setting.{Setting}
 use Rattle.code.specs.Settings.{isSetting, settingOf}
+use Rattle.question.specs.declared.Answer.{Answer}
 use Rattle.question.specs.Questions.{Question, ask, firstNo, mostBlocks, symbolQuestion}
-use Rattle.question.proofs.Answers.{all-yes, append-yes, append-no, after-first}
+use Rattle.question.proofs.Answers.{Left, all-yes, append-yes, append-no, after-first}
 use Rattle.line.specs.Questions.{settingIn, blocksIn, symbolsIn, digitsTo, mostCharacters, characterQuestions, lengthQuestion, headQuestions, HoldsFrame, lineQuestions}
 
 -- Questions 1, 3 and 10 over the setting's number, T and the count of the digits left; 3 and 10 over the setting.
@@ -21,22 +21,20 @@ abbrev pub headOf : ℕ → ℕ → ℕ → List Question
 headOf number blocks left = ask 1 (isSetting number) ∷ headLater blocks left (settingOf number)
 
 pub head-of : (line : List ℕ) (number blocks : ℕ) → number ≡ settingIn line → blocks ≡ blocksIn line
-    → firstNo (headQuestions line) ≡ firstNo (headOf number blocks (length line - 4))
-head-of line number blocks e b = sym (ap₂ (λ (s t : ℕ). firstNo (headOf s t (length line - 4))) e b)
+    → Left (headQuestions line) (headOf number blocks (length line - 4))
+head-of line number blocks e b = record { same = sym (ap₂ (λ (s t : ℕ). firstNo (headOf s t (length line - 4))) e b) }
 
 -- The setting's number is known to be one.
-pub after-setting : (line : List ℕ) (number blocks : ℕ) (p : Setting) → number ≡ settingIn line → blocks ≡ blocksIn line → isSetting number ≡ true → p ≡ settingOf number
-    → firstNo (headQuestions line) ≡ firstNo (headLater blocks (length line - 4) p)
+pub after-setting : (line : List ℕ) (number blocks : ℕ) (p : Setting) → number ≡ settingIn line → blocks ≡ blocksIn line
+    → T (isSetting number) → p ≡ settingOf number → Left (headQuestions line) (headLater blocks (length line - 4) p)
 after-setting line number blocks p e b known s =
-    head-of line number blocks e b ∙ after-first number p (headLater blocks (length line - 4)) known s
+    record { same = head-of line number blocks e b .same ∙ after-first number p (headLater blocks (length line - 4)) known s .same }
 
--- Questions 11 and 9 got "yes".
-pub characters-yes : (line : List ℕ) → firstNo (characterQuestions line) .number ≡ 0 → (length line ≤ mostCharacters) × (4 ≤ length line)
-characters-yes line e =
-    let all = all-yes (characterQuestions line) tt e in (
-      leb→le (length line) mostCharacters (all .0),
-      leb→le 4 (length line) (and-left (leb 4 (length line)) (eqb (digitsTo line) (length line)) (all .1 .0)),
-    )
+-- Questions 11 and 9 got "yes", with the answer r.
+pub characters-least : (line : List ℕ) {r : Answer} → r ≡ firstNo (characterQuestions line) → r .number ≡ 0 → 4 ≤ length line
+characters-least line asked e =
+    let all = all-yes (characterQuestions line) tt (ap (λ (t : Answer). t .number) (sym asked) ∙ e) in
+    leb→le 4 (length line) (and-left (leb 4 (length line)) (eqb (digitsTo line) (length line)) (all .1 .0))
 
 -- Questions 11, 9, 1, 3 and 10 got "yes".
 pub record HeadYes (line : List ℕ) : Type 0 where

@@ -25,16 +25,13 @@ use Rattle.code.proofs.Settings.{soundOf, information-fits, Sizes, sizesOf, lar
 use Rattle.question.specs.declared.Answer.{Answer}
 use Rattle.question.specs.Questions.{Question, ask, answer, firstNo, mostBlocks, mostSymbols, mostInformation, blocksOf, symbolQuestion, transmissionQuestion, frameQuestions, decodingQuestions}
 use Rattle.link.specs.Decoding.{FrameDecoded, found, none-fits, DecodedIn, Decoded, refused as decoding-refused, well-formed as decoding-well-formed}
-use Rattle.question.proofs.Answers.{first-no, all-yes, append-yes, message-most, transmission-most}
+use Rattle.question.proofs.Answers.{true-of, first-no, all-yes, append-yes, message-most, transmission-most}
 use Rattle.link.proofs.Determined.{parts-long, message-front}
 use Rattle.line.specs.Characters.{digitOf}
 use Rattle.line.specs.Questions.{mostCharacters, settingIn, blocksIn, symbolsIn, digitsTo, characterQuestions, headQuestions, HoldsFrame, lineQuestions}
 use Rattle.line.specs.Answering.{refusal, success, outputLine, messageLength, messageIn, Answers, refused, well-formed, AnswerShown, Working, working, hasRoom, roomIn, RoomForAll, FrameLeft, Answered, no-frame, no-room, decoded}
 use Rattle.line.proofs.Asked.{HeadYes, head-yes, after-head, in-head}
 use Rattle.line.proofs.Placed.{six, success-long}
-
-true-of : (t : Bool) → T t → t ≡ true
-true-of true h = refl
 
 -- A frame of T+m blocks of n symbols.
 whole-frame : (T m n : ℕ) → 0 < n → ((T + m) * n % n ≡ 0) × ((T + m) * n / n ≡ T + m)

@@ -1,8 +1,10 @@
 -- What the first "no" of a list of questions says, and what a call knows when every answer was "yes".
--- Holds: `first-yes`, `first-no` (one question), `append-yes`, `append-no` (a list of questions before others), `all-yes`, `yes-all` (number 0 says that every
--- answer was "yes"), `after-first`, `after-frame` (what is left to ask, over the setting in hand); `Searched`, `searched-none`, `searched-more`,
--- `searched-stop`, `searched-all` (question 4, as a loop asks it), `map-same`, `all-symbols`, `symbols-all`; `Frame`; `FrameYes`, `DecodingYes`, `EncodingYes`, `WindowYes` and `frame-yes`,
--- `decoding-yes`, `encoding-yes`, `display-yes`, `marks-yes`; `message-most`, `transmission-most`, `transmission-small`, `window-small` (the areas' sizes).
+-- Holds: `true-of`; `first-yes`, `first-no` (one question), `append-yes`, `append-no` (a list of questions before others), `all-yes`, `yes-all` (number 0
+-- says that every answer was "yes"); `Left`, `left-all`, `left-yes`, `says-no`, `says-yes`, `first-says-no`, `first-left`, `after-first`, `after-frame` (a
+-- call that asks in order), `setting-known`, `setting-sizes`; `Searched`, `searched-none`, `searched-more`, `searched-stop`, `searched-all` (question 4, as
+-- a loop asks it), `map-same`, `all-symbols`, `symbols-all`; `Frame`; `FrameYes`, `DecodingYes`, `EncodingYes`, `WindowYes` and `frame-yes`,
+-- `frame-of-setting`, `decoding-yes`, `encoding-yes`, `display-yes`, `marks-yes`; `message-most`, `transmission-most`, `transmission-small`, `window-small`
+-- (the areas' sizes).
 use mathlib.Core.Path.{_≡_, refl, sym, ap, subst, _∙_}
 use mathlib.Core.Bool.{Bool, true, false, not, _&&_}
 use mathlib.Core.List.{List, [], _∷_, _++_, map}
@@ -13,7 +15,7 @@ use native.Mathlib.Omega.{arith}
 use lib.Dec.{T, eqb, leb, ltb, leb→le, ltb→lt, eqb→eq}
 use lib.ListN.{length, getD, drop}
 use lib.Seq.{drop-cons, drop-length}
-use borrow.Author.Tests.{eq-eqb, lt-ltb, le-ltb, ltb-true}
+use borrow.Author.Tests.{eq-eqb, lt-ltb, le-ltb, ltb-true, not-false}
 use Rattle.algebra.specs.Ops.{pick}
 use Rattle.algebra.proofs.Tests.{and-left, and-right}
 use Rattle.field.specs.Symbols.{Symbols}
@@ -22,7 +24,11 @@ use Rattle.code.specs.declared.Setting.{Setting}
 use Rattle.code.specs.Settings.{isSetting, settingOf}
 use Rattle.code.specs.Windows.{windowLength, Message}
 use Rattle.code.proofs.Settings.{largestOf, Sizes, sizesOf}
+use Rattle.question.specs.declared.Answer.{Answer}
 use Rattle.question.specs.Questions.{Question, ask, answer, symbolQuestion, transmissionQuestion, firstNo, mostBlocks, mostSymbols, mostInformation, blocksOf, symbolsTo, frameQuestions, decodingQuestions, encodingQuestions, displayQuestions, marksQuestions}
+
+pub true-of : (t : Bool) → T t → t ≡ true
+true-of true h = refl
 
 -- One question: "yes" asks the rest, "no" is the answer.
 pub first-yes : (x : Question) (rest : List Question) → x .holds ≡ true → firstNo (x ∷ rest) ≡ firstNo rest
@@ -105,16 +111,52 @@ encodingLater message transmissionRoom p =
 abbrev pub displayLater : ℕ → ℕ → Setting → List Question
 displayLater long j p = ask 12 (ltb j (blocksOf p long)) ∷ []
 
--- Question 1 got "yes", and p is the setting.
-pub after-first : (number : ℕ) (p : Setting) (later : Setting → List Question) → isSetting number ≡ true → p ≡ settingOf number
-    → firstNo (ask 1 (isSetting number) ∷ later (settingOf number)) ≡ firstNo (later p)
-after-first number p later known e = first-yes (ask 1 (isSetting number)) (later (settingOf number)) known ∙ ap (λ (t : Setting). firstNo (later t)) (sym e)
+-- A call that asks in order: of the questions `all` those before `rest` got "yes".
+pub record Left (all rest : List Question) : Type 0 where
+  pub same : firstNo all ≡ firstNo rest
 
--- Questions 1 to 3 got "yes", and p is the setting.
-pub after-frame : (number long : ℕ) (p : Setting) (later : Setting → List Question) → firstNo (frameQuestions number long) .number ≡ 0 → p ≡ settingOf number
-    → firstNo (frameQuestions number long ++ later (settingOf number)) ≡ firstNo (later p)
-after-frame number long p later known e =
-    append-yes (frameQuestions number long) (later (settingOf number)) tt known ∙ ap (λ (t : Setting). firstNo (later t)) (sym e)
+pub left-all : (all : List Question) → Left all all
+left-all all = record { same = refl }
+
+-- "Yes" leaves the rest; "no" is the call's answer; where nothing is left, "yes" is.
+pub left-yes : {all rest : List Question} {x : Question} → Left all (x ∷ rest) → x .holds ≡ true → Left all rest
+left-yes {all} {rest} {x} l e = record { same = l .same ∙ first-yes x rest e }
+
+pub says-no : {all rest : List Question} {x : Question} {r : Answer} → Left all (x ∷ rest) → x .holds ≡ false → r ≡ answer (x .number) (x .place) 0
+    → r ≡ firstNo all
+says-no {all} {rest} {x} l e a = a ∙ sym (l .same ∙ first-no x rest e)
+
+pub says-yes : {all : List Question} {r : Answer} → Left all [] → r ≡ answer 0 0 0 → r ≡ firstNo all
+says-yes l a = a ∙ sym (l .same)
+
+-- The questions a were asked before b by another call, with the answer r.
+module _ (a b : List Question) {r : Answer} (asked : r ≡ firstNo a) where
+  pub first-says-no : (r .number ≡ 0 → ⊥) → r ≡ firstNo (a ++ b)
+  first-says-no h = asked ∙ sym (append-no a b (λ e. h (ap (λ (t : Answer). t .number) asked ∙ e)))
+
+  pub first-left : T (numbered a) → r .number ≡ 0 → Left (a ++ b) b
+  first-left n e = record { same = append-yes a b n (ap (λ (t : Answer). t .number) (sym asked) ∙ e) }
+
+-- Question 1, or 1 to 3, got "yes", and p is the setting: what is left is asked of p.
+setting-left : {all : List Question} (number : ℕ) (p : Setting) (later : Setting → List Question) → p ≡ settingOf number → Left all (later (settingOf number))
+    → Left all (later p)
+setting-left number p later e l = record { same = l .same ∙ ap (λ (t : Setting). firstNo (later t)) (sym e) }
+
+pub after-first : (number : ℕ) (p : Setting) (later : Setting → List Question) → T (isSetting number) → p ≡ settingOf number
+    → Left (ask 1 (isSetting number) ∷ later (settingOf number)) (later p)
+after-first number p later known e =
+    setting-left number p later e (left-yes (left-all (ask 1 (isSetting number) ∷ later (settingOf number))) (true-of (isSetting number) known))
+
+pub after-frame : (number long : ℕ) (p : Setting) (later : Setting → List Question) {r : Answer} → r ≡ firstNo (frameQuestions number long) → r .number ≡ 0
+    → p ≡ settingOf number → Left (frameQuestions number long ++ later (settingOf number)) (later p)
+after-frame number long p later asked zero e = setting-left number p later e (first-left (frameQuestions number long) (later (settingOf number)) asked tt zero)
+
+-- What the test of question 1 says.
+pub setting-known : (number : ℕ) {t : Bool} → t ≡ isSetting number → not t ≡ false → T (isSetting number)
+setting-known number {t} e h = subst T (sym (not-false t h) ∙ e) tt
+
+pub setting-sizes : (number : ℕ) (p : Setting) → T (isSetting number) → p ≡ settingOf number → Sizes p
+setting-sizes number p known e = subst Sizes (sym e) (sizesOf number known)
 
 -- Question 4, as a loop asks it of values that it reads by f: those before place i are below q.
 pub record Searched (q : ℕ) (f : ℕ → ℕ) (l : List ℕ) (i : ℕ) : Type 0 where
@@ -195,10 +237,13 @@ pub record FrameYes (number long : ℕ) : Type 0 where
   pub setting : T (isSetting number)
   pub frame : Frame (settingOf number) long
 
-pub frame-yes : (number long : ℕ) → firstNo (frameQuestions number long) .number ≡ 0 → FrameYes number long
-frame-yes number long e =
-    let all = all-yes (frameQuestions number long) tt e in
+pub frame-yes : (number long : ℕ) {r : Answer} → r ≡ firstNo (frameQuestions number long) → r .number ≡ 0 → FrameYes number long
+frame-yes number long asked e =
+    let all = all-yes (frameQuestions number long) tt (ap (λ (t : Answer). t .number) (sym asked) ∙ e) in
     record { setting = all .0; frame = frame-of (settingOf number) long (sizesOf number (all .0)) (all .1 .0) (all .1 .1 .0) }
+
+pub frame-of-setting : {number long : ℕ} {p : Setting} → FrameYes number long → p ≡ settingOf number → Frame p long
+frame-of-setting {number} {long} {p} known e = subst (λ (t : Setting). Frame t long) (sym e) (known .frame)
 
 -- The areas that a frame of any setting needs, over the setting p in hand.
 pub message-most : (number : ℕ) (p : Setting) (blocks : ℕ) → T (isSetting number) → p ≡ settingOf number → blocks ≤ mostBlocks → blocks * p .k ≤ mostInformation
@@ -279,24 +324,22 @@ pub record WindowYes (number long j : ℕ) : Type 0 where
   pub frame : Frame (settingOf number) long
   pub inside : j < blocksOf (settingOf number) long
 
+window-of : (number long j : ℕ) → T (isSetting number) → T (eqb (long % settingOf number .n) 0 && leb (windowLength (settingOf number)) long)
+    → T (leb (blocksOf (settingOf number) long) mostBlocks) → T (ltb j (blocksOf (settingOf number) long)) → WindowYes number long j
+window-of number long j known shape few inside = record {
+  setting = known;
+  frame = frame-of (settingOf number) long (sizesOf number known) shape few;
+  inside = ltb→lt j (blocksOf (settingOf number) long) inside;
+}
+
 pub display-yes : (number long j : ℕ) → firstNo (displayQuestions number long j) .number ≡ 0 → WindowYes number long j
 display-yes number long j e =
     let all = all-yes (displayQuestions number long j) tt e in
-    record {
-      setting = all .0;
-      frame = frame-of (settingOf number) long (sizesOf number (all .0)) (all .1 .0) (all .1 .1 .0);
-      inside = ltb→lt j (blocksOf (settingOf number) long) (all .1 .1 .1 .0);
-    }
+    window-of number long j (all .0) (all .1 .0) (all .1 .1 .0) (all .1 .1 .1 .0)
 
 -- What marking knows when its questions got "yes".
 pub marks-yes : (number receptionLong transmissionLong j : ℕ) → firstNo (marksQuestions number receptionLong transmissionLong j) .number ≡ 0
     → WindowYes number receptionLong j × (receptionLong ≡ transmissionLong)
 marks-yes number receptionLong transmissionLong j e =
-    let all = all-yes (marksQuestions number receptionLong transmissionLong j) tt e in (
-      record {
-        setting = all .0;
-        frame = frame-of (settingOf number) receptionLong (sizesOf number (all .0)) (all .1 .0) (all .1 .1 .0);
-        inside = ltb→lt j (blocksOf (settingOf number) receptionLong) (all .1 .1 .1 .0);
-      },
-      eqb→eq receptionLong transmissionLong (all .1 .1 .1 .1 .0),
-    )
+    let all = all-yes (marksQuestions number receptionLong transmissionLong j) tt e in
+    (window-of number receptionLong j (all .0) (all .1 .0) (all .1 .1 .0) (all .1 .1 .1 .0), eqb→eq receptionLong transmissionLong (all .1 .1 .1 .1 .0))

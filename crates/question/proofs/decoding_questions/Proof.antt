@@ -1,118 +1,92 @@
 -- `question::decoding_questions` asks 1 to 3, then 4, 5 and 6 in order.
-use mathlib.Core.Path.{_≡_, sym, ap, subst, _∙_}
-use mathlib.Core.List.{_++_}
+use mathlib.Core.Path.{sym, ap, _∙_}
+use Prim.Native.Nat.{ℕ}
 use native.Mathlib.Omega.{arith}
 use denote.Ref.{now}
-use lib.ListN.{length}
+use lib.ListN.{length, drop}
 use borrow.Author.Tests.{eq-eqb, ne-eqb, le-leb, lt-leb}
-use Rattle.code.specs.declared.Setting.{Setting}
 use Rattle.code.specs.Settings.{settingOf}
-use Rattle.question.specs.Questions.{firstNo, frameQuestions}
-use Rattle.question.proofs.Answers.{append-no, after-frame, decodingLater, FrameYes, frame-yes, Frame, message-most, transmission-most}
+use Rattle.question.specs.Questions.{answer, frameQuestions, decodingQuestions}
+use Rattle.question.proofs.Answers.{Left, left-yes, says-no, says-yes, first-says-no, after-frame, decodingLater, FrameYes, frame-yes, frame-of-setting, Frame, message-most, transmission-most}
 use Rattle.question.proofs.decoding_questions.Statement.{statement}
 use Rattle.question.proofs.decoding_questions.Tie as tie
 
-frame-questions-requires : tie.Need-frame-questions-requires
-frame-questions-requires c κs = tt
-
 returns : tie.Need-returns
 returns c =
-    c .before .before .frame-questions .ensures
-    ∙ sym (append-no (frameQuestions (c .before .before .before .before .args .number) (length (now (c .before .before .before .before .args .reception))))
-    (decodingLater (now (c .before .before .before .before .args .reception)) (c .before .before .before .before .args .message-room) (c .before .before .before .before .args .transmission-room) (settingOf (c .before .before .before .before .args .number)))
-    (λ e. c .if1 .taken (ap (λ a. a .number) (c .before .before .frame-questions .ensures) ∙ e)))
-
--- Questions 1 to 3 got "yes".
-frame-number : (c : tie.Else1) → firstNo (frameQuestions (c .before .before .before .before .args .number) (length (now (c .before .before .before .before .args .reception)))) .number ≡ 0
-frame-number c = ap (λ a. a .number) (sym (c .before .before .frame-questions .ensures)) ∙ c .if1 .left
+    let a = c .before .before .before .before .args in
+    first-says-no (frameQuestions (a .number) (length (now (a .reception))))
+    (decodingLater (now (a .reception)) (a .message-room) (a .transmission-room) (settingOf (a .number)))
+    (c .before .before .frame-questions .ensures) (c .if1 .taken)
 
 asked : (c : tie.Else1) → FrameYes (c .before .before .before .before .args .number) (length (now (c .before .before .before .before .args .reception)))
-asked c = frame-yes (c .before .before .before .before .args .number) (length (now (c .before .before .before .before .args .reception))) (frame-number c)
-
-setting-requires : tie.Need-setting-requires
-setting-requires c κs = asked c .setting
+asked c = frame-yes _ _ (c .before .before .frame-questions .ensures) (c .if1 .left)
 
 frame : (c : tie.After-setting) → Frame (c .setting .result) (length (now (c .before .before .before .before .before .args .reception)))
-frame c = subst (λ (p : Setting). Frame p (length (now (c .before .before .before .before .before .args .reception)))) (sym (c .setting .ensures)) (asked (c .before) .frame)
+frame c = frame-of-setting (asked (c .before)) (c .setting .ensures)
 
--- What is left of the questions, over the setting in hand.
-later : (c : tie.After-setting)
-    → firstNo (frameQuestions (c .before .before .before .before .before .args .number) (length (now (c .before .before .before .before .before .args .reception)))
-    ++ decodingLater (now (c .before .before .before .before .before .args .reception)) (c .before .before .before .before .before .args .message-room) (c .before .before .before .before .before .args .transmission-room) (settingOf (c .before .before .before .before .before .args .number)))
-    ≡ firstNo (decodingLater (now (c .before .before .before .before .before .args .reception)) (c .before .before .before .before .before .args .message-room) (c .before .before .before .before .before .args .transmission-room) (c .setting .result))
-later c =
-    after-frame (c .before .before .before .before .before .args .number) (length (now (c .before .before .before .before .before .args .reception))) (c .setting .result)
-    (decodingLater (now (c .before .before .before .before .before .args .reception)) (c .before .before .before .before .before .args .message-room) (c .before .before .before .before .before .args .transmission-room)) (frame-number (c .before)) (c .setting .ensures)
+-- What is left after questions 1 to 3 and some more, over the setting in hand.
+abbrev After : tie.After-setting → ℕ → Type 0
+After c more =
+    let a = c .before .before .before .before .before .args in
+    Left (decodingQuestions (a .number) (now (a .reception)) (a .message-room) (a .transmission-room))
+    (drop more (decodingLater (now (a .reception)) (a .message-room) (a .transmission-room) (c .setting .result)))
 
-first-not-below-requires : tie.Need-first-not-below-requires
-first-not-below-requires c κs = tt
-
-no-requires : tie.Need-no-requires
-no-requires c κs = tt
+three : (c : tie.After-setting) → After c 0
+three c =
+    let a = c .before .before .before .before .before .args in
+    after-frame (a .number) (length (now (a .reception))) (c .setting .result) (decodingLater (now (a .reception)) (a .message-room) (a .transmission-room))
+    (c .before .before .before .frame-questions .ensures) (c .before .if1 .left) (c .setting .ensures)
 
 returns-2 : tie.Need-returns-2
 returns-2 c =
-    c .no .ensures ∙ sym (later (c .before .before .before) ∙ simp (sym (c .before .before .first-not-below .ensures), ne-eqb _ _ (c .before .if2 .taken)))
+    let e = c .before .before .first-not-below .ensures in
+    says-no (three (c .before .before .before)) (ne-eqb _ _ (λ z. c .before .if2 .taken (e ∙ z))) (c .no .ensures ∙ ap (λ (t : ℕ). answer 4 t 0) e)
 
-div-blocks : tie.Need-div-blocks
-div-blocks c = frame (c .before .before) .sizes .symbols
-
-sub-blocks : tie.Need-sub-blocks
-sub-blocks c = omega (arith, frame (c .before .before) .blocks)
+four : (c : tie.Else2) → After (c .before .before) 1
+four c = left-yes (three (c .before .before)) (eq-eqb _ _ (sym (c .before .first-not-below .ensures) ∙ c .if2 .left))
 
 mul-if3 : tie.Need-mul-if3
-mul-if3 c = omega (arith, message-most (c .before .before .before .before .before .before .before .args .number) (c .before .before .setting .result) _ (asked (c .before .before .before) .setting) (c .before .before .setting .ensures) (frame (c .before .before) .most))
-
-no-requires-2 : tie.Need-no-requires-2
-no-requires-2 c κs = tt
+mul-if3 c =
+    let p = c .before .before in
+    let number = p .before .before .before .before .before .args .number in
+    omega (arith, message-most number (p .setting .result) _ (asked (p .before) .setting) (p .setting .ensures) (frame p .most))
 
 returns-3 : tie.Need-returns-3
-returns-3 c =
-    c .no2 .ensures
-    ∙ sym (later (c .before .before .before .before) ∙ simp (sym (c .before .before .before .first-not-below .ensures), eq-eqb _ _ (c .before .before .if2 .left), lt-leb _ _ (c .before .if3 .taken)))
+returns-3 c = says-no (four (c .before .before)) (lt-leb _ _ (c .before .if3 .taken)) (c .no2 .ensures)
 
-add-if4 : tie.Need-add-if4
-add-if4 c = omega (arith, frame (c .before .before .before) .most, frame (c .before .before .before) .sizes .memory-most)
+five : (c : tie.Else3) → After (c .before .before .before) 2
+five c = left-yes (four (c .before)) (le-leb _ _ (c .if3 .left))
 
 mul-if4 : tie.Need-mul-if4
-mul-if4 c = omega (arith, transmission-most (c .before .before .before .before .before .before .before .before .args .number) (c .before .before .before .setting .result) _ (asked (c .before .before .before .before) .setting) (c .before .before .before .setting .ensures) (frame (c .before .before .before) .most))
-
-no-requires-3 : tie.Need-no-requires-3
-no-requires-3 c κs = tt
+mul-if4 c =
+    let p = c .before .before .before in
+    let number = p .before .before .before .before .before .args .number in
+    omega (arith, transmission-most number (p .setting .result) _ (asked (p .before) .setting) (p .setting .ensures) (frame p .most))
 
 returns-4 : tie.Need-returns-4
-returns-4 c =
-    c .no3 .ensures
-    ∙ sym (later (c .before .before .before .before .before)
-    ∙ simp (sym (c .before .before .before .before .first-not-below .ensures), eq-eqb _ _ (c .before .before .before .if2 .left), le-leb _ _ (c .before .before .if3 .left), lt-leb _ _ (c .before .if4 .taken)))
-
-yes-requires : tie.Need-yes-requires
-yes-requires c κs = tt
+returns-4 c = says-no (five (c .before .before)) (lt-leb _ _ (c .before .if4 .taken)) (c .no3 .ensures)
 
 returns-5 : tie.Need-returns-5
-returns-5 c =
-    c .yes .ensures
-    ∙ sym (later (c .before .before .before .before .before)
-    ∙ simp (sym (c .before .before .before .before .first-not-below .ensures), eq-eqb _ _ (c .before .before .before .if2 .left), le-leb _ _ (c .before .before .if3 .left), le-leb _ _ (c .before .if4 .left)))
+returns-5 c = says-yes (left-yes (five (c .before .before)) (le-leb _ _ (c .before .if4 .left))) (c .yes .ensures)
 
 pub decoding-questions-spec : {M : Type 1} → statement M
 decoding-questions-spec =
     tie.close
     (tie.spec
-    frame-questions-requires
+    (λ c κs. tt)
     returns
-    setting-requires
-    first-not-below-requires
-    no-requires
+    (λ c κs. asked c .setting)
+    (λ c κs. tt)
+    (λ c κs. tt)
     returns-2
-    div-blocks
-    sub-blocks
+    (λ c. frame (c .before .before) .sizes .symbols)
+    (λ c. omega (arith, frame (c .before .before) .blocks))
     mul-if3
-    no-requires-2
+    (λ c κs. tt)
     returns-3
-    add-if4
+    (λ c. omega (arith, frame (c .before .before .before) .most, frame (c .before .before .before) .sizes .memory-most))
     mul-if4
-    no-requires-3
+    (λ c κs. tt)
     returns-4
-    yes-requires
+    (λ c κs. tt)
     returns-5)

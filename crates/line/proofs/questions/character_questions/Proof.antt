@@ -1,64 +1,55 @@
 -- `line::questions::character_questions` asks 11, then 9.
-use mathlib.Core.Path.{sym, _∙_}
-use Prim.Native.Nat.{_≤_, _<_}
-use native.Mathlib.Omega.{arith}
-use borrow.Author.Needs.{needs}
+use mathlib.Core.Path.{sym, ap, _∙_}
+use Prim.Native.Nat.{ℕ}
 use borrow.Author.Tests.{le-leb, lt-leb, eq-eqb, ne-eqb}
 use denote.Ref.{now}
-use lib.ListN.{length}
-use Rattle.line.specs.Questions.{mostCharacters}
+use lib.ListN.{drop}
+use Rattle.question.specs.Questions.{answer}
+use Rattle.question.proofs.Answers.{Left, left-all, left-yes, says-no, says-yes}
+use Rattle.line.specs.Questions.{characterQuestions}
 use Rattle.line.proofs.questions.character_questions.Statement.{statement}
 use Rattle.line.proofs.questions.character_questions.Tie as tie
 
-no-requires : tie.Need-no-requires
-no-requires c κs = search needs
+abbrev After : tie.Start → ℕ → Type 0
+After c more = Left (characterQuestions (now (c .args .line))) (drop more (characterQuestions (now (c .args .line))))
+
+none : (c : tie.Start) → After c 0
+none c = left-all (characterQuestions (now (c .args .line)))
 
 returns : tie.Need-returns
-returns c =
-    let long : mostCharacters < length (now (c .before .before .before .args .line)) = omega (arith, c .before .if1 .taken) in
-    c .no .ensures ∙ sym (simp (lt-leb _ _ long))
+returns c = says-no (none (c .before .before .before)) (lt-leb _ _ (c .before .if1 .taken)) (c .no .ensures)
 
--- Question 11 got "yes".
-few : (c : tie.Else1) → length (now (c .before .before .args .line)) ≤ mostCharacters
-few c = omega (arith, c .if1 .left)
-
-first-wrong-requires : tie.Need-first-wrong-requires
-first-wrong-requires c κs = search needs
-
-no-requires-2 : tie.Need-no-requires-2
-no-requires-2 c κs = search needs
+eleven : (c : tie.Else1) → After (c .before .before) 1
+eleven c = left-yes (none (c .before .before)) (le-leb _ _ (c .if1 .left))
 
 returns-2 : tie.Need-returns-2
 returns-2 c =
-    c .no2 .ensures
-    ∙ sym (simp (le-leb _ _ (few (c .before .before .before)), lt-leb _ _ (c .before .if2 .taken), sym (c .before .before .first-wrong .ensures)))
-
-no-requires-3 : tie.Need-no-requires-3
-no-requires-3 c κs = search needs
+    says-no (eleven (c .before .before .before)) (simp (lt-leb _ _ (c .before .if2 .taken)))
+    (c .no2 .ensures ∙ ap (λ (t : ℕ). answer 9 t 0) (c .before .before .first-wrong .ensures))
 
 returns-3 : tie.Need-returns-3
 returns-3 c =
-    c .no3 .ensures
-    ∙ sym (simp (le-leb _ _ (few (c .before .before .before .before)), le-leb _ _ (c .before .before .if2 .left), sym (c .before .before .before .first-wrong .ensures), ne-eqb _ _ (c .before .if3 .taken)))
-
-yes-requires : tie.Need-yes-requires
-yes-requires c κs = search needs
+    let e = c .before .before .before .first-wrong .ensures in
+    says-no (eleven (c .before .before .before .before)) (simp (le-leb _ _ (c .before .before .if2 .left), sym e, ne-eqb _ _ (c .before .if3 .taken)))
+    (c .no3 .ensures ∙ ap (λ (t : ℕ). answer 9 t 0) e)
 
 returns-4 : tie.Need-returns-4
 returns-4 c =
-    c .yes .ensures
-    ∙ sym (simp (le-leb _ _ (few (c .before .before .before .before)), le-leb _ _ (c .before .before .if2 .left), sym (c .before .before .before .first-wrong .ensures), eq-eqb _ _ (c .before .if3 .left)))
+    let e = c .before .before .before .first-wrong .ensures in
+    says-yes
+    (left-yes (eleven (c .before .before .before .before)) (simp (le-leb _ _ (c .before .before .if2 .left), sym e, eq-eqb _ _ (c .before .if3 .left))))
+    (c .yes .ensures)
 
 pub character-questions-spec : {M : Type 1} → statement M
 character-questions-spec =
     tie.close
     (tie.spec
-    no-requires
+    (λ c κs. tt)
     returns
-    first-wrong-requires
-    no-requires-2
+    (λ c κs. tt)
+    (λ c κs. tt)
     returns-2
-    no-requires-3
+    (λ c κs. tt)
     returns-3
-    yes-requires
+    (λ c κs. tt)
     returns-4)
