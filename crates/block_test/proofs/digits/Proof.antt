@@ -27,17 +27,8 @@ rem-symbols c = omega (arith, zero-below (c .before .before .args .q) (c .before
 cast-symbols : tie.Need-cast-symbols Inv-loop μ-loop
 cast-symbols c = omega (arith, mod-lt (c .before .loop .rest) (zero-below (c .before .before .args .q) (c .before .before .pre)), good-small (c .before .before .args .q) (c .before .before .pre))
 
-array-write-symbols : tie.Need-array-write-symbols Inv-loop μ-loop
-array-write-symbols c = omega arith
-
 div-rest : tie.Need-div-rest Inv-loop μ-loop
 div-rest c = omega (arith, zero-below (c .before .before .args .q) (c .before .before .pre))
-
-add-i : tie.Need-add-i Inv-loop μ-loop
-add-i c = omega arith
-
-loop-less : tie.Need-loop-less Inv-loop μ-loop
-loop-less c = omega arith
 
 loop-again : tie.Need-loop-again Inv-loop μ-loop
 loop-again c =
@@ -49,16 +40,4 @@ returns c = let inv = c .before .loop .inv in (inv .1, inv .2)
 
 pub digits-spec : {M : Type 1} → statement M
 digits-spec =
-    tie.close
-    (tie.spec
-    Inv-loop
-    μ-loop
-    loop-holds
-    rem-symbols
-    cast-symbols
-    array-write-symbols
-    div-rest
-    add-i
-    loop-less
-    loop-again
-    returns)
+    tie.close (tie.spec Inv-loop μ-loop loop-holds rem-symbols cast-symbols (omega arith) div-rest (omega arith) (omega arith) loop-again returns)

@@ -10,26 +10,11 @@ use borrow.Author.Needs.{needs}
 use Rattle.block_test.proofs.level.Statement.{statement}
 use Rattle.block_test.proofs.level.Tie as tie
 
-setting-requires : tie.Need-setting-requires
-setting-requires c κs = search needs
-
 tables-requires : tie.Need-tables-requires
 tables-requires c κs = subst Sound (sym (c .setting .ensures)) (soundOf (c .before .args .number) (c .before .pre .0)) .good
 
-slice-aggregate-rows : tie.Need-slice-aggregate-rows
-slice-aggregate-rows c = search needs
-
 rows-requires : tie.Need-rows-requires
 rows-requires c κs = let entry = c .before .before .before in (entry .pre .0, largestOf rowsLength (entry .args .number) (entry .pre .0))
-
-print-requires : tie.Need-print-requires
-print-requires c κs = search needs
-
-print-requires-2 : tie.Need-print-requires-2
-print-requires-2 c κs = search needs
-
-slice-aggregate-compare : tie.Need-slice-aggregate-compare
-slice-aggregate-compare c = search needs
 
 compare-requires : tie.Need-compare-requires
 compare-requires c κs =
@@ -45,19 +30,14 @@ compare-requires c κs =
       p .4,
     )
 
-returns : tie.Need-returns
-returns c = search needs
-
 pub level-spec : {M : Type 1} → statement M
 level-spec =
     tie.close
     (tie.spec
-    setting-requires
+    (λ c κs. search needs)
     tables-requires
-    slice-aggregate-rows
+    (search needs)
     rows-requires
-    print-requires
-    print-requires-2
-    slice-aggregate-compare
+    (search needs) (search needs) (search needs)
     compare-requires
-    returns)
+    (search needs))

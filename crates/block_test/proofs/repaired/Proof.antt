@@ -6,29 +6,14 @@ use borrow.Author.Needs.{needs}
 use Rattle.block_test.proofs.repaired.Statement.{statement}
 use Rattle.block_test.proofs.repaired.Tie as tie
 
-add-room : tie.Need-add-room
-add-room c = search needs
-
-array-borrow-prefix-series : tie.Need-array-borrow-prefix-series
-array-borrow-prefix-series c = search needs
-
 slice-aggregate-repaired-in : tie.Need-slice-aggregate-repaired-in
 slice-aggregate-repaired-in c = sym (length-take-le _ _ (omega arith))
-
-array-borrow-prefix-locator : tie.Need-array-borrow-prefix-locator
-array-borrow-prefix-locator c = search needs
 
 slice-aggregate-repaired-in-2 : tie.Need-slice-aggregate-repaired-in-2
 slice-aggregate-repaired-in-2 c = sym (length-take-le _ _ (omega arith))
 
-array-borrow-prefix-values : tie.Need-array-borrow-prefix-values
-array-borrow-prefix-values c = search needs
-
 slice-aggregate-repaired-in-3 : tie.Need-slice-aggregate-repaired-in-3
 slice-aggregate-repaired-in-3 c = sym (length-take-le _ _ (omega arith))
-
-array-borrow-prefix-information : tie.Need-array-borrow-prefix-information
-array-borrow-prefix-information c = search needs
 
 slice-aggregate-repaired-in-4 : tie.Need-slice-aggregate-repaired-in-4
 slice-aggregate-repaired-in-4 c = sym (length-take-le _ _ (omega arith))
@@ -48,21 +33,17 @@ repaired-in-requires c κs =
       },
     )
 
-returns : tie.Need-returns
-returns c = search needs
-
 pub repaired-spec : {M : Type 1} → statement M
 repaired-spec =
     tie.close
     (tie.spec
-    add-room
-    array-borrow-prefix-series
+    (search needs) (search needs)
     slice-aggregate-repaired-in
-    array-borrow-prefix-locator
+    (search needs)
     slice-aggregate-repaired-in-2
-    array-borrow-prefix-values
+    (search needs)
     slice-aggregate-repaired-in-3
-    array-borrow-prefix-information
+    (search needs)
     slice-aggregate-repaired-in-4
     repaired-in-requires
-    returns)
+    (search needs))

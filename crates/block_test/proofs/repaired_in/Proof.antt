@@ -21,12 +21,6 @@ mul-long c =
     let entry = c .before .before .before .before .before .before .before in
     omega (arith, short entry, sizes (entry .args .p) (entry .pre .0 .sound) .symbols-most)
 
-repair-requires : tie.Need-repair-requires
-repair-requires c κs = search needs
-
-returns : tie.Need-returns
-returns c = search needs
-
 slice-reshare-prefix-number-of : tie.Need-slice-reshare-prefix-number-of
 slice-reshare-prefix-number-of c =
     let entry = c .before .before .before .before .before .before .before .before .before .before .before .before .before .before .before .before .before .before .before .before .before in
@@ -37,23 +31,13 @@ slice-aggregate-number-of c =
     let entry = c .before .before .before .before .before .before .before .before .before .before .before .before .before .before .before .before .before .before .before .before .before .before in
     sym (length-take-le _ _ (omega (arith, short entry, entry .pre .4 .information-long)))
 
-number-of-requires : tie.Need-number-of-requires
-number-of-requires c κs = search needs
-
-returns-2 : tie.Need-returns-2
-returns-2 c = search needs
-
 pub repaired-in-spec : {M : Type 1} → statement M
 repaired-in-spec =
     tie.close
     (tie.spec
     add-long
     mul-long
-    repair-requires
-    (search needs) (search needs) (search needs) (search needs)
-    returns
+    (λ c κs. search needs) (search needs) (search needs) (search needs) (search needs) (search needs)
     slice-reshare-prefix-number-of
     slice-aggregate-number-of
-    number-of-requires
-    (search needs) (search needs) (search needs) (search needs)
-    returns-2)
+    (λ c κs. search needs) (search needs) (search needs) (search needs) (search needs) (search needs))

@@ -7,9 +7,6 @@ use borrow.Author.Needs.{needs}
 use Rattle.block_test.proofs.with_digit.Statement.{statement}
 use Rattle.block_test.proofs.with_digit.Tie as tie
 
-returns : tie.Need-returns
-returns c = search needs
-
 scaled : (c : tie.Start) → c .args .number * c .args .q ≤ c .args .number * 256
 scaled c = mul-le-mul-left (c .args .number) (good-small (c .args .q) (c .pre))
 
@@ -19,8 +16,6 @@ mul-result c = omega (arith, scaled (c .before))
 add-result : tie.Need-add-result
 add-result c = omega (arith, scaled (c .before))
 
-returns-2 : tie.Need-returns-2
-returns-2 c = search needs
-
 pub with-digit-spec : {M : Type 1} → statement M
-with-digit-spec = tie.close (tie.spec returns mul-result add-result returns-2)
+with-digit-spec =
+    tie.close (tie.spec (search needs) mul-result add-result (search needs))

@@ -10,12 +10,6 @@ use borrow.Author.Needs.{needs}
 use Rattle.display.proofs.window.Statement.{statement}
 use Rattle.display.proofs.window.Tie as tie
 
-display-questions-requires : tie.Need-display-questions-requires
-display-questions-requires c κs = tt
-
-slice-aggregate-result : tie.Need-slice-aggregate-result
-slice-aggregate-result c = search needs
-
 returns : tie.Need-returns
 returns c = window-refused (c .before .before .before .before .before .args .setting) (now (c .before .before .before .before .before .args .reception)) (c .before .before .before .before .before .args .j) (λ e. c .before .if1 .taken (ap (λ a. a .number) (c .before .before .before .display-questions .ensures) ∙ e))
 
@@ -44,12 +38,6 @@ mul-to c = omega (arith, inside c .short)
 add-to-2 : tie.Need-add-to-2
 add-to-2 c = omega (arith, inside c .within)
 
-sub-result : tie.Need-sub-result
-sub-result c = search needs
-
-part-result-start : tie.Need-part-result-start
-part-result-start c = search needs
-
 part-result-end : tie.Need-part-result-end
 part-result-end c = omega (arith, inside c .within)
 
@@ -60,15 +48,13 @@ pub window-spec : {M : Type 1} → statement M
 window-spec =
     tie.close
     (tie.spec
-    display-questions-requires
-    slice-aggregate-result
+    (λ c κs. tt) (search needs)
     returns
     setting-requires
     mul-from
     add-to
     mul-to
     add-to-2
-    sub-result
-    part-result-start
+    (search needs) (search needs)
     part-result-end
     returns-2)

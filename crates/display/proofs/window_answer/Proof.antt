@@ -3,11 +3,9 @@ use borrow.Author.Needs.{needs}
 use Rattle.display.proofs.window_answer.Statement.{statement}
 use Rattle.display.proofs.window_answer.Tie as tie
 
-display-questions-requires : tie.Need-display-questions-requires
-display-questions-requires c κs = search needs
-
 returns : tie.Need-returns
 returns c = c .display-questions .ensures
 
 pub window-answer-spec : {M : Type 1} → statement M
-window-answer-spec = tie.close (tie.spec display-questions-requires returns)
+window-answer-spec =
+    tie.close (tie.spec (search needs) returns)

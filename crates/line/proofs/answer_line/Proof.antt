@@ -13,12 +13,6 @@ use Rattle.line.proofs.Frames.{head-refused, room-is, frame-answered}
 use Rattle.line.proofs.answer_line.Statement.{statement}
 use Rattle.line.proofs.answer_line.Tie as tie
 
-frame-questions-requires : tie.Need-frame-questions-requires
-frame-questions-requires c κs = search needs
-
-write-refusal-requires : tie.Need-write-refusal-requires
-write-refusal-requires c κs = search needs
-
 returns : tie.Need-returns
 returns c =
     let line = now (c .before .before .before .before .before .before .before .before .before .before .before .before .args .line) in
@@ -67,13 +61,15 @@ pub answer-line-spec : {M : Type 1} → statement M
 answer-line-spec =
     tie.close
     (tie.spec
-    frame-questions-requires
-    write-refusal-requires
+    (search needs) (search needs)
     (λ c. omega arith)
     returns
     has-room-requires
     returns-2
     decode-line-requires
     write-answer-requires
-    (λ c. omega arith) (λ c. omega arith) (λ c. omega arith) (λ c. omega arith)
+    (λ c. omega arith)
+    (λ c. omega arith)
+    (λ c. omega arith)
+    (λ c. omega arith)
     returns-3)

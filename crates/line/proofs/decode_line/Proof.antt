@@ -35,9 +35,6 @@ sub-read-digits c = omega (arith, known (c .before .before .before .before .befo
 part-read-digits-start : tie.Need-part-read-digits-start
 part-read-digits-start c = omega (arith, known (c .before .before .before .before .before) .least)
 
-part-read-digits-end : tie.Need-part-read-digits-end
-part-read-digits-end c = search needs
-
 slice-relend-prefix-read-digits : tie.Need-slice-relend-prefix-read-digits
 slice-relend-prefix-read-digits c = omega (arith, room (c .before .before .before .before .before .before))
 
@@ -55,9 +52,6 @@ slice-reshare-prefix-decode c = omega (arith, room (c .before .before .before .b
 slice-aggregate-decode : tie.Need-slice-aggregate-decode
 slice-aggregate-decode c = sym (length-take-le _ _ (omega (arith, room (c .before .before .before .before .before .before .before .before .before .before .before))))
 
-decode-requires : tie.Need-decode-requires
-decode-requires c κs = search needs
-
 returns : tie.Need-returns
 returns c =
     let a = c .before .before .before .before .before .before .before .before .before .before .before .before .before .before .before .before .before .before .args in
@@ -72,12 +66,14 @@ decode-line-spec =
     sub-long
     sub-read-digits
     part-read-digits-start
-    part-read-digits-end
+    (search needs)
     slice-relend-prefix-read-digits
     slice-aggregate-read-digits
     read-digits-requires
     slice-reshare-prefix-decode
     slice-aggregate-decode
-    decode-requires
-    (λ c. omega arith) (λ c. omega arith) (λ c. omega arith)
+    (search needs)
+    (λ c. omega arith)
+    (λ c. omega arith)
+    (λ c. omega arith)
     returns)

@@ -28,9 +28,6 @@ returns-2 c =
     let small : a .transmission < length (symbolsIn (now (a .line))) = omega (arith, symbols-count (now (a .line)), c .if2 .taken) in
     sym (simp (le-leb _ _ enough, lt-leb _ _ small))
 
-message-length-requires : tie.Need-message-length-requires
-message-length-requires c κs = search needs
-
 returns-3 : tie.Need-returns-3
 returns-3 c =
     let a = c .before .before .before .before .args in
@@ -39,4 +36,5 @@ returns-3 c =
     sym (simp (le-leb _ _ enough, le-leb _ _ more, sym (c .message-length .ensures .0)))
 
 pub has-room-spec : {M : Type 1} → statement M
-has-room-spec = tie.close (tie.spec sub-long returns returns-2 message-length-requires returns-3)
+has-room-spec =
+    tie.close (tie.spec sub-long returns returns-2 (search needs) returns-3)

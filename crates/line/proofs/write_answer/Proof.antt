@@ -17,9 +17,6 @@ use Rattle.line.proofs.write_answer.Tie as tie
 known : (c : tie.Start) → HeadYes (now (c .args .line))
 known c = head-yes (now (c .args .line)) (c .pre .0)
 
-write-refusal-requires : tie.Need-write-refusal-requires
-write-refusal-requires c κs = search needs
-
 returns : tie.Need-returns
 returns c =
     let a = c .before .before .before .before .before .before .before .before .before .args in
@@ -30,9 +27,6 @@ setting-in-requires c κs = known (c .before .before .before .before .before) .l
 
 blocks-in-requires : tie.Need-blocks-in-requires
 blocks-in-requires c κs = known (c .before .before .before .before .before .before) .least
-
-message-length-requires : tie.Need-message-length-requires
-message-length-requires c κs = search needs
 
 -- The message that was found has its place in the area.
 long : (c : tie.After-message-length) → length (take (c .message-length .result) (now (c .before .before .before .before .before .before .before .before .args .message))) ≡ c .message-length .result
@@ -59,12 +53,12 @@ pub write-answer-spec : {M : Type 1} → statement M
 write-answer-spec =
     tie.close
     (tie.spec
-    write-refusal-requires
+    (search needs)
     (λ c. omega arith)
     returns
     setting-in-requires
     blocks-in-requires
-    message-length-requires
+    (search needs)
     slice-aggregate-write-success
     write-success-requires
     (λ c. omega arith)

@@ -10,37 +10,6 @@ Inv-loop left₀ left = left ≤ 1000000
 abbrev μ-loop : tie.MeasureT-loop
 μ-loop left₀ left = left
 
-loop-holds : tie.Need-loop-holds Inv-loop μ-loop
-loop-holds c = omega arith
-
-turn-requires : tie.Need-turn-requires Inv-loop μ-loop
-turn-requires c κs = tt
-
-returns : tie.Need-returns Inv-loop μ-loop
-returns c = tt
-
-sub-left : tie.Need-sub-left Inv-loop μ-loop
-sub-left c = omega arith
-
-loop-less : tie.Need-loop-less Inv-loop μ-loop
-loop-less c = omega arith
-
-loop-again : tie.Need-loop-again Inv-loop μ-loop
-loop-again c = omega arith
-
-returns-2 : tie.Need-returns-2 Inv-loop μ-loop
-returns-2 c = tt
-
 pub main-spec : {M : Type 1} → statement M
 main-spec =
-    tie.close
-    (tie.spec
-    Inv-loop
-    μ-loop
-    loop-holds
-    turn-requires
-    returns
-    sub-left
-    loop-less
-    loop-again
-    returns-2)
+    tie.close (tie.spec Inv-loop μ-loop (omega arith) (λ c κs. tt) (λ c. tt) (omega arith) (omega arith) (omega arith) (λ c. tt))

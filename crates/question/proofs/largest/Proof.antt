@@ -26,18 +26,6 @@ one-more bytes i most next before grown here a h = at (ℕ-discrete a i)
 loop-holds : tie.Need-loop-holds Inv-loop μ-loop
 loop-holds c = (omega arith, λ a h. absurd (omega arith))
 
-shared-slice-read-larger : tie.Need-shared-slice-read-larger Inv-loop μ-loop
-shared-slice-read-larger c = omega arith
-
-larger-requires : tie.Need-larger-requires Inv-loop μ-loop
-larger-requires c κs = tt
-
-add-i : tie.Need-add-i Inv-loop μ-loop
-add-i c = omega arith
-
-loop-less : tie.Need-loop-less Inv-loop μ-loop
-loop-less c = omega arith
-
 loop-again : tie.Need-loop-again Inv-loop μ-loop
 loop-again c =
     let l = c .before .before .before .loop in
@@ -48,14 +36,4 @@ returns c = record { below = λ a h. omega (arith, c .before .loop .inv .1 a (om
 
 pub largest-spec : {M : Type 1} → statement M
 largest-spec =
-    tie.close
-    (tie.spec
-    Inv-loop
-    μ-loop
-    loop-holds
-    shared-slice-read-larger
-    larger-requires
-    add-i
-    loop-less
-    loop-again
-    returns)
+    tie.close (tie.spec Inv-loop μ-loop loop-holds (omega arith) (λ c κs. tt) (omega arith) (omega arith) loop-again returns)

@@ -11,9 +11,6 @@ returns c =
     let a = c .before .before .before .before .before .before .args in
     (omega arith, last-none (now (a .line)) (now (a .output)) (c .if1 .taken))
 
-put-requires : tie.Need-put-requires
-put-requires c κs = search needs
-
 returns-2 : tie.Need-returns-2
 returns-2 c =
     let done = c .before .before .before .before .before .before .before .before .put in
@@ -26,5 +23,4 @@ returns-2 c =
 
 pub answer-last-spec : {M : Type 1} → statement M
 answer-last-spec =
-    tie.close
-    (tie.spec returns put-requires (search needs) (search needs) (search needs) (search needs) returns-2)
+    tie.close (tie.spec returns (search needs) (search needs) (search needs) (search needs) (search needs) returns-2)

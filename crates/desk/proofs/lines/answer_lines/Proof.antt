@@ -43,9 +43,6 @@ step-requires c κs = (
   omega arith,
 )
 
-loop-less : tie.Need-loop-less Inv-loop μ-loop
-loop-less c = omega arith
-
 loop-again : tie.Need-loop-again Inv-loop μ-loop
 loop-again c =
     let stepped = c .before .before .before .before .before .before .before .before .before .before in
@@ -77,7 +74,7 @@ answer-lines-spec =
     μ-loop
     loop-holds
     step-requires
-    loop-less
+    (omega arith)
     loop-again
     (omega arith) (omega arith) (omega arith) (omega arith) (omega arith)
     returns)

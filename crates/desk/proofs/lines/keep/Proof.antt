@@ -11,33 +11,6 @@ use Rattle.desk.proofs.Texts.{held-copied}
 use Rattle.desk.proofs.lines.keep.Statement.{statement}
 use Rattle.desk.proofs.lines.keep.Tie as tie
 
-sub-most : tie.Need-sub-most
-sub-most c = search needs
-
-sub-room : tie.Need-sub-room
-sub-room c = search needs
-
-sub-copy : tie.Need-sub-copy
-sub-copy c = search needs
-
-part-copy-start : tie.Need-part-copy-start
-part-copy-start c = search needs
-
-part-copy-end : tie.Need-part-copy-end
-part-copy-end c = search needs
-
-sub-copy-2 : tie.Need-sub-copy-2
-sub-copy-2 c = search needs
-
-part-copy-start-2 : tie.Need-part-copy-start-2
-part-copy-start-2 c = search needs
-
-part-copy-end-2 : tie.Need-part-copy-end-2
-part-copy-end-2 c = search needs
-
-copy-requires : tie.Need-copy-requires
-copy-requires c κs = search needs
-
 returns : tie.Need-returns
 returns c =
     let entry = c .before .before .before .before .before .before .before .before in
@@ -55,21 +28,6 @@ returns c =
       holds = λ begun H. held-copied begun part area (done .last .1 .0) (take (room - 0) part) _ held (length area - held) _
           (ap (λ (n : ℕ). take n part) whole) (done .ensures .1) same (omega (arith, long, entry .pre)) (omega arith) H;
     }
-
-sub-copy-3 : tie.Need-sub-copy-3
-sub-copy-3 c = search needs
-
-part-copy-start-3 : tie.Need-part-copy-start-3
-part-copy-start-3 c = search needs
-
-part-copy-end-3 : tie.Need-part-copy-end-3
-part-copy-end-3 c = search needs
-
-copy-requires-2 : tie.Need-copy-requires-2
-copy-requires-2 c κs = search needs
-
-add-result : tie.Need-add-result
-add-result c = search needs
 
 returns-2 : tie.Need-returns-2
 returns-2 c =
@@ -90,21 +48,7 @@ pub keep-spec : {M : Type 1} → statement M
 keep-spec =
     tie.close
     (tie.spec
-    sub-most
-    sub-room
-    sub-copy
-    part-copy-start
-    part-copy-end
-    sub-copy-2
-    part-copy-start-2
-    part-copy-end-2
-    copy-requires
-    (search needs)
+    (search needs) (search needs) (search needs) (search needs) (search needs) (search needs) (search needs) (search needs) (search needs) (search needs)
     returns
-    sub-copy-3
-    part-copy-start-3
-    part-copy-end-3
-    copy-requires-2
-    add-result
-    (search needs)
+    (search needs) (search needs) (search needs) (search needs) (search needs) (search needs)
     returns-2)

@@ -12,18 +12,6 @@ use Rattle.desk.proofs.Texts.{answer-few, put-behind}
 use Rattle.desk.proofs.lines.put.Statement.{statement}
 use Rattle.desk.proofs.lines.put.Tie as tie
 
-sub-answer-line : tie.Need-sub-answer-line
-sub-answer-line c = search needs
-
-part-answer-line-start : tie.Need-part-answer-line-start
-part-answer-line-start c = search needs
-
-part-answer-line-end : tie.Need-part-answer-line-end
-part-answer-line-end c = search needs
-
-answer-line-requires : tie.Need-answer-line-requires
-answer-line-requires c κs = search needs
-
 -- The answer was not longer than there was room for.
 few : (c : tie.After-answer-line)
     → let entry = c .before .before .before .before .before .before .before .before .before .before in
@@ -50,9 +38,6 @@ add-result c =
     let entry = answered .before .before .before .before .before .before .before .before .before .before in
     omega (arith, few answered, entry .pre .0)
 
-same-length-4 : tie.Need-same-length-4
-same-length-4 c = search needs
-
 returns : tie.Need-returns
 returns c =
     let answered = c .before .before .before .before .before .before .before .before in
@@ -70,13 +55,9 @@ pub put-spec : {M : Type 1} → statement M
 put-spec =
     tie.close
     (tie.spec
-    sub-answer-line
-    part-answer-line-start
-    part-answer-line-end
-    answer-line-requires
+    (search needs) (search needs) (search needs) (search needs)
     add-end
     slice-write-output
     add-result
-    (search needs) (search needs) (search needs)
-    same-length-4
+    (search needs) (search needs) (search needs) (λ c. search needs)
     returns)

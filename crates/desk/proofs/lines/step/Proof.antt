@@ -9,21 +9,6 @@ use Rattle.desk.proofs.Texts.{room-after, reached-unended, reached-ende
 use Rattle.desk.proofs.lines.step.Statement.{statement}
 use Rattle.desk.proofs.lines.step.Tie as tie
 
-find-requires : tie.Need-find-requires
-find-requires c κs = search needs
-
-sub-keep : tie.Need-sub-keep
-sub-keep c = search needs
-
-part-keep-start : tie.Need-part-keep-start
-part-keep-start c = search needs
-
-part-keep-end : tie.Need-part-keep-end
-part-keep-end c = search needs
-
-keep-requires : tie.Need-keep-requires
-keep-requires c κs = search needs
-
 returns : tie.Need-returns
 returns c =
     let found-at = c .before .before .before .before .before .before in
@@ -38,21 +23,6 @@ returns c =
       on = omega arith;
       within = record { place = omega arith; characters = omega arith; waiting = omega (arith, kept .ensures .few, entry .pre .0 .waiting) };
     }
-
-sub-put : tie.Need-sub-put
-sub-put c = search needs
-
-part-put-start : tie.Need-part-put-start
-part-put-start c = search needs
-
-part-put-end : tie.Need-part-put-end
-part-put-end c = search needs
-
-put-requires : tie.Need-put-requires
-put-requires c κs = search needs
-
-add-t12 : tie.Need-add-t12
-add-t12 c = search needs
 
 returns-2 : tie.Need-returns-2
 returns-2 c =
@@ -86,17 +56,7 @@ pub step-spec : {M : Type 1} → statement M
 step-spec =
     tie.close
     (tie.spec
-    find-requires
-    sub-keep
-    part-keep-start
-    part-keep-end
-    keep-requires
-    (search needs)
+    (search needs) (search needs) (search needs) (search needs) (search needs) (search needs)
     returns
-    sub-put
-    part-put-start
-    part-put-end
-    put-requires
-    add-t12
-    (search needs) (search needs) (search needs) (search needs) (search needs)
+    (search needs) (search needs) (search needs) (search needs) (search needs) (search needs) (search needs) (search needs) (search needs) (search needs)
     returns-2)

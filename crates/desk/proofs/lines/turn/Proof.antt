@@ -14,24 +14,6 @@ returns c =
       failed-turn (a .got) (entry .fits .got) (now (a .input)) (now (a .line)) (now (a .output)) (c .if1 .taken),
     )
 
-sub-find : tie.Need-sub-find
-sub-find c = search needs
-
-find-requires : tie.Need-find-requires
-find-requires c κs = search needs
-
-sub-answer-last : tie.Need-sub-answer-last
-sub-answer-last c = search needs
-
-part-answer-last-start : tie.Need-part-answer-last-start
-part-answer-last-start c = search needs
-
-part-answer-last-end : tie.Need-part-answer-last-end
-part-answer-last-end c = search needs
-
-answer-last-requires : tie.Need-answer-last-requires
-answer-last-requires c κs = search needs
-
 returns-2 : tie.Need-returns-2
 returns-2 c =
     let done = c .before .before .before .before .before .before .before .before .answer-last in
@@ -43,27 +25,6 @@ returns-2 c =
       ended-turn (a .got) (entry .fits .got) (now (a .input)) (now (a .line)) (entry .pre .characters) (found .result) (found .ensures .0) _ _
           (tested .if2 .taken) (done .ensures .1),
     )
-
-count-requires : tie.Need-count-requires
-count-requires c κs = search needs
-
-sub-answer-lines : tie.Need-sub-answer-lines
-sub-answer-lines c = search needs
-
-part-answer-lines-start : tie.Need-part-answer-lines-start
-part-answer-lines-start c = search needs
-
-part-answer-lines-end : tie.Need-part-answer-lines-end
-part-answer-lines-end c = search needs
-
-answer-lines-requires : tie.Need-answer-lines-requires
-answer-lines-requires c κs = search needs
-
-slice-write-line : tie.Need-slice-write-line
-slice-write-line c = search needs
-
-same-length-6 : tie.Need-same-length-6
-same-length-6 c = search needs
 
 returns-3 : tie.Need-returns-3
 returns-3 c =
@@ -86,20 +47,9 @@ turn-spec =
     tie.close
     (tie.spec
     returns
-    sub-find
-    find-requires
-    sub-answer-last
-    part-answer-last-start
-    part-answer-last-end
-    answer-last-requires
-    (search needs) (search needs) (search needs) (search needs) (search needs)
+    (search needs) (search needs) (search needs) (search needs) (search needs) (search needs) (search needs) (search needs) (search needs) (search needs)
+    (search needs)
     returns-2
-    count-requires
-    sub-answer-lines
-    part-answer-lines-start
-    part-answer-lines-end
-    answer-lines-requires
-    slice-write-line
-    same-length-6
+    (search needs) (search needs) (search needs) (search needs) (search needs) (search needs) (λ c. search needs)
     (search needs) (search needs) (search needs) (search needs)
     returns-3)

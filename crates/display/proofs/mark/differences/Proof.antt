@@ -30,24 +30,6 @@ loop-holds c =
     let none : entry .args .long - entry .args .long ≡ 0 = omega arith in
     (omega arith, sym (ap (λ (t : ℕ). bits t (λ i. test (now (entry .args .reception)) (now (entry .args .transmission)) (entry .args .from) (entry .args .long + i))) none))
 
-sub-left : tie.Need-sub-left Inv-loop μ-loop
-sub-left c = omega arith
-
-add-differ : tie.Need-add-differ Inv-loop μ-loop
-add-differ c = omega arith
-
-shared-slice-read-differ : tie.Need-shared-slice-read-differ Inv-loop μ-loop
-shared-slice-read-differ c = omega arith
-
-add-differ-2 : tie.Need-add-differ-2 Inv-loop μ-loop
-add-differ-2 c = omega arith
-
-shared-slice-read-differ-2 : tie.Need-shared-slice-read-differ-2 Inv-loop μ-loop
-shared-slice-read-differ-2 c = omega arith
-
-differ-requires : tie.Need-differ-requires Inv-loop μ-loop
-differ-requires c κs = tt
-
 -- One more place before those already taken: its mark is the lowest bit, and the number still fits.
 more : (c : tie.After-differ Inv-loop μ-loop)
     → (c .before .before .before .before .loop .set * 2 + c .differ .result
@@ -65,9 +47,6 @@ mul-set c = omega (arith, more c .1)
 add-set : tie.Need-add-set Inv-loop μ-loop
 add-set c = omega (arith, more c .1, more c .0)
 
-loop-less : tie.Need-loop-less Inv-loop μ-loop
-loop-less c = omega arith
-
 loop-again : tie.Need-loop-again Inv-loop μ-loop
 loop-again c = (omega arith, more c .0)
 
@@ -84,14 +63,9 @@ differences-spec =
     Inv-loop
     μ-loop
     loop-holds
-    sub-left
-    add-differ
-    shared-slice-read-differ
-    add-differ-2
-    shared-slice-read-differ-2
-    differ-requires
+    (omega arith) (omega arith) (omega arith) (omega arith) (omega arith) (λ c κs. tt)
     mul-set
     add-set
-    loop-less
+    (omega arith)
     loop-again
     returns)

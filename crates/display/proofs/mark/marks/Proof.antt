@@ -8,9 +8,6 @@ use Rattle.display.proofs.Windows.{Window, window-yes, marked-refused, 
 use Rattle.display.proofs.mark.marks.Statement.{statement}
 use Rattle.display.proofs.mark.marks.Tie as tie
 
-marks-questions-requires : tie.Need-marks-questions-requires
-marks-questions-requires c κs = tt
-
 returns : tie.Need-returns
 returns c = marked-refused (c .before .before .before .before .before .args .setting) (now (c .before .before .before .before .before .args .reception)) (now (c .before .before .before .before .before .args .transmission)) (c .before .before .before .before .before .args .j) (c .before .before .marks-questions .result) (c .before .before .marks-questions .ensures) (c .if1 .taken)
 
@@ -45,13 +42,4 @@ returns-2 c =
 
 pub marks-spec : {M : Type 1} → statement M
 marks-spec =
-    tie.close
-    (tie.spec
-    marks-questions-requires
-    returns
-    setting-requires
-    mul-from
-    add-differences
-    mul-differences
-    differences-requires
-    returns-2)
+    tie.close (tie.spec (λ c κs. tt) returns setting-requires mul-from add-differences mul-differences differences-requires returns-2)

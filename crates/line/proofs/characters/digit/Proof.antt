@@ -14,9 +14,6 @@ returns-2 c = sym (digit-number (c .before .before .args .character) (c .before 
 returns-3 : tie.Need-returns-3
 returns-3 c = sym (digit-between (c .before .before .before .args .character) (c .before .if2 .left) (c .if3 .taken))
 
-sub-result : tie.Need-sub-result
-sub-result c = search needs
-
 returns-4 : tie.Need-returns-4
 returns-4 c = sym (digit-letter (c .before .before .before .before .args .character) (c .before .if3 .left) (c .if4 .taken))
 
@@ -24,4 +21,5 @@ returns-5 : tie.Need-returns-5
 returns-5 c = sym (digit-high (c .before .before .before .before .args .character) (c .if4 .left))
 
 pub digit-spec : {M : Type 1} → statement M
-digit-spec = tie.close (tie.spec returns returns-2 returns-3 sub-result returns-4 returns-5)
+digit-spec =
+    tie.close (tie.spec returns returns-2 returns-3 (search needs) returns-4 returns-5)

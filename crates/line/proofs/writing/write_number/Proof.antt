@@ -20,18 +20,6 @@ abbrev μ-loop : tie.MeasureT-loop
 loop-holds : tie.Need-loop-holds Inv-loop μ-loop
 loop-holds c = (omega arith, omega arith, hex-start (c .before .args .number) (now (c .before .args .area)))
 
-sub-i : tie.Need-sub-i Inv-loop μ-loop
-sub-i c = omega arith
-
-last-digit-requires : tie.Need-last-digit-requires Inv-loop μ-loop
-last-digit-requires c κs = tt
-
-slice-write-area : tie.Need-slice-write-area Inv-loop μ-loop
-slice-write-area c = omega arith
-
-loop-less : tie.Need-loop-less Inv-loop μ-loop
-loop-less c = omega arith
-
 loop-again : tie.Need-loop-again Inv-loop μ-loop
 loop-again c =
     let loop = c .before .before in
@@ -50,15 +38,4 @@ returns c =
 
 pub write-number-spec : {M : Type 1} → statement M
 write-number-spec =
-    tie.close
-    (tie.spec
-    Inv-loop
-    μ-loop
-    loop-holds
-    sub-i
-    last-digit-requires
-    slice-write-area
-    loop-less
-    loop-again
-    (omega arith)
-    returns)
+    tie.close (tie.spec Inv-loop μ-loop loop-holds (omega arith) (λ c κs. tt) (omega arith) (omega arith) loop-again (omega arith) returns)
