@@ -73,20 +73,12 @@ pub decoding-questions-spec : {M : Type 1} → statement M
 decoding-questions-spec =
     tie.close
     (tie.spec
-    (λ c κs. tt)
-    returns
+    (λ c κs. tt) returns
     (λ c κs. asked c .setting)
-    (λ c κs. tt)
-    (λ c κs. tt)
-    returns-2
+    (λ c κs. tt) (λ c κs. tt) returns-2
     (λ c. frame (c .before .before) .sizes .symbols)
     (λ c. omega (arith, frame (c .before .before) .blocks))
-    mul-if3
-    (λ c κs. tt)
-    returns-3
+    mul-if3 (λ c κs. tt) returns-3
     (λ c. omega (arith, frame (c .before .before .before) .most, frame (c .before .before .before) .sizes .memory-most))
-    mul-if4
-    (λ c κs. tt)
-    returns-4
-    (λ c κs. tt)
-    returns-5)
+    mul-if4 (λ c κs. tt) returns-4
+    (λ c κs. tt) returns-5)

@@ -81,24 +81,12 @@ pub encoding-questions-spec : {M : Type 1} → statement M
 encoding-questions-spec =
     tie.close
     (tie.spec
-    (λ c κs. tt)
-    (λ c κs. tt)
-    returns
-    (λ c κs. known c)
-    (λ c. sizes c .information)
-    (λ c κs. tt)
-    returns-2
-    (λ c κs. tt)
-    returns-3
+    (λ c κs. tt) (λ c κs. tt) returns
+    (λ c κs. known c) (λ c. sizes c .information)
+    (λ c κs. tt) returns-2
+    (λ c κs. tt) returns-3
     (λ c. sizes (c .before .before) .information)
-    (λ c κs. tt)
-    returns-4
-    (λ c κs. tt)
-    (λ c κs. tt)
-    returns-5
-    add-if6
-    mul-if6
-    (λ c κs. tt)
-    returns-6
-    (λ c κs. tt)
-    returns-7)
+    (λ c κs. tt) returns-4
+    (λ c κs. tt) (λ c κs. tt) returns-5
+    add-if6 mul-if6 (λ c κs. tt) returns-6
+    (λ c κs. tt) returns-7)

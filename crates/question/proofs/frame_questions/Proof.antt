@@ -62,20 +62,12 @@ pub frame-questions-spec : {M : Type 1} → statement M
 frame-questions-spec =
     tie.close
     (tie.spec
-    (λ c κs. tt)
-    (λ c κs. tt)
-    returns
-    (λ c κs. known c)
-    (λ c. sizes c .symbols)
-    (λ c κs. tt)
-    returns-2
+    (λ c κs. tt) (λ c κs. tt) returns
+    (λ c κs. known c) (λ c. sizes c .symbols)
+    (λ c κs. tt) returns-2
     (λ c. omega (arith, sizes (c .before) .memory-most))
     (λ c. omega (arith, window-small (c .before .setting .result) (sizes (c .before))))
-    (λ c κs. tt)
-    returns-3
+    (λ c κs. tt) returns-3
     (λ c. sizes (c .before .before) .symbols)
-    sub-if4
-    (λ c κs. tt)
-    returns-4
-    (λ c κs. tt)
-    returns-5)
+    sub-if4 (λ c κs. tt) returns-4
+    (λ c κs. tt) returns-5)

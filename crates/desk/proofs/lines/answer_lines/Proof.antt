@@ -12,8 +12,8 @@ use Rattle.desk.proofs.lines.answer_lines.Tie as tie
 
 abbrev Inv-loop : tie.InvT-loop
 Inv-loop buffer line₀ held reception₀ message₀ transmission₀ output₀ progress₀ line reception message transmission output progress =
-    (length line ≡ length line₀) × (length reception ≡ length reception₀) × (length message ≡ length message₀) × (length transmission ≡ length transmission₀)
-    × (length output ≡ length output₀) × Within (length buffer) (length line₀) (length output₀) progress
+    ((length line ≡ length line₀) × (length reception ≡ length reception₀) × (length message ≡ length message₀) × (length transmission ≡ length transmission₀)
+    × (length output ≡ length output₀)) × Within (length buffer) (length line₀) (length output₀) progress
     × ((begun : List ℕ) → Holds begun line₀ held → Reached begun (take (progress .from) buffer) line (progress .held) output (progress .filled))
 
 abbrev μ-loop : tie.MeasureT-loop
@@ -23,10 +23,6 @@ abbrev μ-loop : tie.MeasureT-loop
 loop-holds : tie.Need-loop-holds Inv-loop μ-loop
 loop-holds c =
     let a = c .before .before .before .before .before .before .args in (
-      omega arith,
-      omega arith,
-      omega arith,
-      omega arith,
       omega arith,
       record { place = omega arith; characters = omega arith; waiting = omega arith },
       λ begun H. reached-none begun (now (a .buffer)) (now (a .line)) (a .held) (now (a .output)) H,
@@ -48,12 +44,8 @@ loop-again c =
     let stepped = c .before .before .before .before .before .before .before .before .before .before in
     let l = stepped .before .before .before .before .before .before .before .before .loop in (
       omega arith,
-      omega arith,
-      omega arith,
-      omega arith,
-      omega arith,
       record { place = omega arith; characters = omega arith; waiting = omega arith },
-      λ begun H. stepped .step .ensures .reached begun (l .inv .6 begun H),
+      λ begun H. stepped .step .ensures .reached begun (l .inv .2 begun H),
     )
 
 returns : tie.Need-returns Inv-loop μ-loop
@@ -62,8 +54,8 @@ returns c =
     let l = c .before .before .loop in
     let p = l .progress in
     record {
-      reached = λ begun H. reached-all begun (now (a .buffer)) (p .from) (l .line) (p .held) (l .output) (p .filled) (omega arith) (l .inv .6 begun H);
-      within = l .inv .5;
+      reached = λ begun H. reached-all begun (now (a .buffer)) (p .from) (l .line) (p .held) (l .output) (p .filled) (omega arith) (l .inv .2 begun H);
+      within = l .inv .1;
     }
 
 pub answer-lines-spec : {M : Type 1} → statement M

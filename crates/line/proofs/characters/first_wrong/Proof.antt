@@ -28,11 +28,5 @@ first-wrong-spec =
     (tie.spec
     Inv-loop
     μ-loop
-    (λ c. searched-none)
-    (omega arith)
-    (λ c κs. tt)
-    returns
-    (omega arith)
-    (omega arith)
-    loop-again
-    returns-2)
+    (λ c. searched-none) (omega arith) (λ c κs. tt) returns
+    (omega arith) (omega arith) loop-again returns-2)

@@ -29,11 +29,6 @@ read-digits-spec =
     Inv-loop
     μ-loop
     loop-holds
-    (omega arith)
-    (λ c κs. tt)
-    (omega arith)
-    (omega arith)
-    (omega arith)
+    (omega arith) (λ c κs. tt) (omega arith) (omega arith) (omega arith)
     loop-again
-    (omega arith)
-    returns)
+    (omega arith) returns)

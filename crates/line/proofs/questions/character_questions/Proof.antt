@@ -44,12 +44,7 @@ pub character-questions-spec : {M : Type 1} → statement M
 character-questions-spec =
     tie.close
     (tie.spec
-    (λ c κs. tt)
-    returns
-    (λ c κs. tt)
-    (λ c κs. tt)
-    returns-2
-    (λ c κs. tt)
-    returns-3
-    (λ c κs. tt)
-    returns-4)
+    (λ c κs. tt) returns
+    (λ c κs. tt) (λ c κs. tt) returns-2
+    (λ c κs. tt) returns-3
+    (λ c κs. tt) returns-4)

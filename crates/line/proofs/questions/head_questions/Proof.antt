@@ -76,20 +76,11 @@ pub head-questions-spec : {M : Type 1} → statement M
 head-questions-spec =
     tie.close
     (tie.spec
-    (search needs)
-    (λ c κs. tt)
-    (λ c κs. tt)
-    returns
-    (search needs)
-    (λ c κs. tt)
-    returns-2
-    (λ c κs. tt)
-    returns-3
+    (search needs) (λ c κs. tt) (λ c κs. tt) returns
+    (search needs) (λ c κs. tt) returns-2
+    (λ c κs. tt) returns-3
     (λ c κs. known (c .before .before .before))
     (search needs)
     (λ c. omega (arith, c .before .before .if2 .left, sizes c .memory-most))
-    mul-if4
-    (λ c κs. tt)
-    returns-4
-    (λ c κs. tt)
-    returns-5)
+    mul-if4 (λ c κs. tt) returns-4
+    (λ c κs. tt) returns-5)

@@ -32,11 +32,6 @@ write-symbols-spec =
     Inv-loop
     μ-loop
     loop-holds
-    (omega arith)
-    character-requires
-    (omega arith)
-    (omega arith)
-    (omega arith)
+    (omega arith) character-requires (omega arith) (omega arith) (omega arith)
     loop-again
-    (omega arith)
-    returns)
+    (omega arith) returns)
