@@ -11,50 +11,36 @@ use Rattle.display.proofs.window.Statement.{statement}
 use Rattle.display.proofs.window.Tie as tie
 
 returns : tie.Need-returns
-returns c = window-refused (c .before .before .before .before .before .args .setting) (now (c .before .before .before .before .before .args .reception)) (c .before .before .before .before .before .args .j) (λ e. c .before .if1 .taken (ap (λ a. a .number) (c .before .before .before .display-questions .ensures) ∙ e))
+returns c =
+    let a = c .before .before .before .before .before .args in
+    window-refused (a .setting) (now (a .reception)) (a .j) (λ e. c .before .if1 .taken (ap (λ a. a .number) (c .before .before .before .display-questions .ensures) ∙ e))
 
 -- Every question got "yes".
-asked : (c : tie.Else1) → firstNo (displayQuestions (c .before .before .before .before .args .setting) (length (now (c .before .before .before .before .args .reception))) (c .before .before .before .before .args .j)) .number ≡ 0
+asked : (c : tie.Else1)
+    → let a = c .before .before .before .before .args in firstNo (displayQuestions (a .setting) (length (now (a .reception))) (a .j)) .number ≡ 0
 asked c = ap (λ a. a .number) (sym (c .before .before .display-questions .ensures)) ∙ c .if1 .left
 
-known : (c : tie.Else1) → WindowYes (c .before .before .before .before .args .setting) (length (now (c .before .before .before .before .args .reception))) (c .before .before .before .before .args .j)
-known c = display-yes (c .before .before .before .before .args .setting) (length (now (c .before .before .before .before .args .reception))) (c .before .before .before .before .args .j) (asked c)
+known : (c : tie.Else1) → let a = c .before .before .before .before .args in WindowYes (a .setting) (length (now (a .reception))) (a .j)
+known c = display-yes _ _ _ (asked c)
 
-setting-requires : tie.Need-setting-requires
-setting-requires c κs = known c .setting
-
-inside : (c : tie.After-setting) → Window (c .setting .result) (length (now (c .before .before .before .before .before .args .reception))) (c .before .before .before .before .before .args .j)
-inside c = window-yes (c .before .before .before .before .before .args .setting) (length (now (c .before .before .before .before .before .args .reception))) (c .before .before .before .before .before .args .j) (c .setting .result) (c .setting .ensures) (known (c .before))
-
-mul-from : tie.Need-mul-from
-mul-from c = omega (arith, inside c .within)
-
-add-to : tie.Need-add-to
-add-to c = omega (arith, inside c .sizes .memory-most)
-
-mul-to : tie.Need-mul-to
-mul-to c = omega (arith, inside c .short)
-
-add-to-2 : tie.Need-add-to-2
-add-to-2 c = omega (arith, inside c .within)
-
-part-result-end : tie.Need-part-result-end
-part-result-end c = omega (arith, inside c .within)
+inside : (c : tie.After-setting) → let a = c .before .before .before .before .before .args in Window (c .setting .result) (length (now (a .reception))) (a .j)
+inside c = window-yes _ _ _ (c .setting .result) (c .setting .ensures) (known (c .before))
 
 returns-2 : tie.Need-returns-2
-returns-2 c = window-shown (c .before .before .before .before .before .before .args .setting) (now (c .before .before .before .before .before .before .args .reception)) (c .before .before .before .before .before .before .args .j) (c .before .setting .result) (c .before .setting .ensures) (asked (c .before .before))
+returns-2 c =
+    let a = c .before .before .before .before .before .before .args in
+    window-shown (a .setting) (now (a .reception)) (a .j) (c .before .setting .result) (c .before .setting .ensures) (asked (c .before .before))
 
 pub window-spec : {M : Type 1} → statement M
 window-spec =
     tie.close
     (tie.spec
-    (λ c κs. tt) (search needs)
-    returns
-    setting-requires
-    mul-from
-    add-to
-    mul-to
-    add-to-2
+    (λ c κs. tt) (search needs) returns
+    (λ c κs. known c .setting)
+    (λ c. omega (arith, inside c .within))
+    (λ c. omega (arith, inside c .sizes .memory-most))
+    (λ c. omega (arith, inside c .short))
+    (λ c. omega (arith, inside c .within))
     (search needs) (search needs)
-    part-result-end
+    (λ c. omega (arith, inside c .within))
     returns-2)
