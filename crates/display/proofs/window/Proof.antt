@@ -13,7 +13,8 @@ use Rattle.display.proofs.window.Tie as tie
 returns : tie.Need-returns
 returns c =
     let a = c .before .before .before .before .before .args in
-    window-refused (a .setting) (now (a .reception)) (a .j) (λ e. c .before .if1 .taken (ap (λ a. a .number) (c .before .before .before .display-questions .ensures) ∙ e))
+    window-refused (a .setting) (now (a .reception)) (a .j)
+    (λ e. c .before .if1 .taken (ap (λ a. a .number) (c .before .before .before .display-questions .ensures) ∙ e))
 
 -- Every question got "yes".
 asked : (c : tie.Else1)

@@ -8,7 +8,8 @@ use Rattle.line.proofs.writing.put_number.Tie as tie
 returns : tie.Need-returns
 returns c =
     let entry = c .before .before .before .before .before in
-    placed-number (entry .args .number) (entry .args .from) (entry .args .to) (now (entry .args .output)) (entry .pre .0) (entry .pre .1) (c .before .before .write-number .ensures)
+    placed-number (entry .args .number) (entry .args .from) (entry .args .to) (now (entry .args .output))
+    (entry .pre .0) (entry .pre .1) (c .before .before .write-number .ensures)
 
 pub put-number-spec : {M : Type 1} → statement M
 put-number-spec = tie.close (tie.spec (search needs) (search needs) (search needs) (search needs) (search needs) returns)
