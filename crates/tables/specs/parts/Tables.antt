@@ -1,7 +1,7 @@
 -- The tables of a setting: the generator as 01 keeps it and its rows one after the other.
--- Holds: `generatorOf`, `rowsLength`; the limits `mostRows`, `longestBlock`, `Narrow`; `RowsOf`, `Ready`.
+-- Holds: `generatorOf`, `generatorRow`, `rowsLength`; the limits `mostRows`, `longestBlock`, `Narrow`; `RowsOf`, `Ready`.
 use mathlib.Core.Path.{_≡_}
-use mathlib.Core.List.{List}
+use mathlib.Core.List.{List, []}
 use Prim.Native.Nat.{ℕ, _+_, _*_, _≤_, _<_}
 use lib.ListN.{length, getD}
 use Rattle.code.specs.declared.Setting.{Setting}
@@ -14,6 +14,10 @@ use Rattle.code.specs.parts.Sound.{Sound}
 -- "kept power of z by power of z, row by row, as one nested table"
 unfoldable pub generatorOf : Setting → List (List (List ℕ))
 generatorOf p = tabulate (p .m + 1) (λ j. tabulate (p .k) (λ r. tabulate (p .n) (λ i. rowSymbol (codeOf p) j r i)))
+
+-- Row r of G_j, read off the nested table.
+abbrev pub generatorRow : Setting → ℕ → ℕ → List ℕ
+generatorRow p j r = getD (getD (generatorOf p) j []) r []
 
 -- How many symbols a setting's rows have.
 abbrev pub rowsLength : Setting → ℕ

@@ -1,0 +1,129 @@
+-- `tables::lay_rows` gives the rows of the setting with the number. The loop's invariant: the first a rows stand in their places.
+use mathlib.Core.Path.{_≡_, refl, sym, ap, subst, _∙_}
+use Prim.Native.Nat.{ℕ, _+_, _-_, _*_, _/_, _%_, _≤_, _<_}
+use native.Mathlib.Omega.{arith}
+use denote.Ref.{now}
+use lib.ListN.{length}
+use lib.Seq.{paste}
+use Rattle.code.specs.declared.Setting.{Setting}
+use Rattle.code.specs.Settings.{settingOf}
+use Rattle.code.specs.parts.Sound.{Sound}
+use Rattle.code.proofs.Settings.{soundOf, sizes}
+use Rattle.tables.specs.parts.Tables.{generatorRow}
+use Rattle.tables.proofs.Filled.{row-within, Filled, filled-none, filled-long, filled-more, rows-of}
+use Rattle.tables.proofs.lay_rows.Statement.{statement}
+use Rattle.tables.proofs.lay_rows.Tie as tie
+
+abbrev Inv-loop : tie.InvT-loop
+Inv-loop number area₀ k n count a₀ area a = (a ≤ count) × (length area ≡ length area₀) × Filled (settingOf number) a area
+
+abbrev μ-loop : tie.MeasureT-loop
+μ-loop number area₀ k n count a₀ area a = count - a
+
+setting-requires : tie.Need-setting-requires Inv-loop μ-loop
+setting-requires c κs = c .before .pre .0
+
+sound : (c : tie.After-setting Inv-loop μ-loop) → Sound (c .setting .result)
+sound c = subst Sound (sym (c .setting .ensures)) (soundOf (c .before .before .args .number) (c .before .before .pre .0))
+
+-- The setting in hand has few rows.
+few : (c : tie.After-setting Inv-loop μ-loop) → (c .setting .result .m + 1) * c .setting .result .k ≤ 255
+few c = omega (arith, sound c .room, sizes (c .setting .result) (sound c) .symbols-most)
+
+add-count : tie.Need-add-count Inv-loop μ-loop
+add-count c = omega (arith, sizes (c .before .setting .result) (sound (c .before)) .memory-most)
+
+mul-count : tie.Need-mul-count Inv-loop μ-loop
+mul-count c = omega (arith, few (c .before))
+
+loop-holds : tie.Need-loop-holds Inv-loop μ-loop
+loop-holds c = (omega arith, refl, filled-none (settingOf (c .before .before .before .args .number)) (now (c .before .before .before .args .area)))
+
+div-lay-generator-row : tie.Need-div-lay-generator-row Inv-loop μ-loop
+div-lay-generator-row c = omega (arith, sound (c .before .before .before) .information)
+
+rem-lay-generator-row : tie.Need-rem-lay-generator-row Inv-loop μ-loop
+rem-lay-generator-row c = omega (arith, sound (c .before .before .before) .information)
+
+-- Row a is one of the generator's, and has room.
+within : (c : tie.In-loop Inv-loop μ-loop)
+    → let p : Setting = settingOf (c .before .before .before .before .before .args .number) in
+    let a : ℕ = c .before .loop .a in
+    (a / p .k < p .m + 1) × (a % p .k < p .k) × (a * p .n + p .n ≤ length (c .before .loop .area))
+within c =
+    let entry = c .before .before .before .before .before in
+    let s = entry .args .number in
+    row-within (settingOf s) (soundOf s (entry .pre .0)) (c .before .loop .a) (c .before .loop .area)
+    (subst (λ (x : Setting). c .before .loop .a < (x .m + 1) * x .k) (c .before .before .before .setting .ensures) (c .loop-test .taken))
+    (omega (arith, entry .pre .1, c .before .loop .inv .1))
+
+-- The same, with the figures of the setting in hand where the code has them.
+requires-of : (c : tie.In-loop Inv-loop μ-loop)
+    → let p : Setting = settingOf (c .before .before .before .before .before .args .number) in
+    let x : Setting = c .before .before .before .setting .result in
+    let a : ℕ = c .before .loop .a in
+    (a / x .k < p .m + 1) × (a % x .k < p .k) × (a * x .n + p .n ≤ length (c .before .loop .area))
+requires-of c =
+    let p : Setting = settingOf (c .before .before .before .before .before .args .number) in
+    let a : ℕ = c .before .loop .a in
+    subst (λ (x : Setting). (a / x .k < p .m + 1) × (a % x .k < p .k) × (a * x .n + p .n ≤ length (c .before .loop .area)))
+    (sym (c .before .before .before .setting .ensures)) (within c)
+
+mul-lay-generator-row : tie.Need-mul-lay-generator-row Inv-loop μ-loop
+mul-lay-generator-row c = omega (arith, requires-of c .2)
+
+lay-generator-row-requires : tie.Need-lay-generator-row-requires Inv-loop μ-loop
+lay-generator-row-requires c κs =
+    let w = requires-of (c .before) in
+    (c .before .before .before .before .before .before .pre .0, w .0, w .1, w .2)
+
+add-a : tie.Need-add-a Inv-loop μ-loop
+add-a c = omega (arith, few (c .before .before .before .before .before .before .before))
+
+loop-less : tie.Need-loop-less Inv-loop μ-loop
+loop-less c = omega arith
+
+loop-again : tie.Need-loop-again Inv-loop μ-loop
+loop-again c =
+    let turn = c .before .before .before .before in
+    let l = turn .before .loop in
+    let p : Setting = settingOf (turn .before .before .before .before .before .args .number) in
+    let after = c .before .before .lay-generator-row .last .1 .1 .1 .1 .0 in
+    let laid : after ≡ paste (l .area) (l .a * p .n) (generatorRow p (l .a / p .k) (l .a % p .k)) (p .n) =
+    subst (λ (x : Setting). after ≡ paste (l .area) (l .a * x .n) (generatorRow p (l .a / x .k) (l .a % x .k)) (p .n))
+    (turn .before .before .before .setting .ensures) (c .before .before .lay-generator-row .ensures) in (
+      omega arith,
+      filled-long p (l .a) (l .area) after (l .inv .2) (within turn) laid ∙ l .inv .1,
+      filled-more p (l .a) (l .area) after (l .inv .2) (within turn) laid,
+    )
+
+returns : tie.Need-returns Inv-loop μ-loop
+returns c =
+    let entry = c .before .before .before .before .before in
+    let p : Setting = settingOf (entry .args .number) in
+    let l = c .before .loop in
+    let x : Setting = c .before .before .before .setting .result in
+    let full : l .a ≡ (x .m + 1) * x .k = omega arith in
+    rows-of p (l .area)
+    (subst (λ (t : ℕ). Filled p t (l .area)) (full ∙ ap (λ (y : Setting). (y .m + 1) * y .k) (c .before .before .before .setting .ensures)) (l .inv .2))
+    (omega (arith, entry .pre .1, l .inv .1))
+
+pub lay-rows-spec : {M : Type 1} → statement M
+lay-rows-spec =
+    tie.close
+    (tie.spec
+    Inv-loop
+    μ-loop
+    setting-requires
+    add-count
+    mul-count
+    loop-holds
+    div-lay-generator-row
+    rem-lay-generator-row
+    mul-lay-generator-row
+    lay-generator-row-requires
+    add-a
+    loop-less
+    loop-again
+    (omega arith)
+    returns)
