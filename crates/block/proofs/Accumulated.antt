@@ -1,5 +1,5 @@
--- A loop that adds up: what its sum is before the first term, and after one more.
--- Holds: `zero-below`, `alpha-below`, `sum-none`, `sum-more`; `zeros-below`, a cleared area; `below-set`, an area after a store; `all-symbols`; `total-none`, `total-same`, `total-more`.
+-- What loops make: areas of symbols below q, and counts.
+-- Holds: `alpha-below`; `below-set`, an area after a store; `total-none`, `total-same`, `total-more`; `all-symbols`; `zeros-below`, a cleared area.
 use mathlib.Core.Path.{_≡_, refl, sym, ap, subst, _∙_}
 use mathlib.Core.List.{List}
 use Prim.Native.Nat.{ℕ, suc, _+_, _<_}
@@ -8,29 +8,16 @@ use native.Mathlib.Omega.{arith}
 use native.Mathlib.Decide.{ℕ-discrete, decLt}
 use lib.ListN.{length, getD, set, replicate}
 use lib.Seq.{getD-set-same, getD-set-other, set-out}
-use Rattle.algebra.specs.Sum.{sum}
 use Rattle.algebra.specs.Weight.{total}
-use Rattle.field.specs.Fields.{Good, opsOf, alpha}
-use Rattle.field.specs.Symbols.{Is, Symbols}
-use Rattle.field.proofs.Laws.{lawsOf, orderOf}
+use Rattle.field.specs.Fields.{Good, alpha}
+use Rattle.field.specs.Symbols.{Symbols}
+use Rattle.field.proofs.Laws.{orderOf}
+use Rattle.field.proofs.Sums.{zero-below}
 use Rattle.code.proofs.Lists.{getD-zeros}
 use Rattle.block.specs.parts.Area.{AllBelow}
 
-pub zero-below : (q : ℕ) → Good q → 0 < q
-zero-below q good = omega (arith, lawsOf q good .one-below)
-
 pub alpha-below : (q : ℕ) → Good q → alpha < q
 alpha-below q good = orderOf q good .root-below
-
-module _ (q : ℕ) (f : ℕ → ℕ) where
-  pub sum-none : Good q → Is q 0 (sum (opsOf q) 0 f)
-  unfolding sum opsOf
-  sum-none good = record { same = refl; below = zero-below q good }
-
-  pub sum-more : (a s r : ℕ) → Is q s (sum (opsOf q) a f) → Is q r (opsOf q .add s (f a)) → Is q r (sum (opsOf q) (a + 1) f)
-  unfolding sum
-  sum-more a s r h e =
-      record { same = e .same ∙ ap (λ (t : ℕ). opsOf q .add t (f a)) (h .same) ∙ ap (λ (t : ℕ). sum (opsOf q) t f) (sym (add-one a)); below = e .below }
 
 -- The symbols of an area after a store are below q.
 pub below-set : (q : ℕ) (l : List ℕ) (i v : ℕ) → AllBelow q l → v < q → AllBelow q (set l i v)

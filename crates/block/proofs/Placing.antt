@@ -11,7 +11,7 @@ use Rattle.field.proofs.Laws.{lawsOf}
 use Rattle.block.specs.parts.Area.{AllBelow, at}
 use Rattle.block.specs.parts.Locator.{tail, Located}
 use Rattle.block.specs.parts.Progress.{Unit, Multiple, Placed}
-use Rattle.block.proofs.Accumulated.{zero-below}
+use Rattle.field.proofs.Sums.{zero-below}
 use Rattle.block.proofs.LocatorBelow.{start-below, kept-below, corrected-below, grown-below}
 
 module _ (q : ℕ) (good : Good q) where

@@ -24,7 +24,8 @@ use Rattle.code.specs.parts.Sound.{Sound}
 use Rattle.code.proofs.Blocks.{timesG-ext}
 use Rattle.block.specs.parts.Area.{AllBelow, at}
 use Rattle.block.specs.parts.Information.{lacking, BlockRead, Read}
-use Rattle.block.proofs.Accumulated.{zero-below, zeros-below, below-set}
+use Rattle.field.proofs.Sums.{zero-below}
+use Rattle.block.proofs.Accumulated.{zeros-below, below-set}
 use Rattle.block.proofs.CandidateBelow.{recovered-more}
 
 module _ (q : ℕ) (good : Good q) where

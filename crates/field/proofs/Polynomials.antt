@@ -9,7 +9,7 @@ use borrow.Rule.Slice.PartAt.{part-to-end}
 use Rattle.algebra.specs.Polynomial.{value}
 use Rattle.field.specs.Fields.{opsOf, Good}
 use Rattle.field.specs.Symbols.{Is}
-use Rattle.field.proofs.Laws.{lawsOf}
+use Rattle.field.proofs.Sums.{zero-below}
 
 -- The rest as code makes it, the part of the list from 1 on, is shorter.
 pub rest-shorter : (l : List ℕ) (t : ℕ) → length l ≡ t → (length l ≡ 0 → ⊥) → length (take (length l - 1) (drop 1 l)) < t
@@ -18,7 +18,7 @@ rest-shorter l t e some = simp (length-take, length-drop) (omega arith)
 module _ (q x : ℕ) where
   pub value-of-none : (l : List ℕ) → Good q → length l ≡ 0 → Is q 0 (value (opsOf q) l x)
   unfolding value opsOf
-  value-of-none [] good e = let one : 1 < q = lawsOf q good .one-below in record { same = refl; below = omega arith }
+  value-of-none [] good e = record { same = refl; below = zero-below q good }
   value-of-none (c ∷ l) good e = let never : suc (length l) ≡ 0 = e in absurd (omega arith)
 
   pub value-of-more : (l : List ℕ) (r v : ℕ) → (length l ≡ 0 → ⊥) → v ≡ value (opsOf q) (take (length l - 1) (drop 1 l)) x

@@ -1,5 +1,5 @@
 -- Where symbols stand in a setting's rows, with the bounds that the code asks; sums that the loops make.
--- Holds: `Place`, `place-of`, `first-place`; `product-sum`, `product-sum-all` (the sum over the rows of G_j), `combination-sum`, `combination-sum-all`; `sum-more`.
+-- Holds: `Place`, `place-of`, `first-place`; `product-sum`, `product-sum-all` (the sum over the rows of G_j), `combination-sum`, `combination-sum-all`.
 use mathlib.Core.Path.{_≡_, sym, ap, subst}
 use mathlib.Core.List.{List}
 use Prim.Native.Nat.{ℕ, _+_, _-_, _*_, _≤_, _<_}
@@ -53,11 +53,6 @@ first-place p S rows R =
 abbrev pub product-sum : ℕ → List ℕ → List ℕ → ℕ → ℕ → ℕ → ℕ → ℕ → ℕ → ℕ
 product-sum q rows information from n k j i r =
     sum (opsOf q) r (λ a. opsOf q .mul (getD information (from + a) 0) (getD rows ((j * k + a) * n + i) 0))
-
--- One more term of a sum, in the code's form.
-pub sum-more : (q : ℕ) (f : ℕ → ℕ) (r : ℕ) → opsOf q .add (sum (opsOf q) r f) (f r) ≡ sum (opsOf q) (r + 1) f
-unfolding sum
-sum-more q f r = ap (λ (t : ℕ). sum (opsOf q) t f) (sym (add-one r))
 
 -- The whole sum is (information block) × G_j.
 pub product-sum-all : (p : Setting) (rows information : List ℕ) (from j i : ℕ) → RowsOf p rows → j ≤ p .m → i < p .n

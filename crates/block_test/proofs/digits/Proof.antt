@@ -8,7 +8,7 @@ use Rattle.field.specs.Symbols.{Symbols}
 use Rattle.field.proofs.Operations.{good-small}
 use Rattle.field.proofs.Symbols.{symbols-set, symbols-zeros}
 use Rattle.tables.specs.parts.Tables.{longestBlock}
-use Rattle.block.proofs.Accumulated.{zero-below}
+use Rattle.field.proofs.Sums.{zero-below}
 use Rattle.block_test.proofs.digits.Statement.{statement}
 use Rattle.block_test.proofs.digits.Tie as tie
 

@@ -1,13 +1,13 @@
 -- `block::locator::tail` meets its contract. The loop's invariant: the sum so far is that of a terms.
-use mathlib.Core.Path.{_≡_}
+use mathlib.Core.Path.{_≡_, refl}
 use Prim.Native.Nat.{_≤_, _-_, _+_}
 use native.Mathlib.Omega.{arith}
 use borrow.Author.Needs.{needs}
 use Rattle.field.specs.Fields.{opsOf}
 use Rattle.field.specs.Symbols.{Is}
+use Rattle.field.proofs.Sums.{sum-none, sum-more}
 use Rattle.block.specs.parts.Area.{at}
 use Rattle.block.specs.parts.Locator.{tail}
-use Rattle.block.proofs.Accumulated.{sum-none, sum-more}
 use Rattle.block.proofs.locator.tail.Statement.{statement}
 use Rattle.block.proofs.locator.tail.Tie as tie
 
@@ -46,7 +46,7 @@ loop-again : tie.Need-loop-again Inv-loop μ-loop
 unfolding tail
 loop-again c =
     let l = c .before .before .before .before .loop in
-    (omega arith, sum-more _ _ (l .a) (l .sum) _ (l .inv .1) (c .add-product .ensures))
+    (omega arith, sum-more _ _ (l .a) (l .sum) _ _ (l .inv .1) refl (c .add-product .ensures))
 
 returns : tie.Need-returns Inv-loop μ-loop
 returns c =

@@ -4,7 +4,7 @@ use Prim.Native.Nat.{ℕ, _-_, _≤_, _<_}
 use native.Mathlib.Omega.{arith}
 use denote.Ref.{now}
 use lib.ListN.{length}
-use Rattle.field.proofs.Laws.{lawsOf}
+use Rattle.field.proofs.Sums.{zero-below}
 use Rattle.field.proofs.Symbols.{symbol-below}
 use Rattle.tables.specs.parts.Adding.{MultipleAdded}
 use Rattle.tables.proofs.Adding.{multiple-none, multiple-more}
@@ -31,7 +31,7 @@ add-product-requires c κs =
     let entry = c .before .before .before .before .before .before in
     let a = entry .args in
     let l = c .before .before .before .loop in
-    let positive : 0 < a .q = omega (arith, lawsOf (a .q) (entry .pre .0) .one-below) in
+    let positive = zero-below (a .q) (entry .pre .0) in
     (entry .pre .0, entry .pre .1, symbol-below (a .q) (l .block) (l .inv .1 .symbols) positive (l .i), entry .pre .2, symbol-below (a .q) (now (a .row)) (entry .pre .3) positive (l .i))
 
 slice-write-block : tie.Need-slice-write-block Inv-loop μ-loop

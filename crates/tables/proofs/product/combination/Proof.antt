@@ -1,19 +1,14 @@
 -- `tables::product::combination`: the loop makes the sum over j of x_(l-j) × G_j.
-use mathlib.Core.Path.{_≡_, refl, ap, ap₂, _∙_}
+use mathlib.Core.Path.{_≡_, ap, _∙_}
 use Prim.Native.Nat.{_+_, _-_, _*_, _≤_}
 use native.Mathlib.Nat.{mul-le-mul-right}
 use native.Mathlib.Omega.{arith}
 use denote.Ref.{now}
 use lib.ListN.{length}
-use Rattle.algebra.specs.Sum.{sum}
-use Rattle.field.specs.Fields.{opsOf}
 use Rattle.field.specs.Symbols.{Is}
-use Rattle.code.specs.Generator.{timesG}
-use Rattle.code.specs.Transmission.{view}
-use Rattle.code.specs.Settings.{codeOf}
+use Rattle.field.proofs.Sums.{sum-none, sum-more}
 use Rattle.code.proofs.Settings.{sizes}
-use Rattle.code.proofs.Numbers.{positive}
-use Rattle.tables.proofs.Places.{combination-sum, combination-sum-all, sum-more}
+use Rattle.tables.proofs.Places.{combination-sum, combination-sum-all}
 use Rattle.tables.proofs.product.combination.Statement.{statement}
 use Rattle.tables.proofs.product.combination.Tie as tie
 
@@ -24,8 +19,7 @@ abbrev μ-loop : tie.MeasureT-loop
 μ-loop p products rows information l i q k sum₀ j₀ sum j = l + 1 - j
 
 loop-holds : tie.Need-loop-holds Inv-loop μ-loop
-unfolding sum opsOf
-loop-holds c = (omega arith, record { same = refl; below = positive (c .before .before .args .p) (c .before .before .pre .0 .sound) })
+loop-holds c = (omega arith, sum-none _ _ (c .before .before .pre .0 .sound .good))
 
 -- The l - j + 1 blocks up to the one in turn lie within the information.
 within : (c : tie.In-loop Inv-loop μ-loop)
@@ -54,17 +48,8 @@ loop-less c = omega arith
 
 loop-again : tie.Need-loop-again Inv-loop μ-loop
 loop-again c =
-    let entry = c .before .before .before .before .before .before in (
-      omega arith,
-      record {
-        same =
-            c .add .ensures .same
-            ∙ (ap₂ (opsOf (entry .args .p .q) .add) (c .before .before .before .loop .inv .1 .same) (c .before .times-g .ensures .same)
-            ∙ sum-more (entry .args .p .q) (λ b. timesG (codeOf (entry .args .p)) (view (entry .args .p .k) (now (entry .args .information)) (entry .args .l - b)) b (entry .args .i))
-            (c .before .before .before .loop .j));
-        below = c .add .ensures .below;
-      },
-    )
+    let l = c .before .before .before .loop in
+    (omega arith, sum-more _ _ (l .j) (l .sum) _ _ (l .inv .1) (c .before .times-g .ensures .same) (c .add .ensures))
 
 returns : tie.Need-returns Inv-loop μ-loop
 returns c =

@@ -1,16 +1,14 @@
 -- `tables::product::times_g`: the loop makes the sum over the rows of G_j.
 use mathlib.Core.Path.{_≡_, refl, ap, _∙_}
-use Prim.Native.Nat.{ℕ, _+_, _-_, _*_, _≤_}
+use Prim.Native.Nat.{_+_, _-_, _≤_}
 use native.Mathlib.Omega.{arith}
 use denote.Ref.{now}
-use lib.ListN.{getD}
-use Rattle.algebra.specs.Sum.{sum}
-use Rattle.field.specs.Fields.{opsOf}
 use Rattle.field.specs.Symbols.{Is}
 use Rattle.field.proofs.Symbols.{symbol-below}
+use Rattle.field.proofs.Sums.{sum-none, sum-more}
 use Rattle.code.proofs.Settings.{sizes}
 use Rattle.code.proofs.Numbers.{positive}
-use Rattle.tables.proofs.Places.{Place, place-of, product-sum, sum-more, product-sum-all}
+use Rattle.tables.proofs.Places.{Place, place-of, product-sum, product-sum-all}
 use Rattle.tables.proofs.product.times_g.Statement.{statement}
 use Rattle.tables.proofs.product.times_g.Tie as tie
 
@@ -21,8 +19,7 @@ abbrev μ-loop : tie.MeasureT-loop
 μ-loop products rows information from j i q k n sum₀ r₀ sum r = k - r
 
 loop-holds : tie.Need-loop-holds Inv-loop μ-loop
-unfolding sum opsOf
-loop-holds c = (omega arith, record { same = refl; below = positive (c .before .before .args .p) (c .before .before .pre .0 .sound) })
+loop-holds c = (omega arith, sum-none _ _ (c .before .before .pre .0 .sound .good))
 
 add-add-product : tie.Need-add-add-product Inv-loop μ-loop
 add-add-product c = omega arith
@@ -71,20 +68,8 @@ loop-less c = omega arith
 
 loop-again : tie.Need-loop-again Inv-loop μ-loop
 loop-again c =
-    let entry = c .before .before .before .before .before .before .before in
-    let r = c .before .before .before .before .loop .r in (
-      omega arith,
-      record {
-        same =
-            c .add-product .ensures .same
-            ∙ (ap (λ (t : ℕ). opsOf (entry .args .p .q) .add t
-            (opsOf (entry .args .p .q) .mul (getD (now (entry .args .information)) (entry .args .from + r) 0)
-            (getD (now (entry .args .rows)) ((entry .args .j * entry .args .p .k + r) * entry .args .p .n + entry .args .i) 0)))
-            (c .before .before .before .before .loop .inv .1 .same)
-            ∙ sum-more (entry .args .p .q) _ r);
-        below = c .add-product .ensures .below;
-      },
-    )
+    let l = c .before .before .before .before .loop in
+    (omega arith, sum-more _ _ (l .r) (l .sum) _ _ (l .inv .1) refl (c .add-product .ensures))
 
 returns : tie.Need-returns Inv-loop μ-loop
 returns c =

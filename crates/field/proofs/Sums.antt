@@ -1,0 +1,26 @@
+-- A loop that adds up: what its sum is before the first term, and after one more.
+-- Holds: `zero-below`, `sum-none`, `sum-more`.
+use mathlib.Core.Path.{_≡_, refl, sym, ap, ap₂, _∙_}
+use Prim.Native.Nat.{ℕ, _+_, _<_}
+use native.Mathlib.Numerals.{add-one}
+use native.Mathlib.Omega.{arith}
+use Rattle.algebra.specs.Sum.{sum}
+use Rattle.field.specs.Fields.{opsOf, Good}
+use Rattle.field.specs.Symbols.{Is}
+use Rattle.field.proofs.Laws.{lawsOf}
+
+pub zero-below : (q : ℕ) → Good q → 0 < q
+zero-below q good = omega (arith, lawsOf q good .one-below)
+
+module _ (q : ℕ) (f : ℕ → ℕ) where
+  pub sum-none : Good q → Is q 0 (sum (opsOf q) 0 f)
+  unfolding sum opsOf
+  sum-none good = record { same = refl; below = zero-below q good }
+
+  pub sum-more : (a s v r : ℕ) → Is q s (sum (opsOf q) a f) → v ≡ f a → Is q r (opsOf q .add s v) → Is q r (sum (opsOf q) (a + 1) f)
+  unfolding sum
+  sum-more a s v r h term e =
+      record {
+        same = e .same ∙ ap₂ (opsOf q .add) (h .same) term ∙ ap (λ (t : ℕ). sum (opsOf q) t f) (sym (add-one a));
+        below = e .below;
+      }
