@@ -100,51 +100,44 @@ pub fn add_found(
     }
 }
 
-// Guesses block i of the message from the first k symbols of what is left of its block: any guess will do, and this one is right where they
-// were not altered. Row r of G_0 is zero before place r and has the symbol 1/scale there.
-fn guess_from_start(
+// Which of k symbols is taken in a turn: they are taken upwards, or downwards.
+fn taken(down: bool, k: usize, turn: usize) -> usize
+    requires { ⌜ turn < k ⌝ }
+    ensures { λ r. ⌜ r < k ⌝ }
+{
+    if down {
+        return k - 1 - turn;
+    }
+    turn
+}
+
+// Guesses block i of the message from the k symbols at `first` of what is left of its block: any guess will do. From the first symbols upwards, and from the
+// last ones downwards, it is right where they were not altered: row r of G_0 is zero before place r and has the symbol 1/scale there, and it is zero after
+// place n - k + r and has the symbol 1 there.
+fn guess_from(
     p: Setting,
     products: &Tables,
     rows: &[u8],
     scale: u8,
+    first: usize,
+    down: bool,
     blocks: usize,
     i: usize,
     message: &mut [u8],
     left: &mut [u8],
 )
-    requires { ⌜ Ready p (now products) (now rows) × (scale < p .q) × (i < blocks) × Areas p blocks (now message) (now left) ⌝ }
+    requires { ⌜ Ready p (now products) (now rows) × (scale < p .q) × (first + p .k ≤ p .n) × (i < blocks) × Areas p blocks (now message) (now left) ⌝ }
     ensures { λ _. ⌜ Revised p blocks i (now (message .entry)) (now (left .entry)) (now (message .exit)) (now (left .exit)) ⌝ }
 {
     let q = p.q;
     let k = p.k;
-    let start = i * p.n;
-    let mut r: usize = 0;
-    while r < k {
+    let start = i * p.n + first;
+    let mut turn: usize = 0;
+    while turn < k {
+        let r = taken(down, k, turn);
         let v = field::multiply(q, products, scale, left[start + r]);
         adjust(p, products, rows, blocks, i, r, v, message, left);
-        r += 1;
-    }
-}
-
-// The same from the last k symbols: row r of G_0 is zero after place n - k + r and has the symbol 1 there.
-fn guess_from_end(
-    p: Setting,
-    products: &Tables,
-    rows: &[u8],
-    blocks: usize,
-    i: usize,
-    message: &mut [u8],
-    left: &mut [u8],
-)
-    requires { ⌜ Ready p (now products) (now rows) × (i < blocks) × Areas p blocks (now message) (now left) ⌝ }
-    ensures { λ _. ⌜ Revised p blocks i (now (message .entry)) (now (left .entry)) (now (message .exit)) (now (left .exit)) ⌝ }
-{
-    let last = i * p.n + (p.n - p.k);
-    let mut r = p.k;
-    while 0 < r {
-        r -= 1;
-        let v = left[last + r];
-        adjust(p, products, rows, blocks, i, r, v, message, left);
+        turn += 1;
     }
 }
 
@@ -178,11 +171,12 @@ fn guess_block(
     if is_light(p, i, left) {
         return;
     }
-    guess_from_start(p, products, rows, scale, blocks, i, message, left);
+    guess_from(p, products, rows, scale, 0, false, blocks, i, message, left);
     if is_light(p, i, left) {
         return;
     }
-    guess_from_end(p, products, rows, blocks, i, message, left);
+    let last = p.n - p.k;
+    guess_from(p, products, rows, 1, last, true, blocks, i, message, left);
 }
 
 // Guesses the blocks of window j.
