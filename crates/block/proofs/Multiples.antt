@@ -1,15 +1,15 @@
 -- The loop that subtracts a multiple of one series from another: its promise at count 0, and with one more term.
 -- Holds: `multiple-none`, `multiple-more`.
-use mathlib.Core.Path.{_≡_, refl, sym, ap, _∙_}
+use mathlib.Core.Path.{_≡_, refl, ap₂, _∙_}
 use mathlib.Core.List.{List}
 use Prim.Native.Nat.{ℕ, _+_, _<_}
 use native.Mathlib.Omega.{arith}
-use native.Mathlib.Decide.{ℕ-discrete}
 use lib.ListN.{length, getD, set}
-use lib.Seq.{getD-set-same, getD-set-other}
+use lib.Seq.{getD-set-other}
 use Rattle.algebra.specs.Ops.{sub}
 use Rattle.field.specs.Fields.{opsOf}
 use Rattle.field.specs.Symbols.{Is}
+use Rattle.code.proofs.Lists.{stored}
 use Rattle.block.specs.parts.Area.{AllBelow, at}
 use Rattle.block.specs.parts.Progress.{Multiple}
 use Rattle.block.proofs.Accumulated.{below-set}
@@ -28,19 +28,11 @@ module _ (q factor shift : ℕ) (source before : List ℕ) where
         subtracted =
             record {
               before = λ j l. other j (omega arith) ∙ h .subtracted .before j l;
-              inside = λ j l. at-term j l (ℕ-discrete j i);
+              inside = stored target (λ j. shift + j) (λ j. sub (opsOf q) (getD before (shift + j) 0) (opsOf q .mul factor (getD source j 0))) i v room
+                  (minus .same ∙ ap₂ (sub (opsOf q)) (h .subtracted .after i (omega arith)) (times .same)) (λ j l. omega arith) (h .subtracted .inside);
               after = λ j l. other (shift + j) (omega arith) ∙ h .subtracted .after j (omega arith);
             };
       }
     where
       other : (j : ℕ) → (j ≡ shift + i → ⊥) → getD (set target (shift + i) v) j 0 ≡ getD target j 0
       other j d = getD-set-other target (shift + i) j v 0 d
-
-      at-term : (j : ℕ) → j < i + 1 → Dec (j ≡ i)
-          → getD (set target (shift + i) v) (shift + j) 0 ≡ sub (opsOf q) (getD before (shift + j) 0) (opsOf q .mul factor (getD source j 0))
-      at-term j l (yes e) =
-          ap (λ (t : ℕ). getD (set target (shift + i) v) (shift + t) 0) e ∙ getD-set-same target (shift + i) v 0 room ∙ minus .same
-          ∙ ap (λ (t : ℕ). sub (opsOf q) t product) (h .subtracted .after i (omega arith))
-          ∙ ap (λ (t : ℕ). sub (opsOf q) (getD before (shift + i) 0) t) (times .same)
-          ∙ ap (λ (t : ℕ). sub (opsOf q) (getD before (shift + t) 0) (opsOf q .mul factor (getD source t 0))) (sym e)
-      at-term j l (no d) = other (shift + j) (omega arith) ∙ h .subtracted .inside j (omega arith)

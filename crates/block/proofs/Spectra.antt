@@ -1,13 +1,12 @@
 -- The loops on spectra: their promises before the first turn, and after one more.
 -- Holds: `point-none`, `point-more`, `spectrum-none`, `spectrum-more`; `found-longer`; `tail-ext`, `continued-none`, `continued-more`.
-use mathlib.Core.Path.{_≡_, refl, sym, ap, _∙_}
+use mathlib.Core.Path.{_≡_, refl, sym, ap, ap₂, _∙_}
 use mathlib.Core.List.{List}
 use Prim.Native.Nat.{ℕ, zero, suc, _+_, _-_, _≤_, _<_}
 use native.Mathlib.Numerals.{add-one}
 use native.Mathlib.Omega.{arith}
-use native.Mathlib.Decide.{ℕ-discrete}
 use lib.ListN.{length, getD, set}
-use lib.Seq.{getD-set-same, getD-set-other}
+use lib.Seq.{getD-set-other}
 use Rattle.algebra.specs.Ops.{Ops}
 use Rattle.algebra.specs.Sum.{power}
 use Rattle.algebra.specs.Polynomial.{value}
@@ -15,6 +14,7 @@ use Rattle.algebra.proofs.Sums.{sum-ext}
 use Rattle.field.specs.Fields.{Good, opsOf, alpha}
 use Rattle.field.specs.Symbols.{Is}
 use Rattle.field.proofs.Laws.{lawsOf}
+use Rattle.code.proofs.Lists.{stored}
 use Rattle.block.specs.parts.Area.{AllBelow, at}
 use Rattle.block.specs.parts.Locator.{tail}
 use Rattle.block.specs.parts.Progress.{Unit, Found}
@@ -61,15 +61,9 @@ module _ (q : ℕ) where
       record {
         below = below-set q series (s + 1) v (h .below) (is-value .below);
         first = getD-set-other series (s + 1) 0 v 0 (omega arith) ∙ h .first;
-        values = λ t l. at-value t l (ℕ-discrete t s);
+        values = stored series (λ t. t + 1) (λ t. value (opsOf q) block (power (opsOf q) alpha t)) s v room
+            (is-value .same ∙ ap (value (opsOf q) block) (at-point .same)) (λ t l. omega arith) (h .values);
       }
-    where
-      at-value : (t : ℕ) → t < s + 1 → Dec (t ≡ s) → getD (set series (s + 1) v) (t + 1) 0 ≡ value (opsOf q) block (power (opsOf q) alpha t)
-      at-value t l (yes e) =
-          ap (λ (i : ℕ). getD (set series (s + 1) v) (i + 1) 0) e
-          ∙ getD-set-same series (s + 1) v 0 room
-          ∙ is-value .same ∙ ap (value (opsOf q) block) (at-point .same) ∙ ap (λ (i : ℕ). value (opsOf q) block (power (opsOf q) alpha i)) (sym e)
-      at-value t l (no d) = getD-set-other series (s + 1) (t + 1) v 0 (omega arith) ∙ h .values t (omega arith)
 
 -- A tail at a place looks only at earlier terms.
 pub tail-ext : {F : Type 0} (o : Ops F) (L : ℕ) (σ c d : ℕ → F) (j : ℕ) → 0 < j → ((i : ℕ) → i < j → c i ≡ d i) → tail o L σ c j ≡ tail o L σ d j
@@ -98,8 +92,12 @@ module _ (q L r : ℕ) (locator before : List ℕ) where
         extended =
             record {
               kept = λ j l. other j (omega arith) ∙ h .extended .kept j l;
-              recurs = λ t l. at-place t l (ℕ-discrete t u);
-              difference = λ t l. at-value t l (ℕ-discrete t u);
+              recurs = stored after (λ t. r + 1 + t) (λ t. opsOf q .neg (later t)) u w room
+                  (is-negative .same ∙ ap (opsOf q .neg) (is-tail .same ∙ tails u (omega arith))) (λ t l. omega arith)
+                  (λ t l. h .extended .recurs t l ∙ ap (opsOf q .neg) (tails t (omega arith)));
+              difference = stored values (λ t. t) (λ t. opsOf q .add (getD before (r + 1 + t) 0) (later t)) u v values-room
+                  (is-sum .same ∙ ap₂ (opsOf q .add) (h .beyond (r + 1 + u) (omega arith)) (is-tail .same ∙ tails u (omega arith))) (λ t l. omega arith)
+                  (λ t l. h .extended .difference t l ∙ ap (opsOf q .add (getD before (r + 1 + t) 0)) (tails t (omega arith)));
             };
         beyond = λ j l. other j (omega arith) ∙ h .beyond j (omega arith);
       }
@@ -107,26 +105,9 @@ module _ (q L r : ℕ) (locator before : List ℕ) where
       other : (j : ℕ) → (j ≡ r + 1 + u → ⊥) → getD (set after (r + 1 + u) w) j 0 ≡ getD after j 0
       other j d = getD-set-other after (r + 1 + u) j w 0 d
 
+      -- A tail of what there is then: the same, since it looks only at earlier terms.
+      later : ℕ → ℕ
+      later t = tail (opsOf q) L (at locator) (at (set after (r + 1 + u) w)) (r + 1 + t)
+
       tails : (t : ℕ) → t < u + 1 → tail (opsOf q) L (at locator) (at after) (r + 1 + t) ≡ tail (opsOf q) L (at locator) (at (set after (r + 1 + u) w)) (r + 1 + t)
       tails t l = tail-ext (opsOf q) L (at locator) (at after) (at (set after (r + 1 + u) w)) (r + 1 + t) (omega arith) (λ i s. sym (other i (omega arith)))
-
-      at-place : (t : ℕ) → t < u + 1 → Dec (t ≡ u)
-          → getD (set after (r + 1 + u) w) (r + 1 + t) 0 ≡ opsOf q .neg (tail (opsOf q) L (at locator) (at (set after (r + 1 + u) w)) (r + 1 + t))
-      at-place t l (yes e) =
-          ap (λ (i : ℕ). getD (set after (r + 1 + u) w) (r + 1 + i) 0) e
-          ∙ getD-set-same after (r + 1 + u) w 0 room
-          ∙ is-negative .same ∙ ap (opsOf q .neg) (is-tail .same ∙ ap (λ (i : ℕ). tail (opsOf q) L (at locator) (at after) (r + 1 + i)) (sym e) ∙ tails t l)
-      at-place t l (no d) = other (r + 1 + t) (omega arith) ∙ h .extended .recurs t (omega arith) ∙ ap (opsOf q .neg) (tails t l)
-
-      at-value : (t : ℕ) → t < u + 1 → Dec (t ≡ u)
-          → getD (set values u v) t 0 ≡ opsOf q .add (getD before (r + 1 + t) 0) (tail (opsOf q) L (at locator) (at (set after (r + 1 + u) w)) (r + 1 + t))
-      at-value t l (yes e) =
-          ap (λ (i : ℕ). getD (set values u v) i 0) e
-          ∙ getD-set-same values u v 0 values-room
-          ∙ is-sum .same
-          ∙ ap (λ (i : ℕ). opsOf q .add i rest) (h .beyond (r + 1 + u) (omega arith))
-          ∙ ap (opsOf q .add (getD before (r + 1 + u) 0)) (is-tail .same)
-          ∙ ap (λ (i : ℕ). opsOf q .add (getD before (r + 1 + i) 0) (tail (opsOf q) L (at locator) (at after) (r + 1 + i))) (sym e)
-          ∙ ap (opsOf q .add (getD before (r + 1 + t) 0)) (tails t l)
-      at-value t l (no d) =
-          getD-set-other values u t v 0 d ∙ h .extended .difference t (omega arith) ∙ ap (opsOf q .add (getD before (r + 1 + t) 0)) (tails t l)

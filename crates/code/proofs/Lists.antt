@@ -1,13 +1,13 @@
 -- Lists as blocks: tabulated lists, symbols of a list, equal parts.
--- Holds: `length-tabulate`, `getD-tabulate`, `view-tabulate`, `getD-zeros`, `equal-part`, `part-equal`, `copied-whole`.
+-- Holds: `length-tabulate`, `getD-tabulate`, `view-tabulate`, `getD-zeros`, `equal-part`, `part-equal`, `copied-whole`; `stored` (a loop that fills places).
 use mathlib.Core.Path.{_≡_, refl, sym, ap, ap₂, _∙_}
 use mathlib.Core.List.{List, _++_, append-nil}
 use Prim.Native.Nat.{ℕ, zero, suc, _+_, _*_, _/_, _%_, _≤_, _<_}
 use native.Mathlib.Omega.{arith}
-use native.Mathlib.Decide.{decLt}
+use native.Mathlib.Decide.{decLt, ℕ-discrete}
 use lib.Arith.{digits-div, digits-mod, digits-lt}
-use lib.ListN.{length, getD, take, drop, replicate, drop-of-length-le, length-take, length-replicate, getD-replicate, List·getD-eq-default}
-use lib.Seq.{ext-getD, getD-take, take-length}
+use lib.ListN.{length, getD, take, drop, set, replicate, drop-of-length-le, length-take, length-replicate, getD-replicate, List·getD-eq-default}
+use lib.Seq.{ext-getD, getD-take, take-length, getD-set-same, getD-set-other}
 use Rattle.code.specs.Transmission.{view, tabulate}
 
 pub length-tabulate : {A : Type 0} (n : ℕ) (f : ℕ → A) → length (tabulate n f) ≡ n
@@ -53,3 +53,12 @@ pub copied-whole : (source area after : List ℕ) → length area ≡ length sou
 copied-whole source area after same e =
     let short : length area ≤ length source = omega arith in
     e ∙ (ap₂ _++_ (take-length source) (drop-of-length-le area short) ∙ append-nil source)
+
+-- A loop fills places one after the other: place a is to hold f a, it does for a < i, and f i is stored in place i.
+pub stored : (l : List ℕ) (place f : ℕ → ℕ) (i v : ℕ) → place i < length l → v ≡ f i → ((a : ℕ) → a < i → place a ≡ place i → ⊥)
+    → ((a : ℕ) → a < i → getD l (place a) 0 ≡ f a) → (a : ℕ) → a < i + 1 → getD (set l (place i) v) (place a) 0 ≡ f a
+stored l place f i v room e apart filled a h = at (ℕ-discrete a i)
+  where
+    at : Dec (a ≡ i) → getD (set l (place i) v) (place a) 0 ≡ f a
+    at (yes s) = ap (λ (t : ℕ). getD (set l (place i) v) (place t) 0) s ∙ getD-set-same l (place i) v 0 room ∙ e ∙ ap f (sym s)
+    at (no d) = let below : a < i = omega arith in getD-set-other l (place i) (place a) v 0 (apart a below) ∙ filled a below

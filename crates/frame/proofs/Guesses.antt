@@ -26,6 +26,7 @@ use Rattle.code.specs.Windows.{windowLength}
 use Rattle.code.specs.parts.Reading.{only}
 use Rattle.code.proofs.Numbers.{laws, positive, rowSymbol-below}
 use Rattle.code.proofs.Settings.{block-positive}
+use Rattle.code.proofs.Lists.{stored}
 use Rattle.code.proofs.Residuals.{window-view, add-opposite}
 use Rattle.code.proofs.ResidualSteps.{timesG-only, lessened, residual-step}
 use Rattle.tables.specs.parts.Adding.{plusRow, RowsAdded}
@@ -223,22 +224,12 @@ module _ {p : Setting} {T j : ℕ} {x : ℕ → ℕ} {message left : List ℕ} w
   adding-more {r} {message' = message'} {left' = left'} {message'' = message''} lj lr D B e =
       record {
         revised = revised-then (D .revised) (B .revised) (omega arith);
-        symbol = λ a l. at a (ℕ-discrete a r) l;
-        rest = λ a l. elsewhere a (omega arith) ∙ D .rest a (omega arith);
+        symbol = λ a l. ap (λ (t : List ℕ). getD t (j * p .k + a) 0) (B .added)
+            ∙ stored message' (λ b. j * p .k + b) (λ b. opsOf (p .q) .add (getD message (j * p .k + b) 0) (x b)) r _
+            (symbol-room p T j r message' left' (D .revised .areas) lj lr) (ap₂ (opsOf (p .q) .add) (D .rest (j * p .k + r) (omega arith)) e)
+            (λ b h. omega arith) (D .symbol) a l;
+        rest = λ a l. ap (λ (t : List ℕ). getD t a 0) (B .added) ∙ getD-set-other message' (j * p .k + r) a _ 0 (omega arith) ∙ D .rest a (omega arith);
       }
-    where
-      elsewhere : (a : ℕ) → (a ≡ j * p .k + r → ⊥) → getD message'' a 0 ≡ getD message' a 0
-      elsewhere a d = ap (λ (t : List ℕ). getD t a 0) (B .added) ∙ getD-set-other message' (j * p .k + r) a _ 0 d
-
-      at : (a : ℕ) → Dec (a ≡ r) → a < r + 1 → getD message'' (j * p .k + a) 0 ≡ opsOf (p .q) .add (getD message (j * p .k + a) 0) (x a)
-      at a (yes s) l =
-          let past : j * p .k + r ≤ j * p .k + r = omega arith in
-          ap (λ (t : ℕ). getD message'' (j * p .k + t) 0) s
-          ∙ ap (λ (t : List ℕ). getD t (j * p .k + r) 0) (B .added)
-          ∙ getD-set-same message' (j * p .k + r) _ 0 (symbol-room p T j r message' left' (D .revised .areas) lj lr)
-          ∙ ap₂ (opsOf (p .q) .add) (D .rest (j * p .k + r) past) e
-          ∙ ap (λ (t : ℕ). opsOf (p .q) .add (getD message (j * p .k + t) 0) (x t)) (sym s)
-      at a (no d) l = elsewhere (j * p .k + a) (λ e. d (omega arith)) ∙ D .symbol a (omega arith)
 
   pub adding-all : {r : ℕ} {message' left' : List ℕ} → Adding p T j x r message left message' left' → p .k ≤ r → Added p T j x message left message' left'
   adding-all D all = record { revised = D .revised; symbol = λ a l u. D .symbol a (omega arith) }

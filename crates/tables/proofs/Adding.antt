@@ -8,7 +8,7 @@ use native.Mathlib.Omega.{arith}
 use native.Mathlib.Decide.{ℕ-discrete}
 use lib.ListN.{length, getD, take, drop, set, length-set}
 use lib.Arith.{digits-lt}
-use lib.Seq.{getD-set-same, getD-set-other}
+use lib.Seq.{getD-set-other}
 use borrow.Rule.Slice.PartMut.{putMid}
 use Rattle.field.specs.Fields.{opsOf}
 use Rattle.field.specs.Symbols.{Symbols, Is}
@@ -19,6 +19,7 @@ use Rattle.code.specs.Transmission.{view}
 use Rattle.code.specs.Settings.{codeOf}
 use Rattle.code.specs.parts.Sound.{Sound}
 use Rattle.code.proofs.Numbers.{rowSymbol-below}
+use Rattle.code.proofs.Lists.{stored}
 use Rattle.tables.specs.parts.Tables.{RowsOf}
 use Rattle.tables.specs.parts.Adding.{plusRow, MultipleAdded, RowAdded, RowsAdded}
 use Rattle.tables.proofs.Parts.{part-length, part-symbol, put-length, put-before, put-inside, put-after, put-symbols}
@@ -33,18 +34,10 @@ module _ (q u : ℕ) (row before : List ℕ) where
       record {
         long = length-set after i v ∙ L .long;
         symbols = symbols-set q after i v (is .below) (L .symbols);
-        inside = λ a h. at-inside a (ℕ-discrete a i) h;
+        inside = stored after (λ a. a) (λ a. opsOf q .add (getD before a 0) (opsOf q .mul u (getD row a 0))) i v (omega (arith, L .long))
+            (is .same ∙ ap (λ (t : ℕ). opsOf q .add t (opsOf q .mul u (getD row i 0))) (L .outside i (omega arith))) (λ a h. omega arith) (L .inside);
         outside = λ a h. getD-set-other after i a v 0 (omega arith) ∙ L .outside a (omega arith);
       }
-    where
-      at-inside : (a : ℕ) → Dec (a ≡ i) → a < i + 1 → getD (set after i v) a 0 ≡ opsOf q .add (getD before a 0) (opsOf q .mul u (getD row a 0))
-      at-inside a (yes s) h =
-          let past : i < length after = omega (arith, L .long) in
-          let least : i ≤ i = omega arith in
-          ap (λ (t : ℕ). getD (set after i v) t 0) s ∙ getD-set-same after i v 0 past ∙ is .same
-          ∙ ap (λ (t : ℕ). opsOf q .add t (opsOf q .mul u (getD row i 0))) (L .outside i least)
-          ∙ ap (λ (t : ℕ). opsOf q .add (getD before t 0) (opsOf q .mul u (getD row t 0))) (sym s)
-      at-inside a (no d) h = getD-set-other after i a v 0 d ∙ L .inside a (omega arith)
 
 -- A row of the generator is that part of the lent rows.
 module _ (p : Setting) (S : Sound p) (rows : List ℕ) (R : RowsOf p rows) (j r : ℕ) (lj : j ≤ p .m) (lr : r < p .k) where
