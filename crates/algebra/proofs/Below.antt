@@ -1,6 +1,6 @@
 -- The bridge from the numbers below q to the abstract carrier. A concrete field proves its laws once, for numbers below q (`FieldBelow`);
 -- the pairs of a number and a proof that it is below q are then a field (`fieldBelow`), and taking the number keeps the operations (`number-keeps`).
--- Holds: `FieldBelow`, `positive`, `OrderBelow`, `Below`, `number`, `element`, `fieldBelow`, `number-keeps`, `number-injective`, `number-element`, `orderBelow`.
+-- Holds: `FieldBelow`, `positive`, `OrderBelow`, `Element`, `number`, `element`, `fieldBelow`, `number-keeps`, `number-injective`, `number-element`, `orderBelow`.
 use mathlib.Core.Path.{_≡_, refl, sym, ap, subst, _∙_}
 use mathlib.Core.HLevel.{Σ-prop-path}
 use mathlib.Core.Bool.{Bool, true, false}
@@ -13,7 +13,7 @@ use borrow.Author.Tests.{eqb-true, eqb-false}
 use Rattle.algebra.specs.Ops.{Ops}
 use Rattle.algebra.specs.Sum.{sum, power}
 use Rattle.algebra.proofs.Laws.{Field, Tested, is-zero, non-zero}
-use Rattle.algebra.proofs.Order.{Order}
+use Rattle.algebra.proofs.HasOrder.{HasOrder}
 use Rattle.algebra.proofs.Naturality.{Homomorphism, power-natural, sum-natural}
 
 -- The laws of a field on the numbers below q.
@@ -46,18 +46,18 @@ pub record OrderBelow (q : ℕ) (o : Ops ℕ) (n α : ℕ) : Type 0 where
   pub full : power o α n ≡ 1
   pub ones : sum o n (λ i. 1) ≡ o .neg 1
 
-abbrev pub Below : ℕ → Type 0
-Below q = (a : ℕ) × (a < q)
+abbrev pub Element : ℕ → Type 0
+Element q = (a : ℕ) × (a < q)
 
-abbrev pub number : {q : ℕ} → Below q → ℕ
+abbrev pub number : {q : ℕ} → Element q → ℕ
 number a = a .0
 
 -- An element is its number.
-pub number-injective : {q : ℕ} (a b : Below q) → number a ≡ number b → a ≡ b
+pub number-injective : {q : ℕ} (a b : Element q) → number a ≡ number b → a ≡ b
 number-injective {q} a b e = Σ-prop-path (λ (k : ℕ). le-prop {n = suc k} {m = q}) {u = a} {v = b} e
 
 -- The element with the number a, for a below q.
-pub element : (q : ℕ) → 0 < q → ℕ → Below q
+pub element : (q : ℕ) → 0 < q → ℕ → Element q
 element q h a = (a % q, mod-lt a h)
 
 pub number-element : (q : ℕ) (h : 0 < q) (a : ℕ) → a < q → number (element q h a) ≡ a
@@ -65,7 +65,7 @@ unfolding element
 number-element q h a l = mod-eq-of-lt l
 
 module _ (q : ℕ) (o : Ops ℕ) (B : FieldBelow q o) where
-  opsBelow : Ops (Below q)
+  opsBelow : Ops (Element q)
   opsBelow =
       record {
         zero = (o .zero, subst (λ (z : ℕ). z < q) (sym (B .zero-is)) (omega (arith, B .one-below)));
@@ -77,7 +77,7 @@ module _ (q : ℕ) (o : Ops ℕ) (B : FieldBelow q o) where
         isZero = λ a. o .isZero (a .0);
       }
 
-  test-below : (a : Below q) → Tested (opsBelow .zero) a (opsBelow .isZero a)
+  test-below : (a : Element q) → Tested (opsBelow .zero) a (opsBelow .isZero a)
   unfolding opsBelow
   test-below a = at (eqb (a .0) 0) refl
     where
@@ -90,7 +90,7 @@ module _ (q : ℕ) (o : Ops ℕ) (B : FieldBelow q o) where
           (non-zero (λ z. eqb-false (a .0) 0 e (ap number z ∙ B .zero-is)))
 
   -- The numbers below q are a field.
-  pub fieldBelow : Field (Below q)
+  pub fieldBelow : Field (Element q)
   unfolding opsBelow
   fieldBelow =
       record {
@@ -122,7 +122,7 @@ module _ (q : ℕ) (o : Ops ℕ) (B : FieldBelow q o) where
       }
 
   -- The order of a number is that of its element.
-  pub orderBelow : (n α : ℕ) (h : 0 < q) → OrderBelow q o n α → Order (fieldBelow .ops) n (element q h α)
+  pub orderBelow : (n α : ℕ) (h : 0 < q) → OrderBelow q o n α → HasOrder (fieldBelow .ops) n (element q h α)
   orderBelow n α h A =
       record {
         distinct = λ i j l s e. A .distinct i j l s (sym (at i) ∙ ap number e ∙ at j);

@@ -18,7 +18,7 @@ use Rattle.algebra.specs.Polynomial.{value, fromRoots}
 use Rattle.algebra.specs.parts.Values.{valueOf}
 use Rattle.algebra.specs.Weight.{total, countOf, weight}
 use Rattle.algebra.proofs.Laws.{Field, Tested, is-zero, non-zero, mul-zero, zero-mul, mul-comm, mul-eq-zero, eq-of-sub, add-neg}
-use Rattle.algebra.proofs.Order.{Order}
+use Rattle.algebra.proofs.HasOrder.{HasOrder}
 use Rattle.algebra.proofs.Sums.{sum-zeros, sum-single}
 use Rattle.algebra.proofs.Powers.{power-add, power-nonzero, root-nonzero}
 use Rattle.algebra.proofs.Polynomials.{valueOf-ext, valueOf-short, valueOf-sub, valueOf-twist, In, here, there, value-at-root, value-off-roots, length-fromRoots}
@@ -78,7 +78,7 @@ module _ {F : Type 0} (o : Ops F) (α : F) (test : ℕ → Bool) where
       at true e s rest = first e s rest
       at false e s rest = more (rest s)
 
-module _ {F : Type 0} (K : Field F) (n : ℕ) (α : F) (order : Order (K .ops) n α) where
+module _ {F : Type 0} (K : Field F) (n : ℕ) (α : F) (order : HasOrder (K .ops) n α) where
   infixl 70 _⊗_
   open Ops (K .ops) using (mul as _⊗_, zero as 𝟘, one as 𝟙)
 

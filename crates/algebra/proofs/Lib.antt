@@ -1,6 +1,6 @@
 -- The laws, and what follows from them over any field. Each file uses only those above it.
 pub mod Laws
-pub mod Order
+pub mod HasOrder
 pub mod Sums
 pub mod Powers
 pub mod Polynomials

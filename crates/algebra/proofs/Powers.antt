@@ -7,7 +7,7 @@ use native.Mathlib.Omega.{arith}
 use Rattle.algebra.specs.Ops.{Ops}
 use Rattle.algebra.specs.Sum.{power}
 use Rattle.algebra.proofs.Laws.{Field, mul-assoc, one-mul, zero-mul, mul-eq-zero}
-use Rattle.algebra.proofs.Order.{Order}
+use Rattle.algebra.proofs.HasOrder.{HasOrder}
 
 module _ {F : Type 0} (K : Field F) where
   infixl 60 _⊕_
@@ -38,7 +38,7 @@ module _ {F : Type 0} (K : Field F) where
   power-nonzero a h zero e = K .one-nonzero e
   power-nonzero a h (suc i) e = power-nonzero a h i (mul-eq-zero K a (power (K .ops) a i) h e)
 
-  module _ (n : ℕ) (α : F) (order : Order (K .ops) n α) where
+  module _ (n : ℕ) (α : F) (order : HasOrder (K .ops) n α) where
     pub root-nonzero : 0 < n → α ≡ 𝟘 → ⊥
     unfolding power
     root-nonzero h e = at n h (order .full)

@@ -10,7 +10,7 @@ use Rattle.algebra.specs.Ops.{Ops, sub}
 use Rattle.algebra.specs.Sum.{power}
 use Rattle.algebra.specs.parts.Values.{valueOf, falling}
 use Rattle.algebra.proofs.Laws.{Field, add-cancel, add-comm, add-neg, one-mul, mul-assoc, mul-left-comm, neg-zero, mul-eq-zero, eq-of-sub, ring}
-use Rattle.algebra.proofs.Order.{Order}
+use Rattle.algebra.proofs.HasOrder.{HasOrder}
 use Rattle.algebra.proofs.Powers.{power-power, power-of-one, root-nonzero}
 use Rattle.algebra.proofs.Polynomials.{valueOf-ext, valueOf-add, valueOf-scale, valueOf-zeros, valueOf-twist, valueOf-at-one}
 
@@ -46,7 +46,7 @@ module _ {F : Type 0} (K : Field F) where
   geometric n z e d =
       mul-eq-zero K (sub (K .ops) z 𝟙) (ones n z) (λ h. d (eq-of-sub K z 𝟙 h)) (fixed z (ones n z) (telescope n z ∙ ap (λ (t : F). ones n z ⊕ t) e))
 
-  module _ (n : ℕ) (α : F) (order : Order (K .ops) n α) where
+  module _ (n : ℕ) (α : F) (order : HasOrder (K .ops) n α) where
     abbrev pow : ℕ → F
     pow i = power (K .ops) α i
 

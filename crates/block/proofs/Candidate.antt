@@ -9,7 +9,7 @@ use Rattle.algebra.specs.Ops.{Ops, sub}
 use Rattle.algebra.specs.Sum.{power}
 use Rattle.algebra.specs.Weight.{weight}
 use Rattle.algebra.proofs.Laws.{Field, sub-sub, ring}
-use Rattle.algebra.proofs.Order.{Order}
+use Rattle.algebra.proofs.HasOrder.{HasOrder}
 use Rattle.algebra.proofs.Polynomials.{valueOf-sub}
 use Rattle.code.specs.Code.{Code}
 use Rattle.code.specs.Level.{combination}
@@ -20,7 +20,7 @@ use Rattle.code.proofs.Recovery.{recovered-part}
 use Rattle.block.specs.parts.Locator.{Located, Extended}
 use Rattle.block.proofs.ErrorSpectrum.{spectrum, degree-of-light, difference-is-rest}
 
-module _ {F : Type 0} (K : Field F) (α : F) (n k m : ℕ) (order : Order (K .ops) n α) (l : ℕ) (fits : (l + 1) * k ≤ n) where
+module _ {F : Type 0} (K : Field F) (α : F) (n k m : ℕ) (order : HasOrder (K .ops) n α) (l : ℕ) (fits : (l + 1) * k ≤ n) where
   infixl 60 _⊕_
   infixl 70 _⊗_
   infix 80 ⊖_

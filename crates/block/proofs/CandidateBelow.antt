@@ -9,7 +9,7 @@ use lib.ListN.{length}
 use Rattle.algebra.specs.Ops.{Ops, sub}
 use Rattle.algebra.specs.Weight.{weight}
 use Rattle.algebra.proofs.Weights.{total-ext, total-most}
-use Rattle.algebra.proofs.Below.{FieldBelow, Below, number}
+use Rattle.algebra.proofs.Below.{FieldBelow, Element, number}
 use Rattle.field.specs.Fields.{opsOf}
 use Rattle.field.specs.Symbols.{Symbols}
 use Rattle.code.specs.declared.Setting.{Setting}
@@ -25,13 +25,13 @@ use Rattle.code.specs.parts.Reading.{levelCost}
 use Rattle.code.proofs.Certainty.{weight-apart}
 use Rattle.code.proofs.Cost.{cost-same, byteCost, bytes-apart}
 use Rattle.code.proofs.Recovery.{recovered-step}
-use Rattle.code.proofs.Numbers.{laws, fieldOf, rootOf, orderAt, overField, lifted, timesG-number, combination-number, ending-number, received, received-number, value-number}
+use Rattle.code.proofs.CodeBelow.{laws, fieldOf, rootOf, orderAt, overField, lifted, timesG-number, combination-number, ending-number, received, received-number, value-number}
 use Rattle.code.proofs.Settings.{level-fits, information-fits}
 use Rattle.block.specs.parts.Area.{at}
 use Rattle.block.specs.parts.Locator.{Located, Extended}
-use Rattle.block.specs.parts.Progress.{Found}
+use Rattle.block.specs.parts.LocatorAreas.{LocatorFound}
 use Rattle.block.specs.parts.Spectrum.{SpectrumOf, Continued}
-use Rattle.block.specs.parts.Information.{Read}
+use Rattle.block.specs.parts.Information.{InformationRead}
 use Rattle.block.specs.parts.Step.{Information}
 use Rattle.block.proofs.LocatorBelow.{K, el, up, down, raise, fall, add-down, neg-down, tail-down, located-up}
 use Rattle.block.proofs.ErrorSpectrum.{spectrum}
@@ -47,7 +47,7 @@ module _ (p : Setting) (S : Sound p) where
   abbrev B : FieldBelow q o
   B = laws p S
 
-  abbrev over : Code (Below q)
+  abbrev over : Code (Element q)
   over = overField p S
 
   module _ (v : ℕ → ℕ) (v-below : (e : ℕ) → v e < q) where
@@ -87,7 +87,7 @@ module _ (p : Setting) (S : Sound p) where
 
     module _ (x : ℕ → ℕ → ℕ) (information : Information p l x) where
       -- Twice the error's symbols are no more than the cost, since the received block costs nothing against itself.
-      error : ℕ → Below q
+      error : ℕ → Element q
       error i = sub (K q o B .ops) (received p S block i) (combination over l (lifted p S x) i)
 
       error-light : 2 * weight (K q o B .ops) (p .n) error ≤ levelCost p (at block) l x
@@ -104,7 +104,7 @@ module _ (p : Setting) (S : Sound p) where
       all-known : p .n - (l + 1) * p .k + 1 - 1 ≡ p .n - (l + 1) * p .k
       all-known = omega arith
 
-      module _ (series locator former : List ℕ) (L : ℕ) (close : levelCost p (at block) l x < levelDistance (p .n) (p .k) l) (located : Found q series (p .n - (l + 1) * p .k + 1) L locator former) where
+      module _ (series locator former : List ℕ) (L : ℕ) (close : levelCost p (at block) l x < levelDistance (p .n) (p .k) l) (located : LocatorFound q series (p .n - (l + 1) * p .k + 1) L locator former) where
         values-up : (count : ℕ) → SpectrumOf q block count series → (s : ℕ) → s < count → up q o B (at series) (suc s) ≡ spectrum (fieldOf p S) (p .n) (rootOf p S) (orderAt p S) (received p S block) s
         values-up count spectral s h =
             raise q o B _ _ (down q o B (at series (suc s)) (spectral .below (suc s))) (value-number p S block symbols long s) (ap (at series) (sym (add-one s)) ∙ spectral .values s h)
@@ -113,8 +113,8 @@ module _ (p : Setting) (S : Sound p) where
             → Located (K q o B .ops) (up q o B (at series)) (p .n - (l + 1) * p .k) L (located .place) (el q o B (located .scale)) (up q o B (at locator)) (up q o B (at former))
         locator-up below =
             located-up q o B (at series) (at locator) (at former) (located .scale)
-            below (located .placed .locator-below) (located .placed .former-below) (located .placed .scale-below)
-            (subst (λ (t : ℕ). Located o (at series) t L (located .place) (located .scale) (at locator) (at former)) all-known (located .placed .located))
+            below (located .pair .locator-below) (located .pair .former-below) (located .pair .scale-below)
+            (subst (λ (t : ℕ). Located o (at series) t L (located .place) (located .scale) (at locator) (at former)) all-known (located .pair .located))
 
         pub degree-of-near : SpectrumOf q block (p .n - (l + 1) * p .k) series → 2 * L < levelDistance (p .n) (p .k) l
         unfolding error
@@ -128,7 +128,7 @@ module _ (p : Setting) (S : Sound p) where
         pub read-of-near : (after values found : List ℕ)
             → SpectrumOf q block (p .n) series
             → Continued q L (p .n - (l + 1) * p .k) ((l + 1) * p .k) locator series after values
-            → Read p (l + 1) values found
+            → InformationRead p (l + 1) values found
             → (b a : ℕ) → b ≤ l → a < p .k → at found (b * p .k + a) ≡ x b a
         unfolding lifted error
         read-of-near after values found spectral continued reads b a below inside =
@@ -140,7 +140,7 @@ module _ (p : Setting) (S : Sound p) where
             (values-up (p .n) spectral)
             (up q o B (at after)) (up q o B (at values))
             (extended-up L (p .n - (l + 1) * p .k) ((l + 1) * p .k) (at locator) (at series) (at after) (at values)
-            (located .placed .locator-below) (spectral .below) (continued .below) (continued .values-below) (continued .extended))
+            (located .pair .locator-below) (spectral .below) (continued .below) (continued .values-below) (continued .extended))
             b (up q o B (view (p .k) found b)) below
             (recovered-up (view (p .k) values b) (λ e. continued .values-below (b * p .k + e)) (p .k) (view (p .k) found b) (λ r. reads .below (b * p .k + r)) (reads .recovered b (omega arith)))
             a inside)

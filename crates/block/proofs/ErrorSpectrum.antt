@@ -13,7 +13,7 @@ use Rattle.algebra.specs.Sum.{sum, power}
 use Rattle.algebra.specs.parts.Values.{valueOf}
 use Rattle.algebra.specs.Weight.{weight}
 use Rattle.algebra.proofs.Laws.{Field, Tested, is-zero, non-zero, add-comm, mul-zero, one-mul, neg-unique, neg-neg, ring}
-use Rattle.algebra.proofs.Order.{Order}
+use Rattle.algebra.proofs.HasOrder.{HasOrder}
 use Rattle.algebra.proofs.Sums.{sum-ext, sum-zeros, sum-first}
 use Rattle.algebra.proofs.Powers.{power-add}
 use Rattle.algebra.proofs.Polynomials.{valueOf-scale, valueOf-twist, valueOf-of-sum, valueOf-zeros}
@@ -22,7 +22,7 @@ use Rattle.algebra.proofs.Distance.{zero-of-vanishing}
 use Rattle.block.specs.parts.Locator.{convolution, tail, Located, Extended}
 use Rattle.block.proofs.LocatorStep.{convolution-short}
 
-module _ {F : Type 0} (K : Field F) (n : ℕ) (α : F) (order : Order (K .ops) n α) where
+module _ {F : Type 0} (K : Field F) (n : ℕ) (α : F) (order : HasOrder (K .ops) n α) where
   infixl 60 _⊕_
   infixl 70 _⊗_
   infix 80 ⊖_
@@ -94,7 +94,7 @@ module _ {F : Type 0} (K : Field F) (n : ℕ) (α : F) (order : Order (K .ops) n
     -- The locator's degree is at most the weight of e: else the former locator would annihilate the place at which it fails.
     pub degree-of-light : (w : ℕ) → weight (K .ops) n e ≤ w → w + w ≤ r → L ≤ w
     degree-of-light w light small =
-        let never : w < L → ⊥ = λ h. K .one-nonzero (sym (located .former-fails) ∙ ap (λ (t : F). scale ⊗ t) (former h) ∙ mul-zero K scale) in omega arith
+        let never : w < L → ⊥ = λ h. K .one-nonzero (sym (located .former-discrepancy) ∙ ap (λ (t : F). scale ⊗ t) (former h) ∙ mul-zero K scale) in omega arith
       where
         former : w < L → convolution (K .ops) τ c p ≡ 𝟘
         former h =

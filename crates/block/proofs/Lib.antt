@@ -5,9 +5,9 @@ pub mod Candidate
 pub mod LocatorBelow
 pub mod Accumulated
 pub mod Multiples
-pub mod Placing
+pub mod LocatorPair
 pub mod Spectra
 pub mod CandidateBelow
-pub mod Reading
-pub mod Answers
-pub mod Working
+pub mod InformationRead
+pub mod Step
+pub mod BlockAreas

@@ -32,7 +32,7 @@ located-ext o c d {s} {L} {p} {scale} {σ} {τ} same h =
       annihilates = λ j l u. convolution-ext o σ σ d c j (λ i v. refl) (λ i v. same i (omega arith)) ∙ h .annihilates j l u;
       former-short = h .former-short;
       former-annihilates = λ j l u. convolution-ext o τ τ d c j (λ i v. refl) (λ i v. same i (omega (arith, h .placed))) ∙ h .former-annihilates j l u;
-      former-fails = ap (o .mul scale) (convolution-ext o τ τ d c p (λ i v. refl) (λ i v. same i (omega (arith, h .placed)))) ∙ h .former-fails;
+      former-discrepancy = ap (o .mul scale) (convolution-ext o τ τ d c p (λ i v. refl) (λ i v. same i (omega (arith, h .placed)))) ∙ h .former-discrepancy;
     }
 
 module _ {F : Type 0} (K : Field F) where
@@ -125,7 +125,7 @@ module _ {F : Type 0} (K : Field F) where
         annihilates = λ j l s. absurd (omega arith);
         former-short = λ a l. former-short a (omega arith);
         former-annihilates = λ j l s. absurd (omega arith);
-        former-fails = ap (λ (t : F). 𝟙 ⊗ t) (ap₂ (λ (s t : F). 𝟘 ⊕ s ⊗ t) former-first one) ∙ simp ring;
+        former-discrepancy = ap (λ (t : F). 𝟙 ⊗ t) (ap₂ (λ (s t : F). 𝟘 ⊕ s ⊗ t) former-first one) ∙ simp ring;
       }
 
   module _ (c : ℕ → F) (s L p : ℕ) (scale : F) (σ τ : ℕ → F) (located : Located (K .ops) c s L p scale σ τ) where
@@ -140,7 +140,7 @@ module _ {F : Type 0} (K : Field F) where
           annihilates = λ j l h. at j l h (decLt s j);
           former-short = located .former-short;
           former-annihilates = located .former-annihilates;
-          former-fails = located .former-fails;
+          former-discrepancy = located .former-discrepancy;
         }
       where
         at : (j : ℕ) → L < j → j ≤ suc s → Dec (s < j) → convolution (K .ops) σ c j ≡ 𝟘
@@ -153,7 +153,7 @@ module _ {F : Type 0} (K : Field F) where
     nothing : (f : F) → 𝟘 ⊕ ⊖ (f ⊗ 𝟘) ≡ 𝟘
     nothing f = simp ring
 
-    -- It fails there: the former locator's multiple undoes the failure.
+    -- It fails there: the former locator's multiple undoes the discrepancy.
     module _ (shift count : ℕ) (σ' : ℕ → F)
         (at-place : shift + p ≡ suc s) (enough : count + L ≡ suc p)
         (S : Subtracted (K .ops) (convolution (K .ops) σ c (suc s) ⊗ scale) shift count τ σ σ') where
@@ -183,7 +183,7 @@ module _ {F : Type 0} (K : Field F) where
                 let same : i ≡ p = omega arith in
                 moved i
                 ∙ ap₂ (λ (x y : ℕ). sub (K .ops) (convolution (K .ops) σ c x) (convolution (K .ops) σ c (suc s) ⊗ scale ⊗ convolution (K .ops) τ c y)) (e ∙ last) same
-                ∙ undo (convolution (K .ops) σ c (suc s)) scale (convolution (K .ops) τ c p) (located .former-fails)
+                ∙ undo (convolution (K .ops) σ c (suc s)) scale (convolution (K .ops) τ c p) (located .former-discrepancy)
             up i e (no d) =
                 moved i
                 ∙ ap₂ (λ (x y : F). sub (K .ops) x (convolution (K .ops) σ c (suc s) ⊗ scale ⊗ y))
@@ -211,7 +211,7 @@ module _ {F : Type 0} (K : Field F) where
             annihilates = corrected-annihilates L (omega arith) (omega arith);
             former-short = located .former-short;
             former-annihilates = located .former-annihilates;
-            former-fails = located .former-fails;
+            former-discrepancy = located .former-discrepancy;
           }
 
       -- .. and else grows, and the locator so far is the new former one.
@@ -226,5 +226,5 @@ module _ {F : Type 0} (K : Field F) where
             annihilates = corrected-annihilates (suc s - L) (omega arith) (omega arith);
             former-short = λ a l. located .short a (omega arith);
             former-annihilates = λ j l u. located .annihilates j (omega arith) (omega arith);
-            former-fails = e;
+            former-discrepancy = e;
           }

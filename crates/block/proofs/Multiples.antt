@@ -11,7 +11,7 @@ use Rattle.field.specs.Fields.{opsOf}
 use Rattle.field.specs.Symbols.{Is}
 use Rattle.code.proofs.Lists.{stored}
 use Rattle.block.specs.parts.Area.{AllBelow, at}
-use Rattle.block.specs.parts.Progress.{Multiple}
+use Rattle.block.specs.parts.LocatorAreas.{Multiple}
 use Rattle.block.proofs.Accumulated.{below-set}
 
 module _ (q factor shift : ℕ) (source before : List ℕ) where

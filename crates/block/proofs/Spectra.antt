@@ -17,11 +17,11 @@ use Rattle.field.proofs.Laws.{lawsOf}
 use Rattle.code.proofs.Lists.{stored}
 use Rattle.block.specs.parts.Area.{AllBelow, at}
 use Rattle.block.specs.parts.Locator.{tail}
-use Rattle.block.specs.parts.Progress.{Unit, Found}
+use Rattle.block.specs.parts.LocatorAreas.{Unit, LocatorFound}
 use Rattle.block.specs.parts.Spectrum.{SpectrumOf, Continued}
 use Rattle.block.proofs.Accumulated.{below-set}
 use Rattle.block.proofs.LocatorStep.{located-ext}
-use Rattle.block.proofs.Placing.{unit-below}
+use Rattle.block.proofs.LocatorPair.{unit-below}
 
 module _ (q : ℕ) where
   pub point-none : Good q → Is q 1 (power (opsOf q) alpha 0)
@@ -38,16 +38,16 @@ module _ (q : ℕ) where
 
   -- A locator for the first values of a block's spectrum, where more of them stand.
   pub found-longer : (block : List ℕ) (known more : ℕ) (series longer : List ℕ) {L : ℕ} {locator former : List ℕ} → known ≤ more
-      → SpectrumOf q block known series → SpectrumOf q block more longer → Found q series (known + 1) L locator former → Found q longer (known + 1) L locator former
+      → SpectrumOf q block known series → SpectrumOf q block more longer → LocatorFound q series (known + 1) L locator former → LocatorFound q longer (known + 1) L locator former
   found-longer block known more series longer up-to h k f =
       record {
         place = f .place;
         scale = f .scale;
-        placed = record {
-          locator-below = f .placed .locator-below;
-          former-below = f .placed .former-below;
-          scale-below = f .placed .scale-below;
-          located = located-ext (opsOf q) (at series) (at longer) same (f .placed .located);
+        pair = record {
+          locator-below = f .pair .locator-below;
+          former-below = f .pair .former-below;
+          scale-below = f .pair .scale-below;
+          located = located-ext (opsOf q) (at series) (at longer) same (f .pair .located);
         };
       }
     where

@@ -2,7 +2,7 @@
 pub mod Step
 pub mod Area
 pub mod Locator
-pub mod Progress
+pub mod LocatorAreas
 pub mod Spectrum
 pub mod Information
 pub mod Candidate

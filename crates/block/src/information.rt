@@ -5,18 +5,18 @@ ghost use lib.ListN.{length};
 ghost use Rattle.algebra.specs.parts.Values.{falling as fallingOf};
 ghost use Rattle.field.specs.Fields.{Good, opsOf, alpha};
 ghost use Rattle.field.specs.Symbols.{Is};
-ghost use Rattle.field.specs.parts.Tables.{Lent};
+ghost use Rattle.field.specs.parts.Products.{ProductsOf};
 ghost use Rattle.code.specs.Transmission.{view};
 ghost use Rattle.code.specs.parts.Reading.{levelCost};
-ghost use Rattle.tables.specs.parts.Tables.{Ready};
+ghost use Rattle.tables.specs.parts.Rows.{Ready};
 ghost use Rattle.block.specs.parts.Area.{AllBelow, at};
-ghost use Rattle.block.specs.parts.Information.{lacking, BlockRead, Read};
+ghost use Rattle.block.specs.parts.Information.{lacking, BlockRead, InformationRead};
 use code::Setting;
-use field::Tables;
+use field::Products;
 
 // v_0 y^k + .. + v_(k-1) y for the k values v from a place on.
-fn falling(q: usize, products: &Tables, k: usize, values: &[u8], from: usize, y: u8) -> u8
-    requires { ⌜ Good q × Lent q (now products) × AllBelow q (now values) × (from + k ≤ length (now values)) × (y < q) ⌝ }
+fn falling(q: usize, products: &Products, k: usize, values: &[u8], from: usize, y: u8) -> u8
+    requires { ⌜ Good q × ProductsOf q (now products) × AllBelow q (now values) × (from + k ≤ length (now values)) × (y < q) ⌝ }
     ensures { λ r. ⌜ Is q r (fallingOf (opsOf q) k (λ e. at (now (values .entry)) (from + e)) y) ⌝ }
 {
     let mut sum: u8 = 0;
@@ -32,7 +32,7 @@ fn falling(q: usize, products: &Tables, k: usize, values: &[u8], from: usize, y:
 // What symbol k - j of the information block at `from` becomes, where those after it are recovered; the point is (1/α)^j.
 fn symbol(
     p: Setting,
-    products: &Tables,
+    products: &Products,
     rows: &[u8],
     values: &[u8],
     from: usize,
@@ -55,7 +55,7 @@ fn symbol(
 // Recovers the information block at `from` from the values there, its last symbol first; `back` is 1/α.
 fn read_block(
     p: Setting,
-    products: &Tables,
+    products: &Products,
     rows: &[u8],
     values: &[u8],
     from: usize,
@@ -80,14 +80,14 @@ fn read_block(
 // The information of so many blocks of k places.
 pub fn read(
     p: Setting,
-    products: &Tables,
+    products: &Products,
     rows: &[u8],
     blocks: usize,
     values: &[u8],
     information: &mut [u8],
 )
     requires { ⌜ Ready p (now products) (now rows) × AllBelow (p .q) (now values) × (blocks * p .k ≤ length (now values)) × (blocks * p .k ≤ length (now information)) ⌝ }
-    ensures { λ _. ⌜ Read p blocks (now (values .entry)) (now (information .exit)) ⌝ }
+    ensures { λ _. ⌜ InformationRead p blocks (now (values .entry)) (now (information .exit)) ⌝ }
 {
     let k = p.k;
     let back = field::inverse(p.q, products, 2);
@@ -102,7 +102,7 @@ pub fn read(
 // What the received block costs against the level-l combination of the information.
 pub fn cost(
     p: Setting,
-    products: &Tables,
+    products: &Products,
     rows: &[u8],
     information: &[u8],
     l: usize,

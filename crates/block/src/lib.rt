@@ -11,14 +11,14 @@ ghost use mathlib.Core.Path.{_≡_};
 ghost use Prim.Native.Nat.{_≤_};
 ghost use lib.ListN.{length};
 ghost use Rattle.field.specs.Symbols.{Symbols};
-ghost use Rattle.field.specs.parts.Tables.{Lent};
+ghost use Rattle.field.specs.parts.Products.{ProductsOf};
 ghost use Rattle.code.specs.parts.Sound.{Sound};
-ghost use Rattle.tables.specs.parts.Tables.{Ready};
-ghost use Rattle.block.specs.parts.Area.{Working};
+ghost use Rattle.tables.specs.parts.Rows.{Ready};
+ghost use Rattle.block.specs.parts.Area.{BlockAreas};
 ghost use Rattle.block.specs.parts.Candidate.{Begun, Candidate};
 ghost use Rattle.block.specs.parts.Step.{Step};
 use code::Setting;
-use field::Tables;
+use field::Products;
 
 // The locator's degree at most, and the point of the next value of the spectrum.
 struct Start {
@@ -29,7 +29,7 @@ struct Start {
 // The locator of the first values of the block's spectrum, those that level l's code blocks have zero.
 fn begin(
     p: Setting,
-    products: &Tables,
+    products: &Products,
     block: &[u8],
     l: usize,
     series: &mut [u8],
@@ -37,7 +37,7 @@ fn begin(
     former: &mut [u8],
     spare: &mut [u8],
 ) -> Start
-    requires { ⌜ Sound p × Lent (p .q) (now products) × Symbols (p .q) (now block) × (l ≤ p .m) × Working p (now series) (now locator) (now former) (now spare) ⌝ }
+    requires { ⌜ Sound p × ProductsOf (p .q) (now products) × Symbols (p .q) (now block) × (l ≤ p .m) × BlockAreas p (now series) (now locator) (now former) (now spare) ⌝ }
     ensures { λ r. ⌜ Begun p l (now (block .entry)) (now (series .exit)) (now (locator .exit)) (now (former .exit)) (r .degree) (r .point) ⌝ }
 {
     let q = p.q;
@@ -54,7 +54,7 @@ fn begin(
 // The information that the locator leads to: the rest of the block's spectrum, what it has besides the error's, and the information read off that.
 fn read_candidate(
     p: Setting,
-    products: &Tables,
+    products: &Products,
     rows: &[u8],
     block: &[u8],
     l: usize,
@@ -64,7 +64,7 @@ fn read_candidate(
     values: &mut [u8],
     information: &mut [u8],
 )
-    requires { ⌜ Ready p (now products) (now rows) × Symbols (p .q) (now block) × (l ≤ p .m) × Working p (now series) (now locator) (now values) (now information) × Begun p l (now block) (now series) (now locator) (now values) (start .degree) (start .point) ⌝ }
+    requires { ⌜ Ready p (now products) (now rows) × Symbols (p .q) (now block) × (l ≤ p .m) × BlockAreas p (now series) (now locator) (now values) (now information) × Begun p l (now block) (now series) (now locator) (now values) (start .degree) (start .point) ⌝ }
     ensures { λ _. ⌜ Candidate p l (now (block .entry)) (now (locator .entry)) (start .degree) (now (information .exit)) ⌝ }
 {
     let q = p.q;
@@ -90,7 +90,7 @@ fn read_candidate(
 // are worked in.
 pub fn repair(
     p: Setting,
-    products: &Tables,
+    products: &Products,
     rows: &[u8],
     block: &[u8],
     l: usize,
@@ -99,7 +99,7 @@ pub fn repair(
     values: &mut [u8],
     information: &mut [u8],
 ) -> bool
-    requires { ⌜ Ready p (now products) (now rows) × (length (now block) ≡ p .n) × Symbols (p .q) (now block) × (l ≤ p .m) × Working p (now series) (now locator) (now values) (now information) ⌝ }
+    requires { ⌜ Ready p (now products) (now rows) × (length (now block) ≡ p .n) × Symbols (p .q) (now block) × (l ≤ p .m) × BlockAreas p (now series) (now locator) (now values) (now information) ⌝ }
     ensures { λ r. ⌜ Step p l (now (block .entry)) (now (information .exit)) r ⌝ }
 {
     let distance = p.n - (l + 1) * p.k + 1;

@@ -4,22 +4,22 @@ ghost use lib.ListN.{length};
 ghost use Rattle.algebra.specs.Sum.{power};
 ghost use Rattle.field.specs.Fields.{Good, opsOf, alpha};
 ghost use Rattle.field.specs.Symbols.{Is, Symbols};
-ghost use Rattle.field.specs.parts.Tables.{Lent};
+ghost use Rattle.field.specs.parts.Products.{ProductsOf};
 ghost use Rattle.block.specs.parts.Area.{AllBelow};
 ghost use Rattle.block.specs.parts.Spectrum.{SpectrumOf, Continued};
-use field::Tables;
+use field::Products;
 
 // Writes values `from` .. `to - 1` of the block's spectrum, its values at powers of α, after those before; answers with the point of the next one.
 pub fn add_values(
     q: usize,
-    products: &Tables,
+    products: &Products,
     block: &[u8],
     from: usize,
     to: usize,
     start: u8,
     series: &mut [u8],
 ) -> u8
-    requires { ⌜ Good q × Lent q (now products) × Symbols q (now block) × (from ≤ to) × (to < length (now series)) × Is q start (power (opsOf q) alpha from) × SpectrumOf q (now block) from (now series) ⌝ }
+    requires { ⌜ Good q × ProductsOf q (now products) × Symbols q (now block) × (from ≤ to) × (to < length (now series)) × Is q start (power (opsOf q) alpha from) × SpectrumOf q (now block) from (now series) ⌝ }
     ensures { λ r. ⌜ Is q r (power (opsOf q) alpha to) × SpectrumOf q (now (block .entry)) to (now (series .exit)) ⌝ }
 {
     let mut point = start;
@@ -36,7 +36,7 @@ pub fn add_values(
 // Continues the series from place r + 1 on by the recurrence of the locator, for `count` places; `values` gets what the series had besides.
 pub fn extend(
     q: usize,
-    products: &Tables,
+    products: &Products,
     degree: usize,
     locator: &[u8],
     r: usize,
@@ -44,7 +44,7 @@ pub fn extend(
     series: &mut [u8],
     values: &mut [u8],
 )
-    requires { ⌜ Good q × Lent q (now products) × AllBelow q (now locator) × (degree < length (now locator)) × AllBelow q (now series) × (degree ≤ r) × (r + count < length (now series)) × AllBelow q (now values) × (count ≤ length (now values)) ⌝ }
+    requires { ⌜ Good q × ProductsOf q (now products) × AllBelow q (now locator) × (degree < length (now locator)) × AllBelow q (now series) × (degree ≤ r) × (r + count < length (now series)) × AllBelow q (now values) × (count ≤ length (now values)) ⌝ }
     ensures { λ _. ⌜ Continued q degree r count (now (locator .entry)) (now (series .entry)) (now (series .exit)) (now (values .exit)) ⌝ }
 {
     let mut u: usize = 0;

@@ -8,10 +8,10 @@ ghost use lib.ListN.{length};
 ghost use Rattle.field.specs.Fields.{Good};
 ghost use Rattle.field.specs.Symbols.{Symbols};
 ghost use Rattle.code.specs.Settings.{isSetting, settingOf};
-ghost use Rattle.tables.specs.parts.Tables.{Ready, longestBlock};
-ghost use Rattle.block.specs.parts.Area.{Working};
+ghost use Rattle.tables.specs.parts.Rows.{Ready, longestBlock};
+ghost use Rattle.block.specs.parts.Area.{BlockAreas};
 use code::Setting;
-use field::Tables;
+use field::Products;
 use libc::STDOUT_FILENO;
 use tables::LONGEST_BLOCK;
 
@@ -34,7 +34,7 @@ fn digits(q: usize, number: usize) -> [u8; LONGEST_BLOCK]
 // Whether the information costs less than d_l.
 fn near(
     p: Setting,
-    products: &Tables,
+    products: &Products,
     rows: &[u8],
     information: &[u8],
     l: usize,
@@ -64,7 +64,7 @@ fn near(
 // The first of the first `count` information words that does, by its number; `count` if none does.
 fn search_near(
     p: Setting,
-    products: &Tables,
+    products: &Products,
     rows: &[u8],
     l: usize,
     received: &[u8],
@@ -110,7 +110,7 @@ fn number_of(q: usize, information: &[u8]) -> usize
 // The information with which the block step answers, by its number; `none` if it answers that there is none.
 fn repaired_in(
     p: Setting,
-    products: &Tables,
+    products: &Products,
     rows: &[u8],
     l: usize,
     received: &[u8],
@@ -120,7 +120,7 @@ fn repaired_in(
     values: &mut [u8],
     information: &mut [u8],
 ) -> usize
-    requires { ⌜ Ready p (now products) (now rows) × (l ≤ p .m) × (length (now received) ≡ p .n) × Symbols (p .q) (now received) × Working p (now series) (now locator) (now values) (now information) ⌝ }
+    requires { ⌜ Ready p (now products) (now rows) × (l ≤ p .m) × (length (now received) ≡ p .n) × Symbols (p .q) (now received) × BlockAreas p (now series) (now locator) (now values) (now information) ⌝ }
 {
     let long = (l + 1) * p.k;
     if !block::repair(
@@ -142,7 +142,7 @@ fn repaired_in(
 // The same; the working areas are made here.
 fn repaired(
     p: Setting,
-    products: &Tables,
+    products: &Products,
     rows: &[u8],
     l: usize,
     received: &[u8],
@@ -177,7 +177,7 @@ struct Tally {
 
 fn one(
     p: Setting,
-    products: &Tables,
+    products: &Products,
     rows: &[u8],
     l: usize,
     distance: usize,
@@ -210,7 +210,7 @@ fn print(number: usize, after: u8) {
 // Every block below `end` whose number is a multiple of the stride.
 fn compare(
     p: Setting,
-    products: &Tables,
+    products: &Products,
     rows: &[u8],
     l: usize,
     distance: usize,
@@ -241,7 +241,7 @@ fn level(number: u64, l: usize, distance: usize, count: usize, stride: usize, en
     requires { ⌜ T (isSetting number) × (l ≤ settingOf number .m) × (0 < stride) × (stride ≤ 4194304) × (end ≤ 4194304) ⌝ }
 {
     let p = tables::setting(number);
-    let products = field::tables(p.q);
+    let products = field::products(p.q);
     let mut rows = [0u8; tables::MOST_ROWS];
     tables::rows(number, &mut rows);
     print(number as usize, b' ');

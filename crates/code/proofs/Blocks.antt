@@ -1,5 +1,5 @@
 -- Block facts over any field, α of order n and 1 ≤ k ≤ n (000, section 2 and Theorem 3.1): zeros of f, twist, spectrum.
--- Holds: `codeOver`; `timesG-ext` and `combination-ext` (only the information's symbols count); `base-zero` and `base-nonzero` (the zeros of f); `valueOf-timesG` (the value of x × G_j);
+-- Holds: `codeOver`; `timesG-ext` and `combination-ext` (only the information's symbols count); `generatorPolynomial-zero` and `generatorPolynomial-nonzero` (the zeros of f); `valueOf-timesG` (the value of x × G_j);
 -- `spectrum-combination`, `combination-vanishes` and `combination-on-stretch` (the spectrum of a combination).
 use mathlib.Core.Path.{_≡_, refl, sym, ap, ap₂, _∙_}
 use mathlib.Core.List.{List, _∷_, _++_}
@@ -13,12 +13,12 @@ use Rattle.algebra.specs.Sum.{sum, power}
 use Rattle.algebra.specs.Polynomial.{value}
 use Rattle.algebra.specs.parts.Values.{valueOf}
 use Rattle.algebra.proofs.Laws.{Field, mul-zero, mul-comm, ring}
-use Rattle.algebra.proofs.Order.{Order}
+use Rattle.algebra.proofs.HasOrder.{HasOrder}
 use Rattle.algebra.proofs.Sums.{sum-ext, sum-scale, sum-zeros, sum-single}
 use Rattle.algebra.proofs.Powers.{power-add, power-power, power-wraps}
 use Rattle.algebra.proofs.Polynomials.{valueOf-ext, valueOf-short, valueOf-scale, valueOf-twist, valueOf-of-sum, valueOf-is-sum, value-is-valueOf, value-shift, value-at-root, value-off-roots, length-fromRoots, In, here, there}
 use Rattle.code.specs.Code.{Code}
-use Rattle.code.specs.Generator.{points, base, rowSymbol, timesG}
+use Rattle.code.specs.Generator.{points, generatorPolynomial, rowSymbol, timesG}
 use Rattle.code.specs.Level.{combination}
 
 -- The code with these parameters over a field.
@@ -73,17 +73,17 @@ module _ {F : Type 0} (K : Field F) (α : F) (n k m : ℕ) where
   abbrev pow : ℕ → F
   pow i = power (K .ops) α i
 
-  pub base-zero : (s : ℕ) → s < n - k → value (K .ops) (base c) (pow s) ≡ 𝟘
-  unfolding base
-  base-zero s l = value-at-root K (in-points (K .ops) α (n - k) s l)
+  pub generatorPolynomial-zero : (s : ℕ) → s < n - k → value (K .ops) (generatorPolynomial c) (pow s) ≡ 𝟘
+  unfolding generatorPolynomial
+  generatorPolynomial-zero s l = value-at-root K (in-points (K .ops) α (n - k) s l)
 
-  pub length-base : length (base c) ≡ suc (n - k)
-  unfolding base
+  pub length-base : length (generatorPolynomial c) ≡ suc (n - k)
+  unfolding generatorPolynomial
   length-base = length-fromRoots (K .ops) (points (K .ops) α (n - k)) ∙ ap suc (length-points (K .ops) α (n - k))
 
   -- The value of row r of G_j: that of x^r × f at the twisted point.
   valueOf-row : (j r : ℕ) (y : F) → r < k → k ≤ n
-      → valueOf (K .ops) n (rowSymbol c j r) y ≡ power (K .ops) (pow (j * k) ⊗ y) r ⊗ value (K .ops) (base c) (pow (j * k) ⊗ y)
+      → valueOf (K .ops) n (rowSymbol c j r) y ≡ power (K .ops) (pow (j * k) ⊗ y) r ⊗ value (K .ops) (generatorPolynomial c) (pow (j * k) ⊗ y)
   unfolding rowSymbol
   valueOf-row j r y l h =
       valueOf-ext (K .ops) n (λ i. getD row i 𝟘 ⊗ pow (j * k * i)) (λ i. getD row i 𝟘 ⊗ power (K .ops) (pow (j * k)) i) y
@@ -91,36 +91,36 @@ module _ {F : Type 0} (K : Field F) (α : F) (n k m : ℕ) where
       ∙ valueOf-twist K n (λ i. getD row i 𝟘) (pow (j * k)) y
       ∙ valueOf-short K (length row) n (λ i. getD row i 𝟘) (pow (j * k) ⊗ y) (omega (arith, length-row)) (λ i s u. List·getD-eq-default row 𝟘 s)
       ∙ sym (value-is-valueOf (K .ops) row (pow (j * k) ⊗ y))
-      ∙ value-shift K r (base c) (pow (j * k) ⊗ y)
+      ∙ value-shift K r (generatorPolynomial c) (pow (j * k) ⊗ y)
     where
       row : List F
-      row = replicate r 𝟘 ++ base c
+      row = replicate r 𝟘 ++ generatorPolynomial c
 
       length-row : length row ≡ r + suc (n - k)
-      length-row = length-append (replicate r 𝟘) (base c) ∙ ap₂ _+_ (length-replicate r 𝟘) length-base
+      length-row = length-append (replicate r 𝟘) (generatorPolynomial c) ∙ ap₂ _+_ (length-replicate r 𝟘) length-base
 
   row-step : (x p v : F) → x ⊗ (p ⊗ v) ≡ v ⊗ (x ⊗ p)
   row-step x p v = simp ring
 
   -- The value of (information block x) × G_j.
   pub valueOf-timesG : (x : ℕ → F) (j : ℕ) (y : F) → k ≤ n
-      → valueOf (K .ops) n (timesG c x j) y ≡ valueOf (K .ops) k x (pow (j * k) ⊗ y) ⊗ value (K .ops) (base c) (pow (j * k) ⊗ y)
+      → valueOf (K .ops) n (timesG c x j) y ≡ valueOf (K .ops) k x (pow (j * k) ⊗ y) ⊗ value (K .ops) (generatorPolynomial c) (pow (j * k) ⊗ y)
   unfolding timesG
   valueOf-timesG x j y h =
       valueOf-of-sum K n k (λ r i. x r ⊗ rowSymbol c j r i) y
-      ∙ sum-ext (K .ops) k (λ r. valueOf (K .ops) n (λ i. x r ⊗ rowSymbol c j r i) y) (λ r. value (K .ops) (base c) e ⊗ (x r ⊗ power (K .ops) e r))
+      ∙ sum-ext (K .ops) k (λ r. valueOf (K .ops) n (λ i. x r ⊗ rowSymbol c j r i) y) (λ r. value (K .ops) (generatorPolynomial c) e ⊗ (x r ⊗ power (K .ops) e r))
       (λ r l. valueOf-scale K n (x r) (rowSymbol c j r) y ∙ ap (λ (t : F). x r ⊗ t) (valueOf-row j r y l h)
-      ∙ row-step (x r) (power (K .ops) e r) (value (K .ops) (base c) e))
-      ∙ sum-scale K k (value (K .ops) (base c) e) (λ r. x r ⊗ power (K .ops) e r)
-      ∙ ap (λ (t : F). value (K .ops) (base c) e ⊗ t) (sym (valueOf-is-sum K k x e))
-      ∙ mul-comm K (value (K .ops) (base c) e) (valueOf (K .ops) k x e)
+      ∙ row-step (x r) (power (K .ops) e r) (value (K .ops) (generatorPolynomial c) e))
+      ∙ sum-scale K k (value (K .ops) (generatorPolynomial c) e) (λ r. x r ⊗ power (K .ops) e r)
+      ∙ ap (λ (t : F). value (K .ops) (generatorPolynomial c) e ⊗ t) (sym (valueOf-is-sum K k x e))
+      ∙ mul-comm K (value (K .ops) (generatorPolynomial c) e) (valueOf (K .ops) k x e)
     where
       e : F
       e = pow (j * k) ⊗ y
 
   -- What information block x contributes to the spectrum where its exponent is e.
   unfoldable pub part : (ℕ → F) → ℕ → F
-  part x e = valueOf (K .ops) k x (pow e) ⊗ value (K .ops) (base c) (pow e)
+  part x e = valueOf (K .ops) k x (pow e) ⊗ value (K .ops) (generatorPolynomial c) (pow e)
 
   pub spectrum-combination : (l : ℕ) (x : ℕ → ℕ → F) (s : ℕ) → k ≤ n
       → valueOf (K .ops) n (combination c l x) (pow s) ≡ sum (K .ops) (suc l) (λ j. part (x (l - j)) (j * k + s))
@@ -129,11 +129,11 @@ module _ {F : Type 0} (K : Field F) (α : F) (n k m : ℕ) where
       valueOf-of-sum K n (suc l) (λ j i. timesG c (x (l - j)) j i) (pow s)
       ∙ sum-ext (K .ops) (suc l) (λ j. valueOf (K .ops) n (timesG c (x (l - j)) j) (pow s)) (λ j. part (x (l - j)) (j * k + s))
       (λ j u. valueOf-timesG (x (l - j)) j (pow s) h
-      ∙ ap (λ (t : F). valueOf (K .ops) k (x (l - j)) t ⊗ value (K .ops) (base c) t) (sym (power-add K α (j * k) s)))
+      ∙ ap (λ (t : F). valueOf (K .ops) k (x (l - j)) t ⊗ value (K .ops) (generatorPolynomial c) t) (sym (power-add K α (j * k) s)))
 
   pub part-low : (x : ℕ → F) (e : ℕ) → e < n - k → part x e ≡ 𝟘
   unfolding part
-  part-low x e l = ap (λ (t : F). valueOf (K .ops) k x (pow e) ⊗ t) (base-zero e l) ∙ mul-zero K (valueOf (K .ops) k x (pow e))
+  part-low x e l = ap (λ (t : F). valueOf (K .ops) k x (pow e) ⊗ t) (generatorPolynomial-zero e l) ∙ mul-zero K (valueOf (K .ops) k x (pow e))
 
   -- A combination of level l vanishes at α^0 .. α^(n-(l+1)k-1).
   pub combination-vanishes : (l : ℕ) (x : ℕ → ℕ → F) (s : ℕ) → (l + 1) * k ≤ n → s < n - (l + 1) * k
@@ -150,10 +150,10 @@ module _ {F : Type 0} (K : Field F) (α : F) (n k m : ℕ) where
           let below : j ≤ l = omega arith in
           omega (arith, mul-le-mul-right k below)
 
-  module _ (order : Order (K .ops) n α) where
-    pub base-nonzero : (s : ℕ) → n - k ≤ s → s < n → value (K .ops) (base c) (pow s) ≡ 𝟘 → ⊥
-    unfolding base
-    base-nonzero s h l =
+  module _ (order : HasOrder (K .ops) n α) where
+    pub generatorPolynomial-nonzero : (s : ℕ) → n - k ≤ s → s < n → value (K .ops) (generatorPolynomial c) (pow s) ≡ 𝟘 → ⊥
+    unfolding generatorPolynomial
+    generatorPolynomial-nonzero s h l =
         value-off-roots K (points (K .ops) α (n - k)) (pow s) (λ a u e. other (of-points (K .ops) α (n - k) u) e)
       where
         other : {a : F} → (i : ℕ) × (i < n - k) × (a ≡ pow i) → pow s ≡ a → ⊥
@@ -164,7 +164,7 @@ module _ {F : Type 0} (K : Field F) (α : F) (n k m : ℕ) where
     part-wrapped x e h l =
         let wraps : n + (e - n) ≡ e = omega arith in
         ap (λ (t : F). valueOf (K .ops) k x (pow e) ⊗ t)
-        (ap (value (K .ops) (base c)) (ap pow (sym wraps) ∙ power-wraps K n α order (e - n)) ∙ base-zero (e - n) l)
+        (ap (value (K .ops) (generatorPolynomial c)) (ap pow (sym wraps) ∙ power-wraps K n α order (e - n)) ∙ generatorPolynomial-zero (e - n) l)
         ∙ mul-zero K (valueOf (K .ops) k x (pow e))
 
     -- On the stretch of G_j only its term is left of the spectrum.

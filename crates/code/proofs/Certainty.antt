@@ -15,7 +15,7 @@ use Rattle.algebra.specs.Ops.{Ops, sub, pick}
 use Rattle.algebra.specs.Sum.{sum}
 use Rattle.algebra.specs.Weight.{total, weight}
 use Rattle.algebra.proofs.Laws.{Field, Tested, is-zero, non-zero, add-zero, zero-mul, eq-of-sub, sub-self, ring}
-use Rattle.algebra.proofs.Order.{Order}
+use Rattle.algebra.proofs.HasOrder.{HasOrder}
 use Rattle.algebra.proofs.Sums.{sum-ext, sum-add, sum-neg, sum-zeros, sum-split}
 use Rattle.algebra.proofs.Weights.{total-mono, total-add, total-scale}
 use Rattle.code.specs.Code.{Code, levelDistance, distancesTo}
@@ -124,7 +124,7 @@ module _ {F : Type 0} (K : Field F) (α : F) (n k m : ℕ) where
   distancesTo-total zero = omega arith
   distancesTo-total (suc l) = ap (λ (t : ℕ). t + levelDistance n k (suc l)) (distancesTo-total l)
 
-  module _ (order : Order (K .ops) n α) (fits : (m + 1) * k ≤ n) {R : Type 0} (cost : R → F → ℕ)
+  module _ (order : HasOrder (K .ops) n α) (fits : (m + 1) * k ≤ n) {R : Type 0} (cost : R → F → ℕ)
       (apart : (v : R) (a b : F) → (a ≡ b → ⊥) → 2 ≤ cost v a + cost v b) where
     -- Two messages that agree before block b and differ in it: blocks b .. b+l of the two transmissions together cost at least 2 (d_0 + .. + d_l).
     pub costs-apart : (u v : ℕ → ℕ → F) (w : ℕ → ℕ → R) (b l : ℕ) → l ≤ m → ((s r : ℕ) → s < b → r < k → u s r ≡ v s r)

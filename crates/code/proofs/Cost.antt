@@ -15,7 +15,7 @@ use Rattle.algebra.specs.Ops.{sub, pick}
 use Rattle.algebra.specs.Weight.{total, distance}
 use Rattle.algebra.proofs.Laws.{add-cancel, add-comm}
 use Rattle.algebra.proofs.Weights.{total-ext, total-scale, total-blocks, countOf-le}
-use Rattle.algebra.proofs.Below.{Below as Element, number, number-injective}
+use Rattle.algebra.proofs.Below.{Element, number, number-injective}
 use Rattle.field.specs.Fields.{opsOf}
 use Rattle.code.specs.declared.Setting.{Setting}
 use Rattle.code.specs.Code.{distancesTo, limit}
@@ -24,7 +24,7 @@ use Rattle.code.specs.parts.Cost.{symbolCost, costTo}
 use Rattle.code.specs.parts.Sound.{Sound}
 use Rattle.code.specs.Windows.{transmission, windowLength, windowDistance, Message, Fits}
 use Rattle.code.specs.parts.Reading.{messageCost, NearWindow}
-use Rattle.code.proofs.Numbers.{fieldOf, overField, lifted, number-sub, sent-number, message-below, transmission-view}
+use Rattle.code.proofs.CodeBelow.{fieldOf, overField, lifted, number-sub, sent-number, message-below, transmission-view}
 
 module _ (q : ℕ) where
   pub cost-same : (v a : ℕ) → v ≡ a → symbolCost q v a ≡ 0

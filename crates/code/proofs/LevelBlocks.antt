@@ -13,7 +13,7 @@ use Rattle.algebra.specs.parts.Values.{valueOf}
 use Rattle.algebra.specs.Weight.{countOf, weight}
 use Rattle.algebra.proofs.Polynomials.{valueOf-ext}
 use Rattle.algebra.proofs.Weights.{countOf-ext}
-use Rattle.algebra.proofs.Below.{Below as Element, number, number-injective}
+use Rattle.algebra.proofs.Below.{Element, number, number-injective}
 use Rattle.algebra.proofs.Distance.{zero-of-vanishing}
 use Rattle.field.specs.Fields.{opsOf}
 use Rattle.field.specs.Symbols.{Symbols}
@@ -26,7 +26,7 @@ use Rattle.code.proofs.Blocks.{combination-vanishes}
 use Rattle.code.proofs.LevelCode.{informationOf, level-code}
 use Rattle.code.proofs.Naturality.{combination-natural}
 use Rattle.code.proofs.Settings.{soundOf, level-fits}
-use Rattle.code.proofs.Numbers.{laws, fieldOf, rootOf, orderAt, overField, keeps, number-zero, mapped-code, lifted, combination-number, received, received-number, value-number}
+use Rattle.code.proofs.CodeBelow.{laws, fieldOf, rootOf, orderAt, overField, keeps, number-zero, mapped-code, lifted, combination-number, received, received-number, value-number}
 
 module _ (p : Setting) (S : Sound p) (l : ℕ) (fits : (l + 1) * p .k ≤ p .n) (block : List ℕ) (long : length block ≡ p .n) (symbols : Symbols (p .q) block) where
   vanishes-over : Vanishes p l block → (s : ℕ) → s < p .n - (l + 1) * p .k → valueOf (fieldOf p S .ops) (p .n) (received p S block) (power (fieldOf p S .ops) (rootOf p S) s) ≡ fieldOf p S .ops .zero

@@ -12,16 +12,16 @@ use Rattle.algebra.specs.Polynomial.{value}
 use Rattle.algebra.specs.parts.Values.{valueOf}
 use Rattle.algebra.specs.Weight.{weight}
 use Rattle.algebra.proofs.Laws.{Field, mul-comm, mul-eq-zero}
-use Rattle.algebra.proofs.Order.{Order}
+use Rattle.algebra.proofs.HasOrder.{HasOrder}
 use Rattle.algebra.proofs.Polynomials.{valueOf-zeros}
 use Rattle.algebra.proofs.Distance.{zero-of-vanishing, coefficients-of-vanishing, spectrum-injective}
 use Rattle.code.specs.Code.{Code}
-use Rattle.code.specs.Generator.{base}
+use Rattle.code.specs.Generator.{generatorPolynomial}
 use Rattle.code.specs.Level.{combination}
-use Rattle.code.proofs.Blocks.{codeOver, base-nonzero, part, combination-vanishes, combination-on-stretch}
+use Rattle.code.proofs.Blocks.{codeOver, generatorPolynomial-nonzero, part, combination-vanishes, combination-on-stretch}
 use Rattle.code.proofs.Recovery.{part-injective, recover, recover-part}
 
-module _ {F : Type 0} (K : Field F) (α : F) (n k m : ℕ) (order : Order (K .ops) n α) where
+module _ {F : Type 0} (K : Field F) (α : F) (n k m : ℕ) (order : HasOrder (K .ops) n α) where
   infixl 70 _⊗_
   open Ops (K .ops) using (mul as _⊗_, zero as 𝟘, one as 𝟙)
 
@@ -56,9 +56,9 @@ module _ {F : Type 0} (K : Field F) (α : F) (n k m : ℕ) (order : Order (K .op
       let one-le : 1 ≤ l + 1 = omega arith in
       let room : 1 * k ≤ (l + 1) * k = mul-le-mul-right k one-le in
       coefficients-of-vanishing K n α order (n - k) k (x b) (omega arith)
-      (λ e s. mul-eq-zero K (value (K .ops) (base c) (pow (n - k + e))) (valueOf (K .ops) k (x b) (pow (n - k + e)))
-      (base-nonzero K α n k m order (n - k + e) (omega arith) (omega arith))
-      (mul-comm K (value (K .ops) (base c) (pow (n - k + e))) (valueOf (K .ops) k (x b) (pow (n - k + e)))
+      (λ e s. mul-eq-zero K (value (K .ops) (generatorPolynomial c) (pow (n - k + e))) (valueOf (K .ops) k (x b) (pow (n - k + e)))
+      (generatorPolynomial-nonzero K α n k m order (n - k + e) (omega arith) (omega arith))
+      (mul-comm K (value (K .ops) (generatorPolynomial c) (pow (n - k + e))) (valueOf (K .ops) k (x b) (pow (n - k + e)))
       ∙ sym (combination-on-information l b x e fits below s)
       ∙ valueOf-zeros K n (combination c l x) (pow (stretch l b e)) zeros))
       r inside

@@ -19,7 +19,7 @@ use Rattle.code.proofs.Certainty.{block-certain, agree-through}
 use Rattle.code.proofs.Lists.{equal-part}
 use Rattle.code.specs.Settings.{codeOf}
 use Rattle.code.specs.parts.Sound.{Sound}
-use Rattle.code.proofs.Numbers.{fieldOf, rootOf, orderAt, overField, lifted, lifted-same, number-lifted, message-below}
+use Rattle.code.proofs.CodeBelow.{fieldOf, rootOf, orderAt, overField, lifted, lifted-same, number-lifted, message-below}
 use Rattle.code.proofs.Cost.{byteCost, bytes-apart, message-cost}
 
 -- A place of a list of blocks of w symbols is a block and a symbol of it.

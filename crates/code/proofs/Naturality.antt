@@ -1,5 +1,5 @@
 -- The definitions of the code go through a map that keeps the operations: from the abstract carrier to the numbers below q.
--- Holds: `mapped`; `base-natural`, `rowSymbol-natural`, `timesG-natural`, `sentSymbol-natural`, `combination-natural`, `ending-natural`.
+-- Holds: `mapped`; `generatorPolynomial-natural`, `rowSymbol-natural`, `timesG-natural`, `sentSymbol-natural`, `combination-natural`, `ending-natural`.
 use mathlib.Core.Path.{_≡_, refl, sym, ap, ap₂, _∙_}
 use mathlib.Core.Bool.{Bool, true, false}
 use mathlib.Core.List.{List, _∷_, _++_, map, map-append}
@@ -12,7 +12,7 @@ use Rattle.algebra.specs.parts.Values.{falling}
 use Rattle.algebra.proofs.Sums.{sum-ext}
 use Rattle.algebra.proofs.Naturality.{Homomorphism, sum-natural, power-natural, falling-natural, fromRoots-natural}
 use Rattle.code.specs.Code.{Code}
-use Rattle.code.specs.Generator.{points, base, rowSymbol, timesG}
+use Rattle.code.specs.Generator.{points, generatorPolynomial, rowSymbol, timesG}
 use Rattle.code.specs.Transmission.{earlier, sentSymbol}
 use Rattle.code.specs.Level.{combination}
 use Rattle.code.specs.parts.Recovery.{ending}
@@ -32,18 +32,18 @@ module _ {F G : Type 0} (c : Code F) (p : Ops G) (h : F → G) (H : Homomorphism
   points-natural zero = refl
   points-natural (suc r) = ap₂ _∷_ (power-natural (c .ops) p h H (c .α) r) (points-natural r)
 
-  pub base-natural : map h (base c) ≡ base (mapped c p h)
-  unfolding base
-  base-natural = fromRoots-natural (c .ops) p h H (points (c .ops) (c .α) (c .n - c .k)) ∙ ap (Rattle.algebra.specs.Polynomial.fromRoots p) (points-natural (c .n - c .k))
+  pub generatorPolynomial-natural : map h (generatorPolynomial c) ≡ generatorPolynomial (mapped c p h)
+  unfolding generatorPolynomial
+  generatorPolynomial-natural = fromRoots-natural (c .ops) p h H (points (c .ops) (c .α) (c .n - c .k)) ∙ ap (Rattle.algebra.specs.Polynomial.fromRoots p) (points-natural (c .n - c .k))
 
   pub rowSymbol-natural : (j r i : ℕ) → h (rowSymbol c j r i) ≡ rowSymbol (mapped c p h) j r i
   unfolding rowSymbol
   rowSymbol-natural j r i =
-      H .on-mul (getD (replicate r (c .ops .zero) ++ base c) i (c .ops .zero)) (power (c .ops) (c .α) (j * c .k * i))
+      H .on-mul (getD (replicate r (c .ops .zero) ++ generatorPolynomial c) i (c .ops .zero)) (power (c .ops) (c .α) (j * c .k * i))
       ∙ ap₂ (p .mul)
-      (sym (List·getD-map h (replicate r (c .ops .zero) ++ base c) i (c .ops .zero))
+      (sym (List·getD-map h (replicate r (c .ops .zero) ++ generatorPolynomial c) i (c .ops .zero))
       ∙ ap₂ (λ (l : List G) (z : G). getD l i z)
-      (map-append h (replicate r (c .ops .zero)) (base c) ∙ ap₂ _++_ (map-replicate h r (c .ops .zero) ∙ ap (replicate r) (H .on-zero)) base-natural)
+      (map-append h (replicate r (c .ops .zero)) (generatorPolynomial c) ∙ ap₂ _++_ (map-replicate h r (c .ops .zero) ∙ ap (replicate r) (H .on-zero)) generatorPolynomial-natural)
       (H .on-zero))
       (power-natural (c .ops) p h H (c .α) (j * c .k * i))
 

@@ -16,16 +16,16 @@ use Rattle.algebra.specs.Sum.{sum, power}
 use Rattle.algebra.specs.Polynomial.{value}
 use Rattle.algebra.specs.parts.Values.{valueOf, falling}
 use Rattle.algebra.proofs.Laws.{Field, mul-one, mul-eq-zero, add-assoc, add-left-comm, add-neg, add-zero, eq-of-sub, sub-self, ring}
-use Rattle.algebra.proofs.Order.{Order}
+use Rattle.algebra.proofs.HasOrder.{HasOrder}
 use Rattle.algebra.proofs.Sums.{sum-ext, sum-add, sum-single}
 use Rattle.algebra.proofs.Polynomials.{valueOf-ext, valueOf-sub, monic-fromRoots}
 use Rattle.algebra.proofs.Weights.{weight-short}
 use Rattle.algebra.proofs.Distance.{zero-of-vanishing, coefficients-of-vanishing}
 use Rattle.algebra.proofs.Synthesis.{power-back, synthesis, synthesis-low, synthesis-high}
 use Rattle.code.specs.Code.{Code}
-use Rattle.code.specs.Generator.{points, base, rowSymbol, timesG}
+use Rattle.code.specs.Generator.{points, generatorPolynomial, rowSymbol, timesG}
 use Rattle.code.specs.parts.Recovery.{ending, Recovered}
-use Rattle.code.proofs.Blocks.{codeOver, length-points, length-base, base-nonzero, part, part-low, valueOf-timesG}
+use Rattle.code.proofs.Blocks.{codeOver, length-points, length-base, generatorPolynomial-nonzero, part, part-low, valueOf-timesG}
 
 module _ {F : Type 0} (K : Field F) (α : F) (n k m : ℕ) where
   infixl 60 _⊕_
@@ -39,25 +39,25 @@ module _ {F : Type 0} (K : Field F) (α : F) (n k m : ℕ) where
   abbrev pow : ℕ → F
   pow i = power (K .ops) α i
 
-  row-at : (r d : ℕ) → rowSymbol c 0 r (r + d) ≡ getD (base c) d 𝟘
+  row-at : (r d : ℕ) → rowSymbol c 0 r (r + d) ≡ getD (generatorPolynomial c) d 𝟘
   unfolding rowSymbol power
   row-at r d =
-      ap₂ _⊗_ (ap (λ (t : ℕ). getD (replicate r 𝟘 ++ base c) (t + d) 𝟘) (sym (length-replicate r 𝟘)) ∙ getD-append-add (replicate r 𝟘) (base c) d 𝟘)
+      ap₂ _⊗_ (ap (λ (t : ℕ). getD (replicate r 𝟘 ++ generatorPolynomial c) (t + d) 𝟘) (sym (length-replicate r 𝟘)) ∙ getD-append-add (replicate r 𝟘) (generatorPolynomial c) d 𝟘)
       (let none : 0 * k * (r + d) ≡ 0 = omega arith in ap pow none)
-      ∙ mul-one K (getD (base c) d 𝟘)
+      ∙ mul-one K (getD (generatorPolynomial c) d 𝟘)
 
   -- The rows of G_0 end in 1, row r at place n-k+r.
   row-one : (j : ℕ) → j < k → k ≤ n → rowSymbol c 0 (k - suc j) (n - suc j) ≡ 𝟙
-  unfolding base
+  unfolding generatorPolynomial
   row-one j l fits =
       let place : n - suc j ≡ k - suc j + (n - k) = omega arith in
       ap (rowSymbol c 0 (k - suc j)) place ∙ row-at (k - suc j) (n - k)
-      ∙ ap (λ (t : ℕ). getD (base c) t 𝟘) (sym (length-points (K .ops) α (n - k))) ∙ monic-fromRoots (K .ops) (points (K .ops) α (n - k))
+      ∙ ap (λ (t : ℕ). getD (generatorPolynomial c) t 𝟘) (sym (length-points (K .ops) α (n - k))) ∙ monic-fromRoots (K .ops) (points (K .ops) α (n - k))
 
   row-zero : (r j : ℕ) → r + suc j < k → k ≤ n → rowSymbol c 0 r (n - suc j) ≡ 𝟘
   row-zero r j l fits =
       let place : n - suc j ≡ r + (n - suc j - r) = omega arith in
-      ap (rowSymbol c 0 r) place ∙ row-at r (n - suc j - r) ∙ List·getD-eq-default (base c) 𝟘 (omega (arith, length-base K α n k m))
+      ap (rowSymbol c 0 r) place ∙ row-at r (n - suc j - r) ∙ List·getD-eq-default (generatorPolynomial c) 𝟘 (omega (arith, length-base K α n k m))
 
   sub-back : (a b : F) → a ⊕ (b ⊕ ⊖ a) ≡ b
   sub-back a b = add-left-comm K a b (⊖ a) ∙ ap (λ (t : F). b ⊕ t) (add-neg K a) ∙ add-zero K b
@@ -122,7 +122,7 @@ module _ {F : Type 0} (K : Field F) (α : F) (n k m : ℕ) where
       (λ r h d. ap (λ (t : Bool). pick t (recoverTo v j r ⊕ sub (K .ops) (ending c v (suc j)) (timesG c (recoverTo v j) 0 (n - suc j))) (recoverTo v j r)) (ne-eqb r (k - suc j) d))
       (ap (λ (t : Bool). pick t (recoverTo v j (k - suc j) ⊕ sub (K .ops) (ending c v (suc j)) (timesG c (recoverTo v j) 0 (n - suc j))) (recoverTo v j (k - suc j))) (eq-eqb (k - suc j) (k - suc j) refl))
 
-  module _ (order : Order (K .ops) n α) where
+  module _ (order : HasOrder (K .ops) n α) where
     cancel-step : (a b f : F) → a ⊗ f ≡ b ⊗ f → f ⊗ (a ⊕ ⊖ b) ≡ 𝟘
     cancel-step a b f e = spread a b f ∙ ap (λ (t : F). t ⊕ ⊖ (b ⊗ f)) e ∙ sub-self K (b ⊗ f)
       where
@@ -136,9 +136,9 @@ module _ {F : Type 0} (K : Field F) (α : F) (n k m : ℕ) where
         eq-of-sub K (x r) (y r)
         (coefficients-of-vanishing K n α order (n - k) k (λ i. sub (K .ops) (x i) (y i)) fits
         (λ e h. valueOf-sub K k x y (pow (n - k + e))
-        ∙ mul-eq-zero K (value (K .ops) (base c) (pow (n - k + e))) (sub (K .ops) (valueOf (K .ops) k x (pow (n - k + e))) (valueOf (K .ops) k y (pow (n - k + e))))
-        (base-nonzero K α n k m order (n - k + e) (omega arith) (omega arith))
-        (cancel-step (valueOf (K .ops) k x (pow (n - k + e))) (valueOf (K .ops) k y (pow (n - k + e))) (value (K .ops) (base c) (pow (n - k + e))) (same e h)))
+        ∙ mul-eq-zero K (value (K .ops) (generatorPolynomial c) (pow (n - k + e))) (sub (K .ops) (valueOf (K .ops) k x (pow (n - k + e))) (valueOf (K .ops) k y (pow (n - k + e))))
+        (generatorPolynomial-nonzero K α n k m order (n - k + e) (omega arith) (omega arith))
+        (cancel-step (valueOf (K .ops) k x (pow (n - k + e))) (valueOf (K .ops) k y (pow (n - k + e))) (value (K .ops) (generatorPolynomial c) (pow (n - k + e))) (same e h)))
         r l)
 
     abbrev block : (ℕ → F) → ℕ → F
@@ -147,7 +147,7 @@ module _ {F : Type 0} (K : Field F) (α : F) (n k m : ℕ) where
     value-of-product : (x : ℕ → F) (s : ℕ) → k ≤ n → valueOf (K .ops) n (timesG c x 0) (pow s) ≡ part K α n k m x s
     unfolding part power
     value-of-product x s fits =
-        valueOf-timesG K α n k m x 0 (pow s) fits ∙ ap (λ (t : F). valueOf (K .ops) k x t ⊗ value (K .ops) (base c) t) (at (pow s))
+        valueOf-timesG K α n k m x 0 (pow s) fits ∙ ap (λ (t : F). valueOf (K .ops) k x t ⊗ value (K .ops) (generatorPolynomial c) t) (at (pow s))
       where
         at : (y : F) → pow (0 * k) ⊗ y ≡ y
         at y = let none : 0 * k ≡ 0 = omega arith in ap (λ (t : ℕ). pow t ⊗ y) none ∙ simp ring

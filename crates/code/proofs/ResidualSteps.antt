@@ -1,4 +1,4 @@
--- The residual of a message g in a reception, on bytes: how it changes when a block of g is changed, how it begins, and what is left at the end.
+-- The residual of a message g in a reception, on bytes: how it changes when a block of g is changed, how it begins, and the residual at the end.
 -- Holds: `timesG-only`, `lessened`, `residual-step`, `residual-start`, `residual-back`, `residual-test`.
 use mathlib.Core.Path.{_≡_, refl, sym, ap, ap₂, subst, _∙_}
 use mathlib.Core.Bool.{Bool, true, false}
@@ -12,18 +12,18 @@ use borrow.Author.Tests.{le-leb, lt-leb, eq-eqb, ne-eqb}
 use Rattle.algebra.specs.Ops.{sub, pick}
 use Rattle.algebra.proofs.Laws.{sub-self, eq-of-sub, add-of-sub, sub-add, sub-sub, neg-zero, add-zero, add-comm, add-assoc, add-neg, zero-mul}
 use Rattle.algebra.proofs.Sums.{sum-ext, sum-single}
-use Rattle.algebra.proofs.Below.{Below as Element, number, number-injective, element, number-element}
+use Rattle.algebra.proofs.Below.{Element, number, number-injective, element, number-element}
 use Rattle.field.specs.Fields.{opsOf}
 use Rattle.code.specs.declared.Setting.{Setting}
 use Rattle.code.specs.Generator.{rowSymbol, timesG}
 use Rattle.code.specs.Transmission.{view, earlier, sentSymbol}
 use Rattle.code.specs.Settings.{codeOf}
 use Rattle.code.specs.parts.Sound.{Sound}
-use Rattle.code.specs.parts.Reading.{only, Residual}
+use Rattle.code.specs.parts.Reading.{only, IsResidual}
 use Rattle.code.proofs.Blocks.{timesG-ext}
-use Rattle.code.proofs.Windows.{sent-sub, sent-zeros}
-use Rattle.code.proofs.Turns.{contribution, single, sent-single}
-use Rattle.code.proofs.Numbers.{laws, positive, fieldOf, rootOf, overField, keeps, number-zero, number-sub, lifted, number-lifted, sent-number, timesG-number, rowSymbol-number}
+use Rattle.code.proofs.Differences.{sent-sub, sent-zeros}
+use Rattle.code.proofs.Window.{contribution, single, sent-single}
+use Rattle.code.proofs.CodeBelow.{laws, positive, fieldOf, rootOf, overField, keeps, number-zero, number-sub, lifted, number-lifted, sent-number, timesG-number, rowSymbol-number}
 
 module _ (p : Setting) (S : Sound p) where
   -- The same information blocks send the same symbols, over any field: only symbols below k count.
@@ -64,11 +64,11 @@ module _ (p : Setting) (S : Sound p) where
 
   -- What information block x at block j of the message contributes, taken out of the residual.
   abbrev pub lessened : List ℕ → (ℕ → ℕ) → ℕ → ℕ → ℕ → ℕ
-  lessened left x j s i =
-      pick (leb j s) (pick (leb (s - j) (p .m)) (sub (opsOf (p .q)) (view (p .n) left s i) (timesG (codeOf p) x (s - j) i)) (view (p .n) left s i)) (view (p .n) left s i)
+  lessened residual x j s i =
+      pick (leb j s) (pick (leb (s - j) (p .m)) (sub (opsOf (p .q)) (view (p .n) residual s i) (timesG (codeOf p) x (s - j) i)) (view (p .n) residual s i)) (view (p .n) residual s i)
 
-  module _ (T : ℕ) (reception g left h left' : List ℕ) (R : (i : ℕ) → getD reception i 0 < p .q) (G : (i : ℕ) → getD g i 0 < p .q)
-      (H : (i : ℕ) → getD h i 0 < p .q) (residual : Residual p T reception g left) (x : ℕ → ℕ) (X : (r : ℕ) → x r < p .q) (j : ℕ)
+  module _ (T : ℕ) (reception g residual h residual' : List ℕ) (R : (i : ℕ) → getD reception i 0 < p .q) (G : (i : ℕ) → getD g i 0 < p .q)
+      (H : (i : ℕ) → getD h i 0 < p .q) (is-residual : IsResidual p T reception g residual) (x : ℕ → ℕ) (X : (r : ℕ) → x r < p .q) (j : ℕ)
       (placed : (r : ℕ) → r < p .k → view (p .k) h j r ≡ opsOf (p .q) .add (view (p .k) g j r) (x r))
       (others : (s r : ℕ) → (s ≡ j → ⊥) → r < p .k → view (p .k) h s r ≡ view (p .k) g s r) where
     x' : ℕ → Element (p .q)
@@ -118,7 +118,7 @@ module _ (p : Setting) (S : Sound p) where
         ∙ sent-single (fieldOf p S) (rootOf p S) (p .n) (p .k) (p .m) x' j s i
 
     -- The residual after x was added to block j of the message and its contribution taken out.
-    pub residual-step : ((s i : ℕ) → s < T + p .m → i < p .n → view (p .n) left' s i ≡ lessened left x j s i) → Residual p T reception h left'
+    pub residual-step : ((s i : ℕ) → s < T + p .m → i < p .n → view (p .n) residual' s i ≡ lessened residual x j s i) → IsResidual p T reception h residual'
     unfolding contribution x'
     residual-step changed =
         record { symbol = λ s i l u. changed s i l u ∙ at s i l u (decLe j s) (decLe (s - j) (p .m)) ∙ sym (whole s i) }
@@ -140,20 +140,20 @@ module _ (p : Setting) (S : Sound p) where
             ∙ ap (λ (t : Element (p .q)). number (sub (fieldOf p S .ops) (w' s i) t)) (add-of-sub (fieldOf p S) _ _ _ (sent-less s i))
             ∙ ap number (sub-add (fieldOf p S) (w' s i) (sentSymbol (overField p S) (lifted p S (view (p .k) g)) s i) (contribution (fieldOf p S) (rootOf p S) (p .n) (p .k) (p .m) x' j s i))
 
-        number-before : (s i : ℕ) → s < T + p .m → i < p .n → number (before s i) ≡ view (p .n) left s i
+        number-before : (s i : ℕ) → s < T + p .m → i < p .n → number (before s i) ≡ view (p .n) residual s i
         number-before s i l u =
             number-sub p S (w' s i) (sentSymbol (overField p S) (lifted p S (view (p .k) g)) s i)
             ∙ ap₂ (sub (opsOf (p .q))) (number-lifted p S (view (p .n) reception) s i (R (s * p .n + i))) (sent-number p S (view (p .k) g) (λ b r. G (b * p .k + r)) s i)
-            ∙ sym (residual .symbol s i l u)
+            ∙ sym (is-residual .symbol s i l u)
 
-        unchanged : (s i : ℕ) → s < T + p .m → i < p .n → view (p .n) left s i ≡ number (sub (fieldOf p S .ops) (before s i) zero)
+        unchanged : (s i : ℕ) → s < T + p .m → i < p .n → view (p .n) residual s i ≡ number (sub (fieldOf p S .ops) (before s i) zero)
         unchanged s i l u =
             sym (number-before s i l u) ∙ ap number (sym (ap (fieldOf p S .ops .add (before s i)) (neg-zero (fieldOf p S)) ∙ add-zero (fieldOf p S) (before s i)))
 
         at : (s i : ℕ) → s < T + p .m → i < p .n → Dec (j ≤ s) → Dec (s - j ≤ p .m)
-            → lessened left x j s i ≡ number (sub (fieldOf p S .ops) (before s i) (contribution (fieldOf p S) (rootOf p S) (p .n) (p .k) (p .m) x' j s i))
+            → lessened residual x j s i ≡ number (sub (fieldOf p S .ops) (before s i) (contribution (fieldOf p S) (rootOf p S) (p .n) (p .k) (p .m) x' j s i))
         at s i l u (yes a) (yes b) =
-            ap₂ (λ (c d : Bool). pick c (pick d (sub (opsOf (p .q)) (view (p .n) left s i) (timesG (codeOf p) x (s - j) i)) (view (p .n) left s i)) (view (p .n) left s i))
+            ap₂ (λ (c d : Bool). pick c (pick d (sub (opsOf (p .q)) (view (p .n) residual s i) (timesG (codeOf p) x (s - j) i)) (view (p .n) residual s i)) (view (p .n) residual s i))
             (le-leb j s a) (le-leb (s - j) (p .m) b)
             ∙ sym (ap₂ (λ (c d : Bool). number (sub (fieldOf p S .ops) (before s i) (pick c (pick d (timesG (overField p S) x' (s - j) i) zero) zero)))
             (le-leb j s a) (le-leb (s - j) (p .m) b)
@@ -161,21 +161,21 @@ module _ (p : Setting) (S : Sound p) where
             ∙ ap₂ (sub (opsOf (p .q))) (number-before s i l u) (timesG-number p S x X (s - j) i))
         at s i l u (yes a) (no b) =
             let past : p .m < s - j = omega arith in
-            ap₂ (λ (c d : Bool). pick c (pick d (sub (opsOf (p .q)) (view (p .n) left s i) (timesG (codeOf p) x (s - j) i)) (view (p .n) left s i)) (view (p .n) left s i))
+            ap₂ (λ (c d : Bool). pick c (pick d (sub (opsOf (p .q)) (view (p .n) residual s i) (timesG (codeOf p) x (s - j) i)) (view (p .n) residual s i)) (view (p .n) residual s i))
             (le-leb j s a) (lt-leb (s - j) (p .m) past)
             ∙ unchanged s i l u
             ∙ sym (ap₂ (λ (c d : Bool). number (sub (fieldOf p S .ops) (before s i) (pick c (pick d (timesG (overField p S) x' (s - j) i) zero) zero)))
             (le-leb j s a) (lt-leb (s - j) (p .m) past))
         at s i l u (no a) b =
             let past : s < j = omega arith in
-            ap (λ (c : Bool). pick c (pick (leb (s - j) (p .m)) (sub (opsOf (p .q)) (view (p .n) left s i) (timesG (codeOf p) x (s - j) i)) (view (p .n) left s i)) (view (p .n) left s i))
+            ap (λ (c : Bool). pick c (pick (leb (s - j) (p .m)) (sub (opsOf (p .q)) (view (p .n) residual s i) (timesG (codeOf p) x (s - j) i)) (view (p .n) residual s i)) (view (p .n) residual s i))
             (lt-leb j s past)
             ∙ unchanged s i l u
             ∙ sym (ap (λ (c : Bool). number (sub (fieldOf p S .ops) (before s i) (pick c (pick (leb (s - j) (p .m)) (timesG (overField p S) x' (s - j) i) zero) zero)))
             (lt-leb j s past))
 
   -- The reception itself is the residual of the zero message.
-  pub residual-start : (T : ℕ) (reception g : List ℕ) → ((i : ℕ) → getD reception i 0 < p .q) → ((i : ℕ) → getD g i 0 ≡ 0) → Residual p T reception g reception
+  pub residual-start : (T : ℕ) (reception g : List ℕ) → ((i : ℕ) → getD reception i 0 < p .q) → ((i : ℕ) → getD g i 0 ≡ 0) → IsResidual p T reception g reception
   unfolding lifted
   residual-start T reception g R zeros =
       record {
@@ -195,8 +195,8 @@ module _ (p : Setting) (S : Sound p) where
           ap (element (p .q) (positive p S)) (zeros i)
           ∙ number-injective _ _ (number-element (p .q) (positive p S) 0 (positive p S) ∙ sym (number-zero p S))
 
-  module _ (T : ℕ) (reception g left : List ℕ) (R : (i : ℕ) → getD reception i 0 < p .q) (G : (i : ℕ) → getD g i 0 < p .q)
-      (residual : Residual p T reception g left) (s i : ℕ) (l : s < T + p .m) (u : i < p .n) where
+  module _ (T : ℕ) (reception g residual : List ℕ) (R : (i : ℕ) → getD reception i 0 < p .q) (G : (i : ℕ) → getD g i 0 < p .q)
+      (is-residual : IsResidual p T reception g residual) (s i : ℕ) (l : s < T + p .m) (u : i < p .n) where
     received : Element (p .q)
     received = lifted p S (view (p .n) reception) s i
 
@@ -211,22 +211,22 @@ module _ (p : Setting) (S : Sound p) where
     unfolding sent
     number-sent = sent-number p S (view (p .k) g) (λ b r. G (b * p .k + r)) s i
 
-    number-left : number (sub (fieldOf p S .ops) received sent) ≡ view (p .n) left s i
+    number-left : number (sub (fieldOf p S .ops) received sent) ≡ view (p .n) residual s i
     number-left =
-        number-sub p S received sent ∙ ap₂ (sub (opsOf (p .q))) number-received number-sent ∙ sym (residual .symbol s i l u)
+        number-sub p S received sent ∙ ap₂ (sub (opsOf (p .q))) number-received number-sent ∙ sym (is-residual .symbol s i l u)
 
     -- The reception less the residual is the transmission.
-    pub residual-back : sub (opsOf (p .q)) (view (p .n) reception s i) (view (p .n) left s i) ≡ sentSymbol (codeOf p) (view (p .k) g) s i
+    pub residual-back : sub (opsOf (p .q)) (view (p .n) reception s i) (view (p .n) residual s i) ≡ sentSymbol (codeOf p) (view (p .k) g) s i
     residual-back =
         sym (ap₂ (sub (opsOf (p .q))) number-received number-left) ∙ sym (number-sub p S received (sub (fieldOf p S .ops) received sent))
         ∙ ap number (sub-sub (fieldOf p S) received sent) ∙ number-sent
 
     -- The residual is zero just where the reception holds the sent symbol.
-    pub residual-test : eqb (view (p .n) reception s i) (sentSymbol (codeOf p) (view (p .k) g) s i) ≡ eqb (view (p .n) left s i) 0
+    pub residual-test : eqb (view (p .n) reception s i) (sentSymbol (codeOf p) (view (p .k) g) s i) ≡ eqb (view (p .n) residual s i) 0
     residual-test = at (ℕ-discrete (view (p .n) reception s i) (sentSymbol (codeOf p) (view (p .k) g) s i))
       where
         at : Dec (view (p .n) reception s i ≡ sentSymbol (codeOf p) (view (p .k) g) s i)
-            → eqb (view (p .n) reception s i) (sentSymbol (codeOf p) (view (p .k) g) s i) ≡ eqb (view (p .n) left s i) 0
+            → eqb (view (p .n) reception s i) (sentSymbol (codeOf p) (view (p .k) g) s i) ≡ eqb (view (p .n) residual s i) 0
         at (yes e) =
             eq-eqb _ _ e ∙ sym (eq-eqb _ _ (sym number-left
             ∙ (ap (λ (a : Element (p .q)). number (sub (fieldOf p S .ops) a sent)) (number-injective received sent (number-received ∙ e ∙ sym number-sent))

@@ -11,7 +11,7 @@ use lib.Seq.{length-take-le, getD-take, getD-drop}
 use Rattle.algebra.specs.Ops.{sub}
 use Rattle.algebra.proofs.Laws.{sub-self, add-of-sub, neg-unique, neg-mul}
 use Rattle.algebra.proofs.Weights.{total-ext}
-use Rattle.algebra.proofs.Below.{Below as Element, number, number-injective, element, number-element}
+use Rattle.algebra.proofs.Below.{Element, number, number-injective, element, number-element}
 use Rattle.field.specs.Fields.{opsOf}
 use Rattle.field.proofs.Symbols.{symbol-below}
 use Rattle.code.specs.declared.Setting.{Setting}
@@ -21,21 +21,21 @@ use Rattle.code.specs.parts.Cost.{symbolCost, costTo, blockCost, rebuilt
 use Rattle.code.specs.Settings.{codeOf}
 use Rattle.code.specs.parts.Sound.{Sound}
 use Rattle.code.specs.Windows.{windowLength, Message}
-use Rattle.code.specs.parts.Reading.{Below, windowCost, zeroCost, messageCost, Residual}
+use Rattle.code.specs.parts.Reading.{BlocksBelow, windowCost, zeroCost, messageCost, IsResidual}
 use Rattle.code.proofs.Blocks.{combination-ext}
-use Rattle.code.proofs.Windows.{sent-sub, sent-ahead}
-use Rattle.code.proofs.Numbers.{laws, positive, fieldOf, rootOf, overField, keeps, number-zero, number-sub, lifted, number-lifted, sent-number, combination-number, message-below, sent-below}
+use Rattle.code.proofs.Differences.{sent-sub, sent-ahead}
+use Rattle.code.proofs.CodeBelow.{laws, positive, fieldOf, rootOf, overField, keeps, number-zero, number-sub, lifted, number-lifted, sent-number, combination-number, message-below, sent-below}
 use Rattle.code.proofs.Cost.{cost-shift}
-use Rattle.code.proofs.Reading.{zero-cost}
+use Rattle.code.proofs.WindowBelow.{zero-cost}
 
 -- Symbol i of block s of window j of a list of blocks.
-pub window-view : (n m : ℕ) (left : List ℕ) (j s i : ℕ) → s ≤ m → i < n
-    → view n (take ((m + 1) * n) (drop (j * n) left)) s i ≡ view n left (j + s) i
-window-view n m left j s i low h =
+pub window-view : (n m : ℕ) (residual : List ℕ) (j s i : ℕ) → s ≤ m → i < n
+    → view n (take ((m + 1) * n) (drop (j * n) residual)) s i ≡ view n residual (j + s) i
+window-view n m residual j s i low h =
     let top : s < m + 1 = omega arith in
     let place : j * n + (s * n + i) ≡ (j + s) * n + i = omega arith in
-    getD-take ((m + 1) * n) (drop (j * n) left) (s * n + i) 0 (digits-lt top h)
-    ∙ (getD-drop (j * n) left (s * n + i) 0 ∙ ap (λ (t : ℕ). getD left t 0) place)
+    getD-take ((m + 1) * n) (drop (j * n) residual) (s * n + i) 0 (digits-lt top h)
+    ∙ (getD-drop (j * n) residual (s * n + i) 0 ∙ ap (λ (t : ℕ). getD residual t 0) place)
 
 -- Information blocks of x less those of g, from block j on.
 abbrev pub ahead : Setting → List ℕ → List ℕ → ℕ → ℕ → ℕ → ℕ
@@ -74,11 +74,11 @@ module _ (p : Setting) (S : Sound p) where
       same-b : number b' ≡ b
       same-b = number-element (p .q) (positive p S) b lb
 
-  pub ahead-below : (x g : List ℕ) (j : ℕ) → ((i : ℕ) → getD x i 0 < p .q) → ((i : ℕ) → getD g i 0 < p .q) → Below (p .q) (ahead p x g j)
+  pub ahead-below : (x g : List ℕ) (j : ℕ) → ((i : ℕ) → getD x i 0 < p .q) → ((i : ℕ) → getD g i 0 < p .q) → BlocksBelow (p .q) (ahead p x g j)
   ahead-below x g j X G s r = sub-below _ _ (X ((j + s) * p .k + r)) (G ((j + s) * p .k + r))
 
-  module _ (T : ℕ) (reception g left : List ℕ) (R : (i : ℕ) → getD reception i 0 < p .q) (G : (i : ℕ) → getD g i 0 < p .q)
-      (residual : Residual p T reception g left) where
+  module _ (T : ℕ) (reception g residual : List ℕ) (R : (i : ℕ) → getD reception i 0 < p .q) (G : (i : ℕ) → getD g i 0 < p .q)
+      (is-residual : IsResidual p T reception g residual) where
     module _ (x : List ℕ) (X : Message p T x) (j : ℕ) (l : j < T) (agree : (i : ℕ) → i < j * p .k → getD x i 0 ≡ getD g i 0) where
       x' : ℕ → ℕ → Element (p .q)
       x' = lifted p S (view (p .k) x)
@@ -86,7 +86,7 @@ module _ (p : Setting) (S : Sound p) where
       g' : ℕ → ℕ → Element (p .q)
       g' = lifted p S (view (p .k) g)
 
-      ahead-small : Below (p .q) (ahead p x g j)
+      ahead-small : BlocksBelow (p .q) (ahead p x g j)
       ahead-small = ahead-below x g j (symbol-below (p .q) x (X .symbols) (positive p S)) G
 
       ahead-element : (s r : ℕ) → lifted p S (ahead p x g j) s r ≡ sub (fieldOf p S .ops) (x' (j + s) r) (g' (j + s) r)
@@ -118,22 +118,22 @@ module _ (p : Setting) (S : Sound p) where
           ∙ ap₂ (sub (opsOf (p .q))) (sent-number p S (view (p .k) x) (message-below p S T x X) (j + s) i) (sent-number p S (view (p .k) g) (λ b r. G (b * p .k + r)) (j + s) i)
 
       -- Window j of the residual costs against what x has beyond g what window j of the reception costs where x was sent.
-      pub residual-window : windowCost p (take (windowLength p) (drop (j * p .n) left)) (p .m) (ahead p x g j) ≡ messageCost p reception x j
+      pub residual-window : windowCost p (take (windowLength p) (drop (j * p .n) residual)) (p .m) (ahead p x g j) ≡ messageCost p reception x j
       unfolding rebuiltCost blockCost costTo
       residual-window =
           total-ext (suc (p .m)) _ _ (λ s h. total-ext (p .n) _ _ (λ i u.
-          ap₂ (symbolCost (p .q)) (window-view (p .n) (p .m) left j s i (omega arith) u ∙ residual .symbol (j + s) i (omega arith) u) (ahead-sent s i (omega arith))
+          ap₂ (symbolCost (p .q)) (window-view (p .n) (p .m) residual j s i (omega arith) u ∙ is-residual .symbol (j + s) i (omega arith) u) (ahead-sent s i (omega arith))
           ∙ cost-shift p S (view (p .n) reception (j + s) i) (sentSymbol (codeOf p) (view (p .k) x) (j + s) i) (sentSymbol (codeOf p) (view (p .k) g) (j + s) i)
           (R ((j + s) * p .n + i)) (sent-below p S (view (p .k) x) (message-below p S T x X) (j + s) i) (sent-below p S (view (p .k) g) (λ b r. G (b * p .k + r)) (j + s) i)))
 
     -- Its cost against zeros is the cost where g itself was sent.
-    pub residual-zero : Message p T g → length left ≡ (T + p .m) * p .n → (j : ℕ) → j < T
-        → zeroCost (p .q) (take (windowLength p) (drop (j * p .n) left)) ≡ messageCost p reception g j
+    pub residual-zero : Message p T g → length residual ≡ (T + p .m) * p .n → (j : ℕ) → j < T
+        → zeroCost (p .q) (take (windowLength p) (drop (j * p .n) residual)) ≡ messageCost p reception g j
     residual-zero M long j l =
         let top : j + (p .m + 1) ≤ T + p .m = omega arith in
-        zero-cost p S (take (windowLength p) (drop (j * p .n) left))
-        (length-take-le (windowLength p) (drop (j * p .n) left) (omega (arith, length-drop (j * p .n) left, mul-le-mul-right (p .n) top)))
-        ∙ ap (windowCost p (take (windowLength p) (drop (j * p .n) left)) (p .m)) (sym (fun-ext (λ s. fun-ext (λ r. nothing ((j + s) * p .k + r)))))
+        zero-cost p S (take (windowLength p) (drop (j * p .n) residual))
+        (length-take-le (windowLength p) (drop (j * p .n) residual) (omega (arith, length-drop (j * p .n) residual, mul-le-mul-right (p .n) top)))
+        ∙ ap (windowCost p (take (windowLength p) (drop (j * p .n) residual)) (p .m)) (sym (fun-ext (λ s. fun-ext (λ r. nothing ((j + s) * p .k + r)))))
         ∙ residual-window g M j l (λ i u. refl)
       where
         nothing : (i : ℕ) → sub (opsOf (p .q)) (getD g i 0) (getD g i 0) ≡ 0

@@ -28,7 +28,7 @@ use Rattle.code.specs.Settings.{codeOf}
 use Rattle.code.specs.parts.Sound.{Sound}
 use Rattle.code.specs.Windows.{transmission, windowLength, windowDistance, Message, Fits}
 use Rattle.code.proofs.Lists.{getD-tabulate}
-use Rattle.code.proofs.Numbers.{positive, message-blocks}
+use Rattle.code.proofs.CodeBelow.{positive, message-blocks}
 use Rattle.code.proofs.Settings.{block-positive}
 
 -- Sent block s looks at the information blocks 0 to s.

@@ -12,7 +12,7 @@ use Rattle.bytes.specs.Bytes.{indexAfter, indexOf, slice}
 use Rattle.algebra.specs.Ops.{pick}
 use Rattle.desk.specs.Texts.{newline, restOf}
 use Rattle.desk.specs.Turns.{Kept}
-use Rattle.desk.specs.parts.Reading.{Holds}
+use Rattle.desk.specs.parts.Lines.{Holds}
 
 -- No character of the list is a newline.
 data Unbroken : List ℕ → Type 0 where

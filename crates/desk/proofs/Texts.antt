@@ -21,7 +21,7 @@ use Rattle.line.specs.Answering.{Answers, AnswerShown}
 use Rattle.line.proofs.Frames.{answers-sevenfold, answers-kept}
 use Rattle.desk.specs.Texts.{newline, linesOf, restOf, lastOf, Output, none, next}
 use Rattle.desk.specs.Turns.{answersRoom}
-use Rattle.desk.specs.parts.Reading.{Holds, Behind, Reached}
+use Rattle.desk.specs.parts.Lines.{Holds, Behind, Reached}
 
 -- A text in two parts.
 pub lines-append : (b s t : List ℕ) → linesOf b (s ++ t) ≡ linesOf b s ++ linesOf (restOf b s) t

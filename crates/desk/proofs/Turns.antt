@@ -19,7 +19,7 @@ use Rattle.algebra.proofs.Tests.{false-not-true}
 use Rattle.line.specs.Questions.{mostCharacters}
 use Rattle.desk.specs.Texts.{newline, linesOf, restOf, lastOf, Output}
 use Rattle.desk.specs.Turns.{Kept, textOf, Turned, failed, ended, came, Run, again, more, last, RunAnswers}
-use Rattle.desk.specs.parts.Reading.{Holds, Reached}
+use Rattle.desk.specs.parts.Lines.{Holds, Reached}
 use Rattle.desk.proofs.Texts.{lines-append, rest-append, output-append, last-kept}
 use Rattle.desk.proofs.Kept.{kept-holds, kept-again}
 

@@ -8,7 +8,7 @@ use lib.ListN.{length, take}
 use Rattle.bytes.specs.Bytes.{indexOf}
 use Rattle.io.specs.Counts.{clamped}
 use Rattle.line.specs.Questions.{mostCharacters}
-use Rattle.line.specs.Answering.{Working, RoomForAll}
+use Rattle.line.specs.Answering.{LineAreas, RoomForAll}
 use Rattle.desk.specs.Texts.{newline, linesOf, restOf, lastOf, allLines, Output}
 
 -- The area keeps a line that is begun: before its first newline stand the line's first characters, all or as many as there is room for.
@@ -20,7 +20,7 @@ abbrev pub answersRoom : ℕ → ℕ
 answersRoom characters = 7 * characters
 
 -- Room for a line one character too long and a newline, for the frame of every line, and for the answers to all lines of a read.
-pub record Room (input area : List ℕ) (w : Working) (output : List ℕ) : Type 0 where
+pub record Room (input area : List ℕ) (w : LineAreas) (output : List ℕ) : Type 0 where
   pub characters : mostCharacters + 1 < length area
   pub frame : RoomForAll w
   pub answers : answersRoom (length area + length input) ≤ length output

@@ -1,2 +1,2 @@
 -- What the desk's functions promise one another.
-pub mod Reading
+pub mod Lines

@@ -2,10 +2,10 @@
 ghost use Prim.Native.Nat.{_+_, _≤_, _<_};
 ghost use lib.ListN.{length, take};
 ghost use Rattle.io.specs.Counts.{Counts};
-ghost use Rattle.line.specs.Answering.{working, RoomForAll};
+ghost use Rattle.line.specs.Answering.{lineAreas, RoomForAll};
 ghost use Rattle.desk.specs.Texts.{lastOf, Output};
 ghost use Rattle.desk.specs.Turns.{answersRoom, Room, Turned};
-ghost use Rattle.desk.specs.parts.Reading.{Within, PartKept, Behind, Stepped, LinesRead};
+ghost use Rattle.desk.specs.parts.Lines.{Within, PartKept, Behind, Stepped, LinesRead};
 
 // How far a buffer is read, how many characters of the unfinished line there are kept, and how much output waits.
 struct Progress {
@@ -38,7 +38,7 @@ fn put(
     output: &mut [u8],
     filled: usize,
 ) -> usize
-    requires { ⌜ (filled + answersRoom (length (now line) + 1) ≤ length (now output)) × RoomForAll (working (now reception) (now message) (now transmission)) ⌝ }
+    requires { ⌜ (filled + answersRoom (length (now line) + 1) ≤ length (now output)) × RoomForAll (lineAreas (now reception) (now message) (now transmission)) ⌝ }
     ensures { λ r. ⌜ Behind (now (line .entry)) (now (output .entry)) filled (now (output .exit)) r ⌝ }
 {
     let long = line::answer_line(
@@ -63,7 +63,7 @@ fn step(
     output: &mut [u8],
     progress: Progress,
 ) -> Progress
-    requires { ⌜ Within (length (now buffer)) (length (now line)) (length (now output)) progress × Room (now buffer) (now line) (working (now reception) (now message) (now transmission)) (now output) × (progress .from < length (now buffer)) ⌝ }
+    requires { ⌜ Within (length (now buffer)) (length (now line)) (length (now output)) progress × Room (now buffer) (now line) (lineAreas (now reception) (now message) (now transmission)) (now output) × (progress .from < length (now buffer)) ⌝ }
     ensures { λ r. ⌜ Stepped (now (buffer .entry)) (now (line .entry)) (now (output .entry)) progress (now (line .exit)) (now (output .exit)) r ⌝ }
 {
     let from = progress.from;
@@ -101,7 +101,7 @@ fn answer_lines(
     transmission: &mut [u8],
     output: &mut [u8],
 ) -> Progress
-    requires { ⌜ (held < length (now line)) × Room (now buffer) (now line) (working (now reception) (now message) (now transmission)) (now output) ⌝ }
+    requires { ⌜ (held < length (now line)) × Room (now buffer) (now line) (lineAreas (now reception) (now message) (now transmission)) (now output) ⌝ }
     ensures { λ r. ⌜ LinesRead (now (buffer .entry)) (now (line .entry)) held (now (output .entry)) (now (line .exit)) (now (output .exit)) r ⌝ }
 {
     let mut progress = Progress {
@@ -131,7 +131,7 @@ fn answer_last(
     transmission: &mut [u8],
     output: &mut [u8],
 ) -> usize
-    requires { ⌜ (answersRoom (length (now line) + 1) ≤ length (now output)) × RoomForAll (working (now reception) (now message) (now transmission)) ⌝ }
+    requires { ⌜ (answersRoom (length (now line) + 1) ≤ length (now output)) × RoomForAll (lineAreas (now reception) (now message) (now transmission)) ⌝ }
     ensures { λ r. ⌜ (r ≤ length (now (output .entry))) × Output (lastOf (now (line .entry))) (take r (now (output .exit))) ⌝ }
 {
     if line.len() == 0 {
@@ -151,7 +151,7 @@ pub fn turn(
     transmission: &mut [u8],
     output: &mut [u8],
 ) -> usize
-    requires { ⌜ Room (now input) (now line) (working (now reception) (now message) (now transmission)) (now output) ⌝ }
+    requires { ⌜ Room (now input) (now line) (lineAreas (now reception) (now message) (now transmission)) (now output) ⌝ }
     ensures { λ r. ⌜ Counts r (now (output .exit)) ⌝ }
     ensures { λ r. ⌜ Turned got (now (input .entry)) (now (line .entry)) (now (line .exit)) (take r (now (output .exit))) ⌝ }
 {

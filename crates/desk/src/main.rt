@@ -4,7 +4,7 @@ mod lines;
 use libc::STDIN_FILENO;
 use libc::STDOUT_FILENO;
 ghost use mathlib.Core.List.{[]};
-ghost use Rattle.line.specs.Answering.{working};
+ghost use Rattle.line.specs.Answering.{lineAreas};
 ghost use Rattle.desk.specs.Turns.{Kept, Room};
 
 // Whether a read failed. One that a signal interrupted did not: it is tried again.
@@ -25,7 +25,7 @@ fn desk(
     transmission: &mut [u8],
     output: &mut [u8],
 )
-    requires { ⌜ Kept [] (now line) × Room (now input) (now line) (working (now reception) (now message) (now transmission)) (now output) ⌝ }
+    requires { ⌜ Kept [] (now line) × Room (now input) (now line) (lineAreas (now reception) (now message) (now transmission)) (now output) ⌝ }
 {
     let mut turns = u64::MAX;
     while 0 < turns {

@@ -1,4 +1,4 @@
 -- What the proofs of the display and of marks share.
 pub mod Bits
 pub mod Counted
-pub mod Windows
+pub mod Display

@@ -17,7 +17,7 @@ use Rattle.algebra.specs.Sum.{sum}
 use Rattle.algebra.proofs.Below.{FieldBelow, OrderBelow}
 use Rattle.field.specs.Binary.{timesAlpha, timesBits, binary}
 use Rattle.field.proofs.Xor.{xor-assoc, xor-swap, xor-double}
-use Rattle.field.proofs.Powers.{Addition, Doubling, Listed, Generated, productOf, field-with, order-with, product-nought, product-one, product-comm, product-distributes-right, product-double, one-below}
+use Rattle.field.proofs.FromPowers.{Addition, Doubling, Listed, Generated, productOf, field-with, order-with, product-nought, product-one, product-comm, product-distributes-right, product-double, one-below}
 
 pub binary-addition : (w : ℕ) → Addition (2 ^ w) bitXor (λ a. a)
 binary-addition w =

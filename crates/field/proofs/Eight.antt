@@ -9,7 +9,7 @@ use Rattle.algebra.proofs.Below.{FieldBelow, OrderBelow}
 use Rattle.algebra.proofs.Tests.{all}
 use Rattle.field.specs.Binary.{timesAlpha, binary}
 use Rattle.field.specs.Fields.{eight, eightPolynomial, alpha}
-use Rattle.field.proofs.Powers.{Listed, listed-by-tests}
+use Rattle.field.proofs.FromPowers.{Listed, listed-by-tests}
 use Rattle.field.proofs.Binary.{binary-field, binary-order}
 
 abbrev powers : List ℕ

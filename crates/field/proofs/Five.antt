@@ -10,7 +10,7 @@ use Rattle.algebra.proofs.Below.{FieldBelow, OrderBelow}
 use Rattle.algebra.proofs.Tests.{all, same, same-pairs, same-triples}
 use Rattle.field.specs.Modular.{modular}
 use Rattle.field.specs.Fields.{five, alpha}
-use Rattle.field.proofs.Powers.{Addition, Doubling, Listed, Generated, listed-by-tests, productOf, field-with, order-with}
+use Rattle.field.proofs.FromPowers.{Addition, Doubling, Listed, Generated, listed-by-tests, productOf, field-with, order-with}
 
 abbrev sum : ℕ → ℕ → ℕ
 sum a b = (a + b) % 5

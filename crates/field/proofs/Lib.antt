@@ -1,7 +1,7 @@
 -- The laws of the fields, and facts about symbols.
 pub mod Xor
 pub mod Numbers
-pub mod Powers
+pub mod FromPowers
 pub mod Binary
 pub mod Five
 pub mod Eight
@@ -9,4 +9,4 @@ pub mod Laws
 pub mod Operations
 pub mod Symbols
 pub mod Sums
-pub mod Polynomials
+pub mod PolynomialValue

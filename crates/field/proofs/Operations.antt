@@ -15,7 +15,7 @@ use Rattle.field.specs.Modular.{modular}
 use Rattle.field.specs.Binary.{binary}
 use Rattle.field.specs.Fields.{five, eight, opsOf, Good, five-elements, eight-elements}
 use Rattle.field.specs.Symbols.{Is}
-use Rattle.field.specs.parts.Tables.{Lent}
+use Rattle.field.specs.parts.Products.{ProductsOf}
 use Rattle.field.proofs.Laws.{lawsOf}
 
 -- The operations with five elements.
@@ -72,8 +72,8 @@ module _ (q a b : ℕ) (good : Good q) (ha : a < q) (hb : b < q) where
   pub sum-modulo-less : q ≡ 5 → 5 ≤ a + b → Is q (a + b - 5) (opsOf q .add a b)
   sum-modulo-less e h = let less : a + b - 5 ≡ (a + b) % 5 = omega arith in is-sum (a + b - 5) (less ∙ sym (add-modulo q e a b))
 
-  pub product-listed : (tables : List (List ℕ)) → Lent q tables → Is q (getD (getD tables a []) b 0) (opsOf q .mul a b)
-  product-listed tables lent = is-product (getD (getD tables a []) b 0) (lent .product a b ha hb)
+  pub product-listed : (products : List (List ℕ)) → ProductsOf q products → Is q (getD (getD products a []) b 0) (opsOf q .mul a b)
+  product-listed products lent = is-product (getD (getD products a []) b 0) (lent .product a b ha hb)
 
 module _ (q a : ℕ) (good : Good q) (ha : a < q) where
   is-negative : (r : ℕ) → r ≡ opsOf q .neg a → Is q r (opsOf q .neg a)
@@ -97,5 +97,5 @@ module _ (q a : ℕ) (good : Good q) (ha : a < q) where
   is-inverse r e = symbol q r (opsOf q .inv a) e (lawsOf q good .inv-below a ha)
 
 -- A table's rule over all pairs, by one computed test.
-pub lent-by-test : (q r : ℕ) (tables : List (List ℕ)) → q ≡ r → T (all r (λ a. all r (λ b. eqb (getD (getD tables a []) b 0) (opsOf r .mul a b)))) → Lent q tables
-lent-by-test q r tables e t = rw e (record { product = same-pairs r (λ a b. getD (getD tables a []) b 0) (opsOf r .mul) t })
+pub lent-by-test : (q r : ℕ) (products : List (List ℕ)) → q ≡ r → T (all r (λ a. all r (λ b. eqb (getD (getD products a []) b 0) (opsOf r .mul a b)))) → ProductsOf q products
+lent-by-test q r products e t = rw e (record { product = same-pairs r (λ a b. getD (getD products a []) b 0) (opsOf r .mul) t })

@@ -1,2 +1,2 @@
 -- What functions that multiply ask of the table that is lent to them.
-pub mod Tables
+pub mod Products

@@ -7,13 +7,13 @@ ghost use Rattle.algebra.specs.Ops.{sub};
 ghost use Rattle.algebra.specs.Polynomial as polynomial;
 ghost use Rattle.field.specs.Fields.{Good, opsOf};
 ghost use Rattle.field.specs.Symbols.{Symbols, Is};
-ghost use Rattle.field.specs.parts.Tables.{Lent};
+ghost use Rattle.field.specs.parts.Products.{ProductsOf};
 
 // The products of a field, with room for the larger: a × b in row a, place b.
-pub type Tables = [[u8; 8]; 8];
+pub type Products = [[u8; 8]; 8];
 
 // Those of the five-element field. Past its five rows and columns stand zeros, which nothing reads.
-const PRODUCTS_5: Tables = [
+const PRODUCTS_5: Products = [
     [0, 0, 0, 0, 0, 0, 0, 0],
     [0, 1, 2, 3, 4, 0, 0, 0],
     [0, 2, 4, 1, 3, 0, 0, 0],
@@ -25,7 +25,7 @@ const PRODUCTS_5: Tables = [
 ];
 
 // The sixty-four products of the eight-element field.
-const PRODUCTS: Tables = [
+const PRODUCTS: Products = [
     [0, 0, 0, 0, 0, 0, 0, 0],
     [0, 1, 2, 3, 4, 5, 6, 7],
     [0, 2, 4, 6, 3, 1, 7, 5],
@@ -37,9 +37,9 @@ const PRODUCTS: Tables = [
 ];
 
 // The table of the field with q elements.
-pub fn tables(q: usize) -> Tables
+pub fn products(q: usize) -> Products
     requires { ⌜ Good q ⌝ }
-    ensures { λ r. ⌜ Lent q r ⌝ }
+    ensures { λ r. ⌜ ProductsOf q r ⌝ }
 {
     if q == 5 {
         return PRODUCTS_5;
@@ -80,23 +80,23 @@ pub fn subtract(q: usize, a: u8, b: u8) -> u8
 }
 
 // a × b
-pub fn multiply(q: usize, tables: &Tables, a: u8, b: u8) -> u8
-    requires { ⌜ Good q × Lent q (now tables) × (a < q) × (b < q) ⌝ }
+pub fn multiply(q: usize, products: &Products, a: u8, b: u8) -> u8
+    requires { ⌜ Good q × ProductsOf q (now products) × (a < q) × (b < q) ⌝ }
     ensures { λ r. ⌜ Is q r (opsOf q .mul a b) ⌝ }
 {
-    tables[a as usize][b as usize]
+    products[a as usize][b as usize]
 }
 
 // 1 / a, and 0 for a = 0: the number whose product with a is 1, looked for from q - 1 down.
-pub fn inverse(q: usize, tables: &Tables, a: u8) -> u8
-    requires { ⌜ Good q × Lent q (now tables) × (a < q) ⌝ }
+pub fn inverse(q: usize, products: &Products, a: u8) -> u8
+    requires { ⌜ Good q × ProductsOf q (now products) × (a < q) ⌝ }
     ensures { λ r. ⌜ Is q r (opsOf q .inv a) ⌝ }
 {
     let mut b = q;
     while 0 < b {
         b -= 1;
         let candidate = b as u8;
-        if multiply(q, tables, a, candidate) == 1 {
+        if multiply(q, products, a, candidate) == 1 {
             return candidate;
         }
     }
@@ -104,26 +104,26 @@ pub fn inverse(q: usize, tables: &Tables, a: u8) -> u8
 }
 
 // a + x × b
-pub fn add_product(q: usize, tables: &Tables, a: u8, x: u8, b: u8) -> u8
-    requires { ⌜ Good q × Lent q (now tables) × (a < q) × (x < q) × (b < q) ⌝ }
+pub fn add_product(q: usize, products: &Products, a: u8, x: u8, b: u8) -> u8
+    requires { ⌜ Good q × ProductsOf q (now products) × (a < q) × (x < q) × (b < q) ⌝ }
     ensures { λ r. ⌜ Is q r (opsOf q .add a (opsOf q .mul x b)) ⌝ }
 {
-    let product = multiply(q, tables, x, b);
+    let product = multiply(q, products, x, b);
     add(q, a, product)
 }
 
 // The value of the polynomial with the coefficients c, lowest power first, at x: "The value of a polynomial without coefficients is 0;
 // otherwise it is the first coefficient plus the point times the value of the rest."
-pub fn value(q: usize, tables: &Tables, c: &[u8], x: u8) -> u8
-    requires { ⌜ Good q × Lent q (now tables) × Symbols q (now c) × (x < q) ⌝ }
+pub fn value(q: usize, products: &Products, c: &[u8], x: u8) -> u8
+    requires { ⌜ Good q × ProductsOf q (now products) × Symbols q (now c) × (x < q) ⌝ }
     ensures { λ r. ⌜ Is q r (polynomial.value (opsOf q) (now (c .entry)) x) ⌝ }
 {
     if c.len() == 0 {
         return 0;
     }
     let first = c[0];
-    let rest = value(q, tables, &c[1..], x);
-    add_product(q, tables, first, x, rest)
+    let rest = value(q, products, &c[1..], x);
+    add_product(q, products, first, x, rest)
 }
 
 // Zeros in every place.

@@ -13,55 +13,55 @@ use Rattle.code.specs.Code.{distancesTo}
 use Rattle.code.specs.parts.Sound.{Sound}
 use Rattle.code.specs.Windows.{windowLength}
 use Rattle.code.specs.parts.Reading.{zeroCost}
-use Rattle.frame.specs.parts.Window.{Near, Levels, served, none-serves}
-use Rattle.frame.specs.parts.Frame.{Progress, Added, NoneFits, Advanced, advanced, stopped}
+use Rattle.frame.specs.parts.Window.{Near, LevelSearch, served, none-serves}
+use Rattle.frame.specs.parts.Frame.{Settled, Added, NoneFits, Advanced, advanced, stopped}
 use Rattle.frame.proofs.Guesses.{windowAt, added-zero}
 use Rattle.frame.proofs.Turn.{window-clean}
-use Rattle.frame.proofs.Progress.{progress-found, progress-none}
+use Rattle.frame.proofs.Settled.{settled-found, settled-none}
 
 module _ {p : Setting} (S : Sound p) {T : ℕ} {reception : List ℕ} (R : Symbols (p .q) reception) (long : length reception ≡ (T + p .m) * p .n)
-    {j : ℕ} {message left : List ℕ} (P : Progress p T reception j message left) (l : j < T) where
+    {j : ℕ} {message residual : List ℕ} (P : Settled p T reception j message residual) (l : j < T) where
   abbrev window : List ℕ
-  window = take (j * p .n + windowLength p - j * p .n) (drop (j * p .n) left)
+  window = take (j * p .n + windowLength p - j * p .n) (drop (j * p .n) residual)
 
-  same-window : window ≡ windowAt p left j
+  same-window : window ≡ windowAt p residual j
   same-window =
       let wide : j * p .n + windowLength p - j * p .n ≡ windowLength p = omega arith in
-      ap (λ (t : ℕ). take t (drop (j * p .n) left)) wide
+      ap (λ (t : ℕ). take t (drop (j * p .n) residual)) wide
 
   -- No information is near: no message fits, whatever the areas hold.
-  pub advance-none : {i found : ℕ} {information message' left' : List ℕ} → Levels p window information found → found ≡ 0 → Advanced p T reception i message' left' false
+  pub advance-none : {i found : ℕ} {information message' residual' : List ℕ} → LevelSearch p window information found → found ≡ 0 → Advanced p T reception i message' residual' false
   advance-none (served found some few area first) e = absurd (omega arith)
   advance-none (none-serves far) e =
-      stopped (progress-none p S T reception R long j message left P l (λ y Y near. far y Y (subst (λ (w : List ℕ). Near p w (p .m) y) (sym same-window) near)))
+      stopped (settled-none p S T reception R long j message residual P l (λ y Y near. far y Y (subst (λ (w : List ℕ). Near p w (p .m) y) (sym same-window) near)))
 
-  -- Little is left of the window: the guess of its first block is right.
+  -- The residual of the window is light: the guess of its first block is right.
   pub advance-clean : length window ≡ windowLength p → {cost : ℕ} → cost ≡ zeroCost (p .q) window → cost < distancesTo (p .n) (p .k) (p .m)
-      → Advanced p T reception (j + 1) message left true
+      → Advanced p T reception (j + 1) message residual true
   advance-clean long-window counted few =
-      advanced (progress-found p S T reception R long j message left P (λ r. 0) message left l
+      advanced (settled-found p S T reception R long j message residual P (λ r. 0) message residual l
       (λ y Y near r u. window-clean p S window long-window (omega arith) y Y (subst (λ (w : List ℕ). Near p w (p .m) y) (sym same-window) near) r u)
       (added-zero S (P .areas) (λ r. refl)))
 
   -- What was found went into the message.
-  pub advance-found : {found : ℕ} {information message' left' : List ℕ} → Levels p window information found → (found ≡ 0 → ⊥)
-      → Added p T j (λ r. getD information r 0) message left message' left' → Advanced p T reception (j + 1) message' left' true
-  advance-found {information = information} {message' = message'} {left' = left'} (served found some few area first) e D =
-      advanced (progress-found p S T reception R long j message left P (λ r. getD information r 0) message' left' l
+  pub advance-found : {found : ℕ} {information message' residual' : List ℕ} → LevelSearch p window information found → (found ≡ 0 → ⊥)
+      → Added p T j (λ r. getD information r 0) message residual message' residual' → Advanced p T reception (j + 1) message' residual' true
+  advance-found {information = information} {message' = message'} {residual' = residual'} (served found some few area first) e D =
+      advanced (settled-found p S T reception R long j message residual P (λ r. getD information r 0) message' residual' l
       (λ y Y near r u. first y Y (subst (λ (w : List ℕ). Near p w (p .m) y) (sym same-window) near) r u) D)
   advance-found (none-serves far) e D = absurd (e refl)
 
-module _ {p : Setting} {T : ℕ} {reception : List ℕ} {j : ℕ} {message left : List ℕ} where
+module _ {p : Setting} {T : ℕ} {reception : List ℕ} {j : ℕ} {message residual : List ℕ} where
   -- A turn that did not stop has advanced..
-  pub advance-more : {r : Bool} → Advanced p T reception j message left r → not r ≡ false → Progress p T reception j message left
+  pub advance-more : {r : Bool} → Advanced p T reception j message residual r → not r ≡ false → Settled p T reception j message residual
   advance-more (advanced progress) h = progress
   advance-more (stopped far) h = absurd (false-not-true (sym h))
 
   -- .. and one that stopped shows that no message fits, whatever the areas hold.
-  pub advance-stopped : {r : Bool} {i : ℕ} {message' left' : List ℕ} → Advanced p T reception j message left r → not r ≡ true → Advanced p T reception i message' left' false
+  pub advance-stopped : {r : Bool} {i : ℕ} {message' residual' : List ℕ} → Advanced p T reception j message residual r → not r ≡ true → Advanced p T reception i message' residual' false
   advance-stopped (advanced progress) h = absurd (false-not-true h)
   advance-stopped (stopped far) h = stopped far
 
-  pub stopped-none : {r : Bool} → Advanced p T reception j message left r → not r ≡ true → NoneFits p T reception
+  pub stopped-none : {r : Bool} → Advanced p T reception j message residual r → not r ≡ true → NoneFits p T reception
   stopped-none (advanced progress) h = absurd (false-not-true h)
   stopped-none (stopped far) h = far

@@ -1,4 +1,4 @@
--- Changes of the guessed message, and what is left after them.
+-- Changes of the guessed message, and the residual after them.
 -- Holds: `windowAt`, `window-room`, `symbol-room`, `block-room`, `blocks-few`; `revised-none`, `revised-then`; `adjusted`; `Adding` (the first r symbols of a block were added) and its steps; `added-past`, `added-zero`, `added-then`.
 use mathlib.Core.Path.{_≡_, refl, sym, ap, ap₂, subst, _∙_}
 use mathlib.Core.Bool.{Bool, true, false}
@@ -24,58 +24,58 @@ use Rattle.code.specs.Settings.{codeOf}
 use Rattle.code.specs.parts.Sound.{Sound}
 use Rattle.code.specs.Windows.{windowLength}
 use Rattle.code.specs.parts.Reading.{only}
-use Rattle.code.proofs.Numbers.{laws, positive, rowSymbol-below}
+use Rattle.code.proofs.CodeBelow.{laws, positive, rowSymbol-below}
 use Rattle.code.proofs.Settings.{block-positive}
 use Rattle.code.proofs.Lists.{stored}
 use Rattle.code.proofs.Residuals.{window-view, add-opposite}
 use Rattle.code.proofs.ResidualSteps.{timesG-only, lessened, residual-step}
-use Rattle.tables.specs.parts.Adding.{plusRow, RowsAdded}
+use Rattle.tables.specs.parts.RowsAdded.{plusRow, RowsAdded}
 use Rattle.tables.proofs.Parts.{put-length, put-before, put-inside, put-after, put-symbols}
-use Rattle.frame.specs.parts.Frame.{Areas, Revised, Adjusted, Added}
+use Rattle.frame.specs.parts.Frame.{FrameAreas, Revised, Adjusted, Added}
 
--- Window j of what is left.
+-- Window j of the residual.
 abbrev pub windowAt : Setting → List ℕ → ℕ → List ℕ
-windowAt p left j = take (windowLength p) (drop (j * p .n) left)
+windowAt p residual j = take (windowLength p) (drop (j * p .n) residual)
 
--- Window j lies within what is left, and message block j within the message.
-pub window-room : (p : Setting) (T j : ℕ) (message left : List ℕ) → Areas p T message left → j < T → j * p .n + windowLength p ≤ length left
-window-room p T j message left A l =
+-- Window j lies within the residual, and message block j within the message.
+pub window-room : (p : Setting) (T j : ℕ) (message residual : List ℕ) → FrameAreas p T message residual → j < T → j * p .n + windowLength p ≤ length residual
+window-room p T j message residual A l =
     let top : j + (p .m + 1) ≤ T + p .m = omega arith in
-    omega (arith, mul-le-mul-right (p .n) top, A .left-long)
+    omega (arith, mul-le-mul-right (p .n) top, A .residual-long)
 
-pub symbol-room : (p : Setting) (T j r : ℕ) (message left : List ℕ) → Areas p T message left → j < T → r < p .k → j * p .k + r < length message
-symbol-room p T j r message left A l u =
+pub symbol-room : (p : Setting) (T j r : ℕ) (message residual : List ℕ) → FrameAreas p T message residual → j < T → r < p .k → j * p .k + r < length message
+symbol-room p T j r message residual A l u =
     subst (λ (t : ℕ). j * p .k + r < t) (sym (A .message-long)) (digits-lt l u)
 
--- Block j lies within what is left.
-pub block-room : (p : Setting) (T j : ℕ) (message left : List ℕ) → Areas p T message left → j < T → j * p .n + p .n ≤ length left
-block-room p T j message left A l =
+-- Block j lies within the residual.
+pub block-room : (p : Setting) (T j : ℕ) (message residual : List ℕ) → FrameAreas p T message residual → j < T → j * p .n + p .n ≤ length residual
+block-room p T j message residual A l =
     let one : 1 ≤ p .m + 1 = omega arith in
-    omega (arith, window-room p T j message left A l, mul-le-mul-right (p .n) one)
+    omega (arith, window-room p T j message residual A l, mul-le-mul-right (p .n) one)
 
--- There are no more blocks than symbols left.
-pub blocks-few : (p : Setting) → Sound p → (T : ℕ) (message left : List ℕ) → Areas p T message left → T + p .m ≤ length left
-blocks-few p S T message left A =
+-- There are no more blocks than symbols of the residual.
+pub blocks-few : (p : Setting) → Sound p → (T : ℕ) (message residual : List ℕ) → FrameAreas p T message residual → T + p .m ≤ length residual
+blocks-few p S T message residual A =
     let same : T + p .m ≤ T + p .m = omega arith in
-    omega (arith, mul-le-mul same (block-positive p S), A .left-long)
+    omega (arith, mul-le-mul same (block-positive p S), A .residual-long)
 
 module _ {p : Setting} {T : ℕ} where
-  pub revised-none : {i : ℕ} {message left : List ℕ} → Areas p T message left → Revised p T i message left message left
-  revised-none A = record { areas = A; before = λ a l. refl; residual = λ w W R. R }
+  pub revised-none : {i : ℕ} {message residual : List ℕ} → FrameAreas p T message residual → Revised p T i message residual message residual
+  revised-none A = record { areas = A; before = λ a l. refl; is-residual = λ w W R. R }
 
   -- Changes from block i on, and then from a later block on.
-  pub revised-then : {i j : ℕ} {message left message' left' message'' left'' : List ℕ}
-      → Revised p T i message left message' left' → Revised p T j message' left' message'' left'' → i ≤ j → Revised p T i message left message'' left''
+  pub revised-then : {i j : ℕ} {message residual message' residual' message'' residual'' : List ℕ}
+      → Revised p T i message residual message' residual' → Revised p T j message' residual' message'' residual'' → i ≤ j → Revised p T i message residual message'' residual''
   revised-then A B low =
       record {
         areas = B .areas;
         before = λ a l. B .before a (omega (arith, mul-le-mul-right (p .k) low)) ∙ A .before a l;
-        residual = λ w W R. B .residual w W (A .residual w W R);
+        is-residual = λ w W R. B .is-residual w W (A .is-residual w W R);
       }
 
-module _ (p : Setting) (S : Sound p) (T j r v : ℕ) (message left : List ℕ) (A : Areas p T message left) (lj : j < T) (lr : r < p .k) (lv : v < p .q)
+module _ (p : Setting) (S : Sound p) (T j r v : ℕ) (message residual : List ℕ) (A : FrameAreas p T message residual) (lj : j < T) (lr : r < p .k) (lv : v < p .q)
     (w : ℕ) (sum : w ≡ opsOf (p .q) .add (getD message (j * p .k + r) 0) v) (u : ℕ) (lu : u < p .q) (opposite : opsOf (p .q) .add v u ≡ 0)
-    (window' : List ℕ) (L : RowsAdded p r u (p .m + 1) (windowAt p left j) window') where
+    (window' : List ℕ) (L : RowsAdded p r u (p .m + 1) (windowAt p residual j) window') where
   message-below : (a : ℕ) → getD message a 0 < p .q
   message-below = symbol-below (p .q) message (A .message-symbols) (positive p S)
 
@@ -86,17 +86,17 @@ module _ (p : Setting) (S : Sound p) (T j r v : ℕ) (message left : List ℕ) (
       at true = lv
       at false = positive p S
 
-  left-room : j * p .n + windowLength p ≤ length left
-  left-room = window-room p T j message left A lj
+  residual-room : j * p .n + windowLength p ≤ length residual
+  residual-room = window-room p T j message residual A lj
 
   window-long : length window' ≡ windowLength p
-  window-long = L .long ∙ length-take-le (windowLength p) (drop (j * p .n) left) (omega (arith, length-drop (j * p .n) left, left-room))
+  window-long = L .long ∙ length-take-le (windowLength p) (drop (j * p .n) residual) (omega (arith, length-drop (j * p .n) residual, residual-room))
 
   h : List ℕ
   h = set message (j * p .k + r) w
 
-  left' : List ℕ
-  left' = putMid (j * p .n) (windowLength p) left window'
+  residual' : List ℕ
+  residual' = putMid (j * p .n) (windowLength p) residual window'
 
   h-symbols : Symbols (p .q) h
   unfolding h
@@ -110,7 +110,7 @@ module _ (p : Setting) (S : Sound p) (T j r v : ℕ) (message left : List ℕ) (
       at : Dec (a ≡ r) → getD (set message (j * p .k + r) w) (j * p .k + a) 0 ≡ opsOf (p .q) .add (getD message (j * p .k + a) 0) (pick (eqb a r) v 0)
       at (yes s) =
           ap (λ (t : ℕ). getD (set message (j * p .k + r) w) (j * p .k + t) 0) s
-          ∙ getD-set-same message (j * p .k + r) w 0 (symbol-room p T j r message left A lj lr)
+          ∙ getD-set-same message (j * p .k + r) w 0 (symbol-room p T j r message residual A lj lr)
           ∙ sum
           ∙ ap₂ (λ (t : ℕ) (b : Bool). opsOf (p .q) .add (getD message (j * p .k + t) 0) (pick b v 0)) (sym s) (sym (eq-eqb a r s))
       at (no d) =
@@ -129,26 +129,26 @@ module _ (p : Setting) (S : Sound p) (T j r v : ℕ) (message left : List ℕ) (
           let high : j * p .k + r < s * p .k = digits-lt past lr in
           omega arith
 
-  changed : (s i : ℕ) → s < T + p .m → i < p .n → view (p .n) left' s i ≡ lessened p S left (only r v) j s i
-  unfolding left'
+  changed : (s i : ℕ) → s < T + p .m → i < p .n → view (p .n) residual' s i ≡ lessened p S residual (only r v) j s i
+  unfolding residual'
   changed s i h e = at (decLe j s) (decLe (s - j) (p .m))
     where
       x : ℕ → ℕ
       x = only r v
 
-      at : Dec (j ≤ s) → Dec (s - j ≤ p .m) → view (p .n) (putMid (j * p .n) (windowLength p) left window') s i ≡ lessened p S left x j s i
+      at : Dec (j ≤ s) → Dec (s - j ≤ p .m) → view (p .n) (putMid (j * p .n) (windowLength p) residual window') s i ≡ lessened p S residual x j s i
       at (yes a) (yes b) =
           let top : s - j < p .m + 1 = omega arith in
           let place : s * p .n + i ≡ j * p .n + ((s - j) * p .n + i) = omega (arith, scaled s j (p .n) a) in
           let back : j + (s - j) ≡ s = omega arith in
-          ap (λ (t : ℕ). getD (putMid (j * p .n) (windowLength p) left window') t 0) place
-          ∙ put-inside (j * p .n) (windowLength p) left window' left-room window-long ((s - j) * p .n + i) (digits-lt top e)
+          ap (λ (t : ℕ). getD (putMid (j * p .n) (windowLength p) residual window') t 0) place
+          ∙ put-inside (j * p .n) (windowLength p) residual window' residual-room window-long ((s - j) * p .n + i) (digits-lt top e)
           ∙ L .inside (s - j) i top e
-          ∙ ap (plusRow p r u (s - j) i) (window-view (p .n) (p .m) left j (s - j) i b e ∙ ap (λ (t : ℕ). view (p .n) left t i) back)
-          ∙ add-opposite p S (view (p .n) left s i) v u (rowSymbol (codeOf p) (s - j) r i) lv lu
+          ∙ ap (plusRow p r u (s - j) i) (window-view (p .n) (p .m) residual j (s - j) i b e ∙ ap (λ (t : ℕ). view (p .n) residual t i) back)
+          ∙ add-opposite p S (view (p .n) residual s i) v u (rowSymbol (codeOf p) (s - j) r i) lv lu
           (rowSymbol-below p S (s - j) r i) opposite
-          ∙ ap (sub (opsOf (p .q)) (view (p .n) left s i)) (sym (timesG-only p S r v (s - j) i lr lv))
-          ∙ sym (ap₂ (λ (c d : Bool). pick c (pick d (sub (opsOf (p .q)) (view (p .n) left s i) (timesG (codeOf p) x (s - j) i)) (view (p .n) left s i)) (view (p .n) left s i))
+          ∙ ap (sub (opsOf (p .q)) (view (p .n) residual s i)) (sym (timesG-only p S r v (s - j) i lr lv))
+          ∙ sym (ap₂ (λ (c d : Bool). pick c (pick d (sub (opsOf (p .q)) (view (p .n) residual s i) (timesG (codeOf p) x (s - j) i)) (view (p .n) residual s i)) (view (p .n) residual s i))
           (le-leb j s a) (le-leb (s - j) (p .m) b))
         where
           scaled : (s j n : ℕ) → j ≤ s → s * n ≡ j * n + (s - j) * n
@@ -156,57 +156,57 @@ module _ (p : Setting) (S : Sound p) (T j r v : ℕ) (message left : List ℕ) (
       at (yes a) (no b) =
           let far : p .m < s - j = omega arith in
           let past : j + (p .m + 1) ≤ s = omega arith in
-          put-after (j * p .n) (windowLength p) left window' left-room window-long (s * p .n + i) (omega (arith, mul-le-mul-right (p .n) past))
-          ∙ sym (ap₂ (λ (c d : Bool). pick c (pick d (sub (opsOf (p .q)) (view (p .n) left s i) (timesG (codeOf p) x (s - j) i)) (view (p .n) left s i)) (view (p .n) left s i))
+          put-after (j * p .n) (windowLength p) residual window' residual-room window-long (s * p .n + i) (omega (arith, mul-le-mul-right (p .n) past))
+          ∙ sym (ap₂ (λ (c d : Bool). pick c (pick d (sub (opsOf (p .q)) (view (p .n) residual s i) (timesG (codeOf p) x (s - j) i)) (view (p .n) residual s i)) (view (p .n) residual s i))
           (le-leb j s a) (lt-leb (s - j) (p .m) far))
       at (no a) b =
           let past : s < j = omega arith in
-          put-before (j * p .n) (windowLength p) left window' left-room window-long (s * p .n + i) (digits-lt past e)
-          ∙ sym (ap (λ (c : Bool). pick c (pick (leb (s - j) (p .m)) (sub (opsOf (p .q)) (view (p .n) left s i) (timesG (codeOf p) x (s - j) i)) (view (p .n) left s i)) (view (p .n) left s i))
+          put-before (j * p .n) (windowLength p) residual window' residual-room window-long (s * p .n + i) (digits-lt past e)
+          ∙ sym (ap (λ (c : Bool). pick c (pick (leb (s - j) (p .m)) (sub (opsOf (p .q)) (view (p .n) residual s i) (timesG (codeOf p) x (s - j) i)) (view (p .n) residual s i)) (view (p .n) residual s i))
           (lt-leb j s past))
 
-  pub adjusted-exact : Adjusted p T j r v message left (set message (j * p .k + r) w) (putMid (j * p .n) (windowLength p) left window')
-  unfolding h left'
+  pub adjusted-exact : Adjusted p T j r v message residual (set message (j * p .k + r) w) (putMid (j * p .n) (windowLength p) residual window')
+  unfolding h residual'
   adjusted-exact =
       record {
         revised = record {
           areas = record {
             message-long = length-set message (j * p .k + r) w ∙ A .message-long;
             message-symbols = h-symbols;
-            left-long = put-length (j * p .n) (windowLength p) left window' left-room window-long ∙ A .left-long;
-            left-symbols = put-symbols (j * p .n) (windowLength p) left window' left-room window-long (p .q) (A .left-symbols) (L .symbols);
+            residual-long = put-length (j * p .n) (windowLength p) residual window' residual-room window-long ∙ A .residual-long;
+            residual-symbols = put-symbols (j * p .n) (windowLength p) residual window' residual-room window-long (p .q) (A .residual-symbols) (L .symbols);
           };
           before = λ a l. getD-set-other message (j * p .k + r) a w 0 (omega arith);
-          residual = λ reception R residual. residual-step p S T reception message left h left' (symbol-below (p .q) reception R (positive p S)) message-below
-              (symbol-below (p .q) h h-symbols (positive p S)) residual (only r v) only-below j placed others changed;
+          is-residual = λ reception R is-residual. residual-step p S T reception message residual h residual' (symbol-below (p .q) reception R (positive p S)) message-below
+              (symbol-below (p .q) h h-symbols (positive p S)) is-residual (only r v) only-below j placed others changed;
         };
         added = ap (set message (j * p .k + r)) sum;
       }
 
 -- The same with the sizes as the code computes them.
-pub adjusted : (p : Setting) → Sound p → (T j r v : ℕ) (message left : List ℕ) → Areas p T message left → j < T → r < p .k → v < p .q
+pub adjusted : (p : Setting) → Sound p → (T j r v : ℕ) (message residual : List ℕ) → FrameAreas p T message residual → j < T → r < p .k → v < p .q
     → (w : ℕ) → w ≡ opsOf (p .q) .add (getD message (j * p .k + r) 0) v → (u : ℕ) → u < p .q → opsOf (p .q) .add v u ≡ 0 → (window' : List ℕ)
-    → RowsAdded p r u (p .m + 1) (take (j * p .n + windowLength p - j * p .n) (drop (j * p .n) left)) window'
-    → Adjusted p T j r v message left (set message (j * p .k + r) w) (putMid (j * p .n) (j * p .n + windowLength p - j * p .n) left window')
-adjusted p S T j r v message left A lj lr lv w sum u lu opposite window' =
+    → RowsAdded p r u (p .m + 1) (take (j * p .n + windowLength p - j * p .n) (drop (j * p .n) residual)) window'
+    → Adjusted p T j r v message residual (set message (j * p .k + r) w) (putMid (j * p .n) (j * p .n + windowLength p - j * p .n) residual window')
+adjusted p S T j r v message residual A lj lr lv w sum u lu opposite window' =
     let wide : j * p .n + windowLength p - j * p .n ≡ windowLength p = omega arith in
-    subst (λ (t : ℕ). RowsAdded p r u (p .m + 1) (take t (drop (j * p .n) left)) window'
-    → Adjusted p T j r v message left (set message (j * p .k + r) w) (putMid (j * p .n) t left window')) (sym wide)
-    (adjusted-exact p S T j r v message left A lj lr lv w sum u lu opposite window')
+    subst (λ (t : ℕ). RowsAdded p r u (p .m + 1) (take t (drop (j * p .n) residual)) window'
+    → Adjusted p T j r v message residual (set message (j * p .k + r) w) (putMid (j * p .n) t residual window')) (sym wide)
+    (adjusted-exact p S T j r v message residual A lj lr lv w sum u lu opposite window')
 
 -- The first r symbols of the information block x were added to block j.
-pub record Adding (p : Setting) (T j : ℕ) (x : ℕ → ℕ) (r : ℕ) (message left message' left' : List ℕ) : Type 0 where
-  pub revised : Revised p T j message left message' left'
+pub record Adding (p : Setting) (T j : ℕ) (x : ℕ → ℕ) (r : ℕ) (message residual message' residual' : List ℕ) : Type 0 where
+  pub revised : Revised p T j message residual message' residual'
   pub symbol : (a : ℕ) → a < r → getD message' (j * p .k + a) 0 ≡ opsOf (p .q) .add (getD message (j * p .k + a) 0) (x a)
   pub rest : (a : ℕ) → j * p .k + r ≤ a → getD message' a 0 ≡ getD message a 0
 
-module _ {p : Setting} {T j : ℕ} {x : ℕ → ℕ} {message left : List ℕ} where
-  pub adding-none : Areas p T message left → Adding p T j x 0 message left message left
+module _ {p : Setting} {T j : ℕ} {x : ℕ → ℕ} {message residual : List ℕ} where
+  pub adding-none : FrameAreas p T message residual → Adding p T j x 0 message residual message residual
   adding-none A = record { revised = revised-none A; symbol = λ a l. absurd (omega arith); rest = λ a l. refl }
 
   -- A zero symbol changes nothing.
-  pub adding-zero : (S : Sound p) {r : ℕ} {message' left' : List ℕ} → Areas p T message left
-      → Adding p T j x r message left message' left' → x r ≡ 0 → Adding p T j x (r + 1) message left message' left'
+  pub adding-zero : (S : Sound p) {r : ℕ} {message' residual' : List ℕ} → FrameAreas p T message residual
+      → Adding p T j x r message residual message' residual' → x r ≡ 0 → Adding p T j x (r + 1) message residual message' residual'
   adding-zero S {r} {message'} A D e =
       record { revised = D .revised; symbol = λ a l. at a (ℕ-discrete a r) l; rest = λ a l. D .rest a (omega arith) }
     where
@@ -218,28 +218,28 @@ module _ {p : Setting} {T j : ℕ} {x : ℕ → ℕ} {message left : List ℕ} w
           ∙ ap (opsOf (p .q) .add (getD message (j * p .k + a) 0)) (sym (ap x s ∙ e))
       at a (no d) l = D .symbol a (omega arith)
 
-  pub adding-more : {r v : ℕ} {message' left' message'' left'' : List ℕ} → j < T → r < p .k
-      → Adding p T j x r message left message' left' → Adjusted p T j r v message' left' message'' left'' → v ≡ x r
-      → Adding p T j x (r + 1) message left message'' left''
-  adding-more {r} {message' = message'} {left' = left'} {message'' = message''} lj lr D B e =
+  pub adding-more : {r v : ℕ} {message' residual' message'' residual'' : List ℕ} → j < T → r < p .k
+      → Adding p T j x r message residual message' residual' → Adjusted p T j r v message' residual' message'' residual'' → v ≡ x r
+      → Adding p T j x (r + 1) message residual message'' residual''
+  adding-more {r} {message' = message'} {residual' = residual'} {message'' = message''} lj lr D B e =
       record {
         revised = revised-then (D .revised) (B .revised) (omega arith);
         symbol = λ a l. ap (λ (t : List ℕ). getD t (j * p .k + a) 0) (B .added)
             ∙ stored message' (λ b. j * p .k + b) (λ b. opsOf (p .q) .add (getD message (j * p .k + b) 0) (x b)) r _
-            (symbol-room p T j r message' left' (D .revised .areas) lj lr) (ap₂ (opsOf (p .q) .add) (D .rest (j * p .k + r) (omega arith)) e)
+            (symbol-room p T j r message' residual' (D .revised .areas) lj lr) (ap₂ (opsOf (p .q) .add) (D .rest (j * p .k + r) (omega arith)) e)
             (λ b h. omega arith) (D .symbol) a l;
         rest = λ a l. ap (λ (t : List ℕ). getD t a 0) (B .added) ∙ getD-set-other message' (j * p .k + r) a _ 0 (omega arith) ∙ D .rest a (omega arith);
       }
 
-  pub adding-all : {r : ℕ} {message' left' : List ℕ} → Adding p T j x r message left message' left' → p .k ≤ r → Added p T j x message left message' left'
+  pub adding-all : {r : ℕ} {message' residual' : List ℕ} → Adding p T j x r message residual message' residual' → p .k ≤ r → Added p T j x message residual message' residual'
   adding-all D all = record { revised = D .revised; symbol = λ a l u. D .symbol a (omega arith) }
 
   -- There is no block j.
-  pub added-past : Areas p T message left → T ≤ j → Added p T j x message left message left
+  pub added-past : FrameAreas p T message residual → T ≤ j → Added p T j x message residual message residual
   added-past A past = record { revised = revised-none A; symbol = λ a l u. absurd (omega arith) }
 
   -- A zero block changes nothing.
-  pub added-zero : Sound p → Areas p T message left → ((r : ℕ) → x r ≡ 0) → Added p T j x message left message left
+  pub added-zero : Sound p → FrameAreas p T message residual → ((r : ℕ) → x r ≡ 0) → Added p T j x message residual message residual
   added-zero S A zeros =
       record {
         revised = revised-none A;
@@ -248,8 +248,8 @@ module _ {p : Setting} {T j : ℕ} {x : ℕ → ℕ} {message left : List ℕ} w
       }
 
   -- Later changes leave block j as it is.
-  pub added-then : {i : ℕ} {message' left' message'' left'' : List ℕ}
-      → Added p T j x message left message' left' → Revised p T i message' left' message'' left'' → j + 1 ≤ i → Added p T j x message left message'' left''
+  pub added-then : {i : ℕ} {message' residual' message'' residual'' : List ℕ}
+      → Added p T j x message residual message' residual' → Revised p T i message' residual' message'' residual'' → j + 1 ≤ i → Added p T j x message residual message'' residual''
   added-then D B later =
       record {
         revised = revised-then (D .revised) B (omega arith);

@@ -1,10 +1,10 @@
 -- What the proofs of reading share.
-pub mod Levels
-pub mod Tried
-pub mod Reached
+pub mod RebuiltCost
+pub mod LevelTried
+pub mod LevelsFailed
 pub mod Turn
 pub mod Guesses
-pub mod Progress
+pub mod Settled
 pub mod Begin
 pub mod Advance
 pub mod Ends

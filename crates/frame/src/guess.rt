@@ -1,27 +1,27 @@
-// The guessed message. What is added to it is taken out of what is left, so that this stays the reception less the guess's transmission.
+// The guessed message. What is added to it is taken out of the residual, so that this stays the reception less the guess's transmission.
 ghost use Prim.Native.Nat.{_+_, _*_, _≤_, _<_};
 ghost use lib.ListN.{length, getD};
 ghost use Rattle.field.specs.Symbols.{Symbols};
 ghost use Rattle.code.specs.parts.Sound.{Sound};
-ghost use Rattle.tables.specs.parts.Tables.{Ready};
-ghost use Rattle.frame.specs.parts.Frame.{Areas, Revised, Adjusted, Added};
+ghost use Rattle.tables.specs.parts.Rows.{Ready};
+ghost use Rattle.frame.specs.parts.Frame.{FrameAreas, Revised, Adjusted, Added};
 use code::Setting;
-use field::Tables;
+use field::Products;
 
 // Adds v to symbol r of block i of the message.
 fn adjust(
     p: Setting,
-    products: &Tables,
+    products: &Products,
     rows: &[u8],
     blocks: usize,
     i: usize,
     r: usize,
     v: u8,
     message: &mut [u8],
-    left: &mut [u8],
+    residual: &mut [u8],
 )
-    requires { ⌜ Ready p (now products) (now rows) × (i < blocks) × (r < p .k) × (v < p .q) × Areas p blocks (now message) (now left) ⌝ }
-    ensures { λ _. ⌜ Adjusted p blocks i r v (now (message .entry)) (now (left .entry)) (now (message .exit)) (now (left .exit)) ⌝ }
+    requires { ⌜ Ready p (now products) (now rows) × (i < blocks) × (r < p .k) × (v < p .q) × FrameAreas p blocks (now message) (now residual) ⌝ }
+    ensures { λ _. ⌜ Adjusted p blocks i r v (now (message .entry)) (now (residual .entry)) (now (message .exit)) (now (residual .exit)) ⌝ }
 {
     let q = p.q;
     let n = p.n;
@@ -32,23 +32,23 @@ fn adjust(
     let sum = field::add(q, message[place], v);
     message[place] = sum;
     let less = field::negate(q, v);
-    tables::product::add_rows(p, products, rows, r, less, &mut left[start..end]);
+    tables::product::add_rows(p, products, rows, r, less, &mut residual[start..end]);
 }
 
 // Adds an information block to block i of the message, if it has such a block.
 fn add_block(
     p: Setting,
-    products: &Tables,
+    products: &Products,
     rows: &[u8],
     blocks: usize,
     i: usize,
     information: &[u8],
     from: usize,
     message: &mut [u8],
-    left: &mut [u8],
+    residual: &mut [u8],
 )
-    requires { ⌜ Ready p (now products) (now rows) × Symbols (p .q) (now information) × (from + p .k ≤ length (now information)) × Areas p blocks (now message) (now left) ⌝ }
-    ensures { λ _. ⌜ Added p blocks i (λ r. getD (now (information .entry)) (from + r) 0) (now (message .entry)) (now (left .entry)) (now (message .exit)) (now (left .exit)) ⌝ }
+    requires { ⌜ Ready p (now products) (now rows) × Symbols (p .q) (now information) × (from + p .k ≤ length (now information)) × FrameAreas p blocks (now message) (now residual) ⌝ }
+    ensures { λ _. ⌜ Added p blocks i (λ r. getD (now (information .entry)) (from + r) 0) (now (message .entry)) (now (residual .entry)) (now (message .exit)) (now (residual .exit)) ⌝ }
 {
     if blocks <= i {
         return;
@@ -62,27 +62,27 @@ fn add_block(
         if v == 0 {
             continue;
         }
-        adjust(p, products, rows, blocks, i, r, v, message, left);
+        adjust(p, products, rows, blocks, i, r, v, message, residual);
     }
 }
 
 // Adds the information found at window j: its first block is certain, the others are guesses that later windows check.
 pub fn add_found(
     p: Setting,
-    products: &Tables,
+    products: &Products,
     rows: &[u8],
     blocks: usize,
     j: usize,
     information: &[u8],
     found: usize,
     message: &mut [u8],
-    left: &mut [u8],
+    residual: &mut [u8],
 )
-    requires { ⌜ Ready p (now products) (now rows) × Symbols (p .q) (now information) × (found ≤ p .m + 1) × ((p .m + 1) * p .k ≤ length (now information)) × (j < blocks) × Areas p blocks (now message) (now left) ⌝ }
-    ensures { λ _. ⌜ Added p blocks j (λ r. getD (now (information .entry)) r 0) (now (message .entry)) (now (left .entry)) (now (message .exit)) (now (left .exit)) ⌝ }
+    requires { ⌜ Ready p (now products) (now rows) × Symbols (p .q) (now information) × (found ≤ p .m + 1) × ((p .m + 1) * p .k ≤ length (now information)) × (j < blocks) × FrameAreas p blocks (now message) (now residual) ⌝ }
+    ensures { λ _. ⌜ Added p blocks j (λ r. getD (now (information .entry)) r 0) (now (message .entry)) (now (residual .entry)) (now (message .exit)) (now (residual .exit)) ⌝ }
 {
     let k = p.k;
-    add_block(p, products, rows, blocks, j, information, 0, message, left);
+    add_block(p, products, rows, blocks, j, information, 0, message, residual);
     let mut a: usize = 1;
     while a < found {
         add_block(
@@ -94,7 +94,7 @@ pub fn add_found(
             information,
             a * k,
             message,
-            left,
+            residual,
         );
         a += 1;
     }
@@ -111,12 +111,12 @@ fn taken(down: bool, k: usize, turn: usize) -> usize
     turn
 }
 
-// Guesses block i of the message from the k symbols at `first` of what is left of its block: any guess will do. From the first symbols upwards, and from the
+// Guesses block i of the message from the k symbols at `first` of the residual of its block: any guess will do. From the first symbols upwards, and from the
 // last ones downwards, it is right where they were not altered: row r of G_0 is zero before place r and has the symbol 1/scale there, and it is zero after
 // place n - k + r and has the symbol 1 there.
 fn guess_from(
     p: Setting,
-    products: &Tables,
+    products: &Products,
     rows: &[u8],
     scale: u8,
     first: usize,
@@ -124,10 +124,10 @@ fn guess_from(
     blocks: usize,
     i: usize,
     message: &mut [u8],
-    left: &mut [u8],
+    residual: &mut [u8],
 )
-    requires { ⌜ Ready p (now products) (now rows) × (scale < p .q) × (first + p .k ≤ p .n) × (i < blocks) × Areas p blocks (now message) (now left) ⌝ }
-    ensures { λ _. ⌜ Revised p blocks i (now (message .entry)) (now (left .entry)) (now (message .exit)) (now (left .exit)) ⌝ }
+    requires { ⌜ Ready p (now products) (now rows) × (scale < p .q) × (first + p .k ≤ p .n) × (i < blocks) × FrameAreas p blocks (now message) (now residual) ⌝ }
+    ensures { λ _. ⌜ Revised p blocks i (now (message .entry)) (now (residual .entry)) (now (message .exit)) (now (residual .exit)) ⌝ }
 {
     let q = p.q;
     let k = p.k;
@@ -135,68 +135,68 @@ fn guess_from(
     let mut turn: usize = 0;
     while turn < k {
         let r = taken(down, k, turn);
-        let v = field::multiply(q, products, scale, left[start + r]);
-        adjust(p, products, rows, blocks, i, r, v, message, left);
+        let v = field::multiply(q, products, scale, residual[start + r]);
+        adjust(p, products, rows, blocks, i, r, v, message, residual);
         turn += 1;
     }
 }
 
-// Whether what is left of block i costs at most d_0.
-fn is_light(p: Setting, i: usize, left: &[u8]) -> bool
-    requires { ⌜ Sound p × (i * p .n + p .n ≤ length (now left)) ⌝ }
+// Whether the residual of block i costs at most d_0.
+fn is_light(p: Setting, i: usize, residual: &[u8]) -> bool
+    requires { ⌜ Sound p × (i * p .n + p .n ≤ length (now residual)) ⌝ }
 {
     let start = i * p.n;
     let end = start + p.n;
     let distance = p.n - p.k + 1;
-    super::area::cost(&left[start..end]) <= distance
+    super::area::cost(&residual[start..end]) <= distance
 }
 
-// Guesses block i of the message again, if it has such a block and too much is left of it: from the first symbols, or else from the last ones.
+// Guesses block i of the message again, if it has such a block and its residual is too heavy: from the first symbols, or else from the last ones.
 fn guess_block(
     p: Setting,
-    products: &Tables,
+    products: &Products,
     rows: &[u8],
     scale: u8,
     blocks: usize,
     i: usize,
     message: &mut [u8],
-    left: &mut [u8],
+    residual: &mut [u8],
 )
-    requires { ⌜ Ready p (now products) (now rows) × (scale < p .q) × Areas p blocks (now message) (now left) ⌝ }
-    ensures { λ _. ⌜ Revised p blocks i (now (message .entry)) (now (left .entry)) (now (message .exit)) (now (left .exit)) ⌝ }
+    requires { ⌜ Ready p (now products) (now rows) × (scale < p .q) × FrameAreas p blocks (now message) (now residual) ⌝ }
+    ensures { λ _. ⌜ Revised p blocks i (now (message .entry)) (now (residual .entry)) (now (message .exit)) (now (residual .exit)) ⌝ }
 {
     if blocks <= i {
         return;
     }
-    if is_light(p, i, left) {
+    if is_light(p, i, residual) {
         return;
     }
-    guess_from(p, products, rows, scale, 0, false, blocks, i, message, left);
-    if is_light(p, i, left) {
+    guess_from(p, products, rows, scale, 0, false, blocks, i, message, residual);
+    if is_light(p, i, residual) {
         return;
     }
     let last = p.n - p.k;
-    guess_from(p, products, rows, 1, last, true, blocks, i, message, left);
+    guess_from(p, products, rows, 1, last, true, blocks, i, message, residual);
 }
 
 // Guesses the blocks of window j.
 pub fn guess_window(
     p: Setting,
-    products: &Tables,
+    products: &Products,
     rows: &[u8],
     scale: u8,
     blocks: usize,
     j: usize,
     message: &mut [u8],
-    left: &mut [u8],
+    residual: &mut [u8],
 )
-    requires { ⌜ Ready p (now products) (now rows) × (scale < p .q) × (j < blocks) × Areas p blocks (now message) (now left) ⌝ }
-    ensures { λ _. ⌜ Revised p blocks j (now (message .entry)) (now (left .entry)) (now (message .exit)) (now (left .exit)) ⌝ }
+    requires { ⌜ Ready p (now products) (now rows) × (scale < p .q) × (j < blocks) × FrameAreas p blocks (now message) (now residual) ⌝ }
+    ensures { λ _. ⌜ Revised p blocks j (now (message .entry)) (now (residual .entry)) (now (message .exit)) (now (residual .exit)) ⌝ }
 {
     let m = p.m;
     let mut s: usize = 0;
     while s <= m {
-        guess_block(p, products, rows, scale, blocks, j + s, message, left);
+        guess_block(p, products, rows, scale, blocks, j + s, message, residual);
         s += 1;
     }
 }

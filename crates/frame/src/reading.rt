@@ -5,41 +5,41 @@ ghost use lib.ListN.{length};
 ghost use Rattle.field.specs.Symbols.{Symbols};
 ghost use Rattle.code.specs.Code.{distancesTo};
 ghost use Rattle.code.specs.parts.Sound.{Sound};
-ghost use Rattle.tables.specs.parts.Tables.{Ready};
-ghost use Rattle.block.specs.parts.Area.{Working};
-ghost use Rattle.frame.specs.parts.Frame.{Progress, Advanced, Compared, FrameRead};
+ghost use Rattle.tables.specs.parts.Rows.{Ready};
+ghost use Rattle.block.specs.parts.Area.{BlockAreas};
+ghost use Rattle.frame.specs.parts.Frame.{Settled, Advanced, Compared, FrameRead};
 use code::Setting;
-use field::Tables;
+use field::Products;
 
-// Makes block j certain by what is left of its window: where it is little, the guess is right; else the levels find what to add, or none serves.
+// Makes block j certain by the residual of its window: where it is little, the guess is right; else the levels find what to add, or none serves.
 fn settle(
     p: Setting,
-    products: &Tables,
+    products: &Products,
     rows: &[u8],
     bound: usize,
     blocks: usize,
     reception: &[u8],
     j: usize,
     message: &mut [u8],
-    left: &mut [u8],
+    residual: &mut [u8],
     series: &mut [u8],
     locator: &mut [u8],
     values: &mut [u8],
     information: &mut [u8],
 ) -> bool
-    requires { ⌜ Ready p (now products) (now rows) × (bound ≡ distancesTo (p .n) (p .k) (p .m)) × (length (now reception) ≡ (blocks + p .m) * p .n) × Symbols (p .q) (now reception) × (j < blocks) × Progress p blocks (now reception) j (now message) (now left) × Working p (now series) (now locator) (now values) (now information) ⌝ }
-    ensures { λ r. ⌜ Advanced p blocks (now (reception .entry)) (j + 1) (now (message .exit)) (now (left .exit)) r ⌝ }
+    requires { ⌜ Ready p (now products) (now rows) × (bound ≡ distancesTo (p .n) (p .k) (p .m)) × (length (now reception) ≡ (blocks + p .m) * p .n) × Symbols (p .q) (now reception) × (j < blocks) × Settled p blocks (now reception) j (now message) (now residual) × BlockAreas p (now series) (now locator) (now values) (now information) ⌝ }
+    ensures { λ r. ⌜ Advanced p blocks (now (reception .entry)) (j + 1) (now (message .exit)) (now (residual .exit)) r ⌝ }
 {
     let start = j * p.n;
     let end = start + (p.m + 1) * p.n;
-    if super::area::cost(&left[start..end]) < bound {
+    if super::area::cost(&residual[start..end]) < bound {
         return true;
     }
     let found = super::window::find_level(
         p,
         products,
         rows,
-        &left[start..end],
+        &residual[start..end],
         series,
         locator,
         values,
@@ -57,7 +57,7 @@ fn settle(
         information,
         found,
         message,
-        left,
+        residual,
     );
     true
 }
@@ -65,25 +65,25 @@ fn settle(
 // The windows in turn: the blocks of window j are guessed, and then block j is made certain.
 fn read_windows(
     p: Setting,
-    products: &Tables,
+    products: &Products,
     rows: &[u8],
     bound: usize,
     blocks: usize,
     reception: &[u8],
     message: &mut [u8],
-    left: &mut [u8],
+    residual: &mut [u8],
     series: &mut [u8],
     locator: &mut [u8],
     values: &mut [u8],
     information: &mut [u8],
 ) -> bool
-    requires { ⌜ Ready p (now products) (now rows) × (bound ≡ distancesTo (p .n) (p .k) (p .m)) × (length (now reception) ≡ (blocks + p .m) * p .n) × Symbols (p .q) (now reception) × Progress p blocks (now reception) 0 (now message) (now left) × Working p (now series) (now locator) (now values) (now information) ⌝ }
-    ensures { λ r. ⌜ Advanced p blocks (now (reception .entry)) blocks (now (message .exit)) (now (left .exit)) r ⌝ }
+    requires { ⌜ Ready p (now products) (now rows) × (bound ≡ distancesTo (p .n) (p .k) (p .m)) × (length (now reception) ≡ (blocks + p .m) * p .n) × Symbols (p .q) (now reception) × Settled p blocks (now reception) 0 (now message) (now residual) × BlockAreas p (now series) (now locator) (now values) (now information) ⌝ }
+    ensures { λ r. ⌜ Advanced p blocks (now (reception .entry)) blocks (now (message .exit)) (now (residual .exit)) r ⌝ }
 {
     let scale = field::inverse(p.q, products, rows[0]);
     let mut j: usize = 0;
     while j < blocks {
-        super::guess::guess_window(p, products, rows, scale, blocks, j, message, left);
+        super::guess::guess_window(p, products, rows, scale, blocks, j, message, residual);
         if !settle(
             p,
             products,
@@ -93,7 +93,7 @@ fn read_windows(
             reception,
             j,
             message,
-            left,
+            residual,
             series,
             locator,
             values,
@@ -106,10 +106,10 @@ fn read_windows(
     true
 }
 
-// The last comparison: every window of what is left costs less than the bound against zeros.
-fn compare_windows(p: Setting, blocks: usize, left: &[u8], bound: usize) -> bool
-    requires { ⌜ Sound p × (bound ≡ distancesTo (p .n) (p .k) (p .m)) × (length (now left) ≡ (blocks + p .m) * p .n) ⌝ }
-    ensures { λ r. ⌜ Compared p blocks (now (left .entry)) r ⌝ }
+// The last comparison: every window of the residual costs less than the bound against zeros.
+fn compare_windows(p: Setting, blocks: usize, residual: &[u8], bound: usize) -> bool
+    requires { ⌜ Sound p × (bound ≡ distancesTo (p .n) (p .k) (p .m)) × (length (now residual) ≡ (blocks + p .m) * p .n) ⌝ }
+    ensures { λ r. ⌜ Compared p blocks (now (residual .entry)) r ⌝ }
 {
     let n = p.n;
     let size = (p.m + 1) * n;
@@ -117,7 +117,7 @@ fn compare_windows(p: Setting, blocks: usize, left: &[u8], bound: usize) -> bool
     let mut j: usize = 0;
     while j < blocks {
         let end = start + size;
-        let cost = super::area::cost(&left[start..end]);
+        let cost = super::area::cost(&residual[start..end]);
         if bound <= cost {
             return false;
         }
@@ -127,28 +127,28 @@ fn compare_windows(p: Setting, blocks: usize, left: &[u8], bound: usize) -> bool
     true
 }
 
-// The message that fits the reception and what is left of the reception without its transmission; or false, if no message fits. The other areas are worked
+// The message that fits the reception and its residual; or false, if no message fits. The other areas are worked
 // in.
 pub fn read(
     p: Setting,
-    products: &Tables,
+    products: &Products,
     rows: &[u8],
     blocks: usize,
     reception: &[u8],
     message: &mut [u8],
-    left: &mut [u8],
+    residual: &mut [u8],
     series: &mut [u8],
     locator: &mut [u8],
     values: &mut [u8],
     information: &mut [u8],
 ) -> bool
-    requires { ⌜ Ready p (now products) (now rows) × (1 ≤ blocks) × (length (now reception) ≡ (blocks + p .m) * p .n) × Symbols (p .q) (now reception) × (length (now message) ≡ blocks * p .k) × (length (now left) ≡ length (now reception)) × Working p (now series) (now locator) (now values) (now information) ⌝ }
-    ensures { λ r. ⌜ FrameRead p blocks (now (reception .entry)) (now (message .exit)) (now (left .exit)) r ⌝ }
+    requires { ⌜ Ready p (now products) (now rows) × (1 ≤ blocks) × (length (now reception) ≡ (blocks + p .m) * p .n) × Symbols (p .q) (now reception) × (length (now message) ≡ blocks * p .k) × (length (now residual) ≡ length (now reception)) × BlockAreas p (now series) (now locator) (now values) (now information) ⌝ }
+    ensures { λ r. ⌜ FrameRead p blocks (now (reception .entry)) (now (message .exit)) (now (residual .exit)) r ⌝ }
 {
     let m = p.m;
     let bound = super::window::distances_to(p, m);
     field::clear(message);
-    bytes::copy(reception, left);
+    bytes::copy(reception, residual);
     if !read_windows(
         p,
         products,
@@ -157,7 +157,7 @@ pub fn read(
         blocks,
         reception,
         message,
-        left,
+        residual,
         series,
         locator,
         values,
@@ -165,5 +165,5 @@ pub fn read(
     ) {
         return false;
     }
-    compare_windows(p, blocks, left, bound)
+    compare_windows(p, blocks, residual, bound)
 }

@@ -8,11 +8,11 @@ ghost use Rattle.code.specs.Transmission.{view};
 ghost use Rattle.code.specs.parts.Sound.{Sound};
 ghost use Rattle.code.specs.Windows.{windowLength};
 ghost use Rattle.code.specs.parts.Reading.{windowCost};
-ghost use Rattle.tables.specs.parts.Tables.{Ready};
-ghost use Rattle.block.specs.parts.Area.{AllBelow, Working};
-ghost use Rattle.frame.specs.parts.Window.{Tried, Levels};
+ghost use Rattle.tables.specs.parts.Rows.{Ready};
+ghost use Rattle.block.specs.parts.Area.{AllBelow, BlockAreas};
+ghost use Rattle.frame.specs.parts.Window.{LevelTried, LevelSearch};
 use code::Setting;
-use field::Tables;
+use field::Products;
 
 // d_0 + .. + d_l
 pub fn distances_to(p: Setting, l: usize) -> usize
@@ -35,7 +35,7 @@ pub fn distances_to(p: Setting, l: usize) -> usize
 // What blocks 0 .. l of the window cost against the blocks rebuilt from the information.
 fn rebuilt_cost(
     p: Setting,
-    products: &Tables,
+    products: &Products,
     rows: &[u8],
     information: &[u8],
     l: usize,
@@ -60,7 +60,7 @@ fn rebuilt_cost(
 // One level: the code block near block l of the window, if its information rebuilds blocks 0 .. l near enough.
 fn try_level(
     p: Setting,
-    products: &Tables,
+    products: &Products,
     rows: &[u8],
     window: &[u8],
     l: usize,
@@ -69,8 +69,8 @@ fn try_level(
     values: &mut [u8],
     information: &mut [u8],
 ) -> bool
-    requires { ⌜ Ready p (now products) (now rows) × (length (now window) ≡ windowLength p) × Symbols (p .q) (now window) × (l ≤ p .m) × Working p (now series) (now locator) (now values) (now information) ⌝ }
-    ensures { λ r. ⌜ Tried p (now (window .entry)) l (now (information .exit)) r ⌝ }
+    requires { ⌜ Ready p (now products) (now rows) × (length (now window) ≡ windowLength p) × Symbols (p .q) (now window) × (l ≤ p .m) × BlockAreas p (now series) (now locator) (now values) (now information) ⌝ }
+    ensures { λ r. ⌜ LevelTried p (now (window .entry)) l (now (information .exit)) r ⌝ }
 {
     let n = p.n;
     let start = l * n;
@@ -100,7 +100,7 @@ fn try_level(
 // The information near a window by the levels from m down to 0, until one serves: how many blocks of it were found, or 0 if none is near.
 pub fn find_level(
     p: Setting,
-    products: &Tables,
+    products: &Products,
     rows: &[u8],
     window: &[u8],
     series: &mut [u8],
@@ -108,8 +108,8 @@ pub fn find_level(
     values: &mut [u8],
     information: &mut [u8],
 ) -> usize
-    requires { ⌜ Ready p (now products) (now rows) × (length (now window) ≡ windowLength p) × Symbols (p .q) (now window) × Working p (now series) (now locator) (now values) (now information) ⌝ }
-    ensures { λ r. ⌜ Levels p (now (window .entry)) (now (information .exit)) r ⌝ }
+    requires { ⌜ Ready p (now products) (now rows) × (length (now window) ≡ windowLength p) × Symbols (p .q) (now window) × BlockAreas p (now series) (now locator) (now values) (now information) ⌝ }
+    ensures { λ r. ⌜ LevelSearch p (now (window .entry)) (now (information .exit)) r ⌝ }
 {
     let mut blocks = p.m + 1;
     while 0 < blocks {

@@ -1,6 +1,6 @@
 -- Digits: values of characters, and runs of them that loops read and write.
 -- Holds: `digit-low`, `digit-number`, `digit-between`, `digit-letter`, `digit-high`, `digit-most`; `character-number`, `character-letter`;
--- `Filled`, `filled-none`, `filled-more`, `filled-all` (a map, as a loop fills it).
+-- `MapFilled`, `map-filled-none`, `map-filled-more`, `map-filled-all` (a map, as a loop fills it).
 use mathlib.Core.Path.{_≡_, refl, sym, ap, ap₂, _∙_}
 use mathlib.Core.List.{List, [], _∷_, _++_, map, map-append}
 use Prim.Native.Nat.{ℕ, _+_, _-_, _≤_, _<_}
@@ -68,17 +68,17 @@ unfolding characterOf
 character-letter d h = simp (le-ltb d 10 h) (omega arith)
 
 -- A loop that fills an area with the values of f: the first i are written.
-pub record Filled (f : ℕ → ℕ) (from : List ℕ) (i : ℕ) (area : List ℕ) : Type 0 where
+pub record MapFilled (f : ℕ → ℕ) (from : List ℕ) (i : ℕ) (area : List ℕ) : Type 0 where
   pub place : i ≤ length from
   pub long : length area ≡ length from
   pub written : take i area ≡ map f (take i from)
 
-pub filled-none : {f : ℕ → ℕ} {from area : List ℕ} → length from ≡ length area → Filled f from 0 area
-filled-none e = record { place = omega arith; long = sym e; written = refl }
+pub map-filled-none : {f : ℕ → ℕ} {from area : List ℕ} → length from ≡ length area → MapFilled f from 0 area
+map-filled-none e = record { place = omega arith; long = sym e; written = refl }
 
-pub filled-more : {f : ℕ → ℕ} {from area : List ℕ} {i v : ℕ} → Filled f from i area → i < length from → v ≡ f (getD from i 0)
-    → Filled f from (i + 1) (set area i v)
-filled-more {f} {from} {area} {i} {v} w h e = record {
+pub map-filled-more : {f : ℕ → ℕ} {from area : List ℕ} {i v : ℕ} → MapFilled f from i area → i < length from → v ≡ f (getD from i 0)
+    → MapFilled f from (i + 1) (set area i v)
+map-filled-more {f} {from} {area} {i} {v} w h e = record {
   place = omega arith;
   long = length-set area i v ∙ w .long;
   written =
@@ -89,6 +89,6 @@ filled-more {f} {from} {area} {i} {v} w h e = record {
       ∙ (ap (map f) (take-suc from i 0 h) ∙ map-append f (take i from) (getD from i 0 ∷ [])))));
 }
 
-pub filled-all : {f : ℕ → ℕ} {from area : List ℕ} {i : ℕ} → Filled f from i area → length from ≤ i → area ≡ map f from
-filled-all {f} {from} {area} {i} w h =
+pub map-filled-all : {f : ℕ → ℕ} {from area : List ℕ} {i : ℕ} → MapFilled f from i area → length from ≤ i → area ≡ map f from
+map-filled-all {f} {from} {area} {i} w h =
     sym (take-all i area (omega (arith, w .long))) ∙ (w .written ∙ ap (map f) (take-all i from h))

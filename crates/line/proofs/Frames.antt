@@ -25,11 +25,11 @@ use Rattle.code.proofs.Settings.{soundOf, information-fits, Sizes, sizesOf, lar
 use Rattle.question.specs.declared.Answer.{Answer}
 use Rattle.question.specs.Questions.{Question, ask, answer, firstNo, mostBlocks, mostSymbols, mostInformation, blocksOf, symbolQuestion, transmissionQuestion, frameQuestions, decodingQuestions}
 use Rattle.link.specs.Decoding.{FrameDecoded, found, none-fits, DecodedIn, Decoded, refused as decoding-refused, well-formed as decoding-well-formed}
-use Rattle.question.proofs.Answers.{true-of, first-no, all-yes, append-yes, message-most, transmission-most}
+use Rattle.question.proofs.Questions.{true-of, first-no, all-yes, append-yes, message-most, transmission-most}
 use Rattle.link.proofs.Determined.{parts-long, message-front}
 use Rattle.line.specs.Characters.{digitOf}
 use Rattle.line.specs.Questions.{mostCharacters, settingIn, blocksIn, symbolsIn, digitsTo, characterQuestions, headQuestions, HoldsFrame, lineQuestions}
-use Rattle.line.specs.Answering.{refusal, success, outputLine, messageLength, messageIn, Answers, refused, well-formed, AnswerShown, Working, working, hasRoom, roomIn, RoomForAll, FrameLeft, Answered, no-frame, no-room, decoded}
+use Rattle.line.specs.Answering.{refusal, success, outputLine, messageLength, messageIn, Answers, refused, well-formed, AnswerShown, LineAreas, lineAreas, hasRoom, roomIn, RoomForAll, FrameLeft, Answered, no-frame, no-room, decoded}
 use Rattle.line.proofs.Asked.{HeadYes, head-yes, after-head, in-head}
 use Rattle.line.proofs.Placed.{six, success-long}
 
@@ -143,7 +143,7 @@ module _ (line : List ℕ) (holds : HoldsFrame line) where
       )
 
   -- Areas with room for every frame have room for this one.
-  pub any-room : (w : Working) → RoomForAll w → roomIn line w ≡ true
+  pub any-room : (w : LineAreas) → RoomForAll w → roomIn line w ≡ true
   any-room w R =
       let symbols : length (symbolsIn line) ≤ mostSymbols =
       subst (λ (t : ℕ). t ≤ mostSymbols) (sym (symbols-long line yes-of)) (transmission-most (settingIn line) setting (blocksIn line) (yes-of .setting) refl (yes-of .most)) in
@@ -172,10 +172,10 @@ front-long : (line front : List ℕ) → front ≡ map digitOf (take (length lin
 front-long line front e = ap length (e ∙ symbols-read line) ∙ symbols-count line
 
 -- .. and decoded there.
-pub frame-left : (line : List ℕ) (number : ℕ) (front : List ℕ) (w : Working) (r : Answer) (message' transmitted' : List ℕ)
+pub frame-left : (line : List ℕ) (number : ℕ) (front : List ℕ) (w : LineAreas) (r : Answer) (message' transmitted' : List ℕ)
     → number ≡ settingIn line → front ≡ map digitOf (take (length line - 4) (drop 4 line))
     → Decoded number (take (length line - 4) (front ++ drop (length line - 4) (w .reception))) (w .message) (w .transmission) r message' transmitted'
-    → FrameLeft line w r (working (front ++ drop (length line - 4) (w .reception)) message' transmitted')
+    → FrameLeft line w r (lineAreas (front ++ drop (length line - 4) (w .reception)) message' transmitted')
 frame-left line number front w r message' transmitted' n e D =
     let is : front ≡ symbolsIn line = e ∙ symbols-read line in
     record {
@@ -231,7 +231,7 @@ answers-sevenfold line text (well-formed h r x y f e) =
     omega (arith, ap length e, output-most line r x, mul-le-mul blocks (information-fits p sound))
 
 -- With room for every frame each line is answered.
-pub answered-shown : (line : List ℕ) (w : Working) (output : List ℕ) (r : ℕ) (w' : Working) (output' : List ℕ) → RoomForAll w
+pub answered-shown : (line : List ℕ) (w : LineAreas) (output : List ℕ) (r : ℕ) (w' : LineAreas) (output' : List ℕ) → RoomForAll w
     → Answered line w output r w' output' → AnswerShown line output r output'
 answered-shown line w output r w' output' R (no-frame h shown e) = shown
 answered-shown line w output r w' output' R (no-room holds none z o e) = absurd (false-not-true (sym none ∙ any-room line holds w R))

@@ -1,6 +1,6 @@
 -- What the proofs of the line's functions share.
 pub mod Digits
-pub mod Numbers
+pub mod Hex
 pub mod Placed
 pub mod Asked
 pub mod Frames

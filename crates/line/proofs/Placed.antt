@@ -14,8 +14,8 @@ use lib.Seq.{drop-drop}
 use Rattle.algebra.specs.Ops.{pick}
 use Rattle.line.specs.Characters.{characterOf, hex}
 use Rattle.line.specs.Answering.{opening, success, Shown}
-use Rattle.line.specs.parts.Writing.{Placed, Continued}
-use Rattle.line.proofs.Numbers.{length-hex}
+use Rattle.line.specs.parts.Writing.{Placed, WrittenBehind}
+use Rattle.line.proofs.Hex.{length-hex}
 
 pub placed-none : (before : List ℕ) → Placed [] before before
 placed-none before = record { is = refl; room = omega arith }
@@ -53,7 +53,7 @@ placed-part done part before area from to start long order room w =
 
 -- A number is the next part, in all the places from one to another.
 pub placed-number : (number from to : ℕ) (area : List ℕ) {part : List ℕ} → from ≤ to → to ≤ length area
-    → part ≡ hex (length (take (to - from) (drop from area))) number → Continued from (hex (to - from) number) area (putMid from (to - from) area part)
+    → part ≡ hex (length (take (to - from) (drop from area))) number → WrittenBehind from (hex (to - from) number) area (putMid from (to - from) area part)
 placed-number number from to area {part} order room e =
     let places : length (take (to - from) (drop from area)) ≡ to - from = omega (arith, length-take (to - from) (drop from area), length-drop from area) in
     let digits : part ≡ hex (to - from) number = e ∙ ap (λ (t : ℕ). hex t number) places in

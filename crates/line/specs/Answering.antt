@@ -1,5 +1,5 @@
 -- What answering a line promises (01, "Lines at the planning desk"). Holds: `refusal`, `opening` and `success`, the two kinds of output line; `messageLength`, `messageIn`;
--- `outputLine`, `Answers`, which of them a line gets; `Shown`, a text in a lent area; `AnswerShown`; `Working`, `working`, the working areas,
+-- `outputLine`, `Answers`, which of them a line gets; `Shown`, a text in a lent area; `AnswerShown`; `LineAreas`, `lineAreas`, the working areas,
 -- `hasRoom`, `roomIn`, `RoomForAll`, `FrameLeft`; `Answered`, a whole call.
 use mathlib.Core.Path.{_≡_}
 use mathlib.Core.Bool.{Bool, true, false, _&&_}
@@ -57,35 +57,35 @@ pub record AnswerShown (line before : List ℕ) (r : ℕ) (after : List ℕ) : T
   pub shown : Shown text before r after
 
 -- The working areas that a caller lends: for the reception, for the message and for its transmission.
-pub record Working : Type 0 where
+pub record LineAreas : Type 0 where
   pub reception : List ℕ
   pub message : List ℕ
   pub transmission : List ℕ
 
-abbrev pub working : List ℕ → List ℕ → List ℕ → Working
-working reception message transmission = record { reception = reception; message = message; transmission = transmission }
+abbrev pub lineAreas : List ℕ → List ℕ → List ℕ → LineAreas
+lineAreas reception message transmission = record { reception = reception; message = message; transmission = transmission }
 
 -- Working areas of these lengths have room for the line's frame: its (T+m) × n symbols, twice, and the T × k of its message.
 abbrev pub hasRoom : List ℕ → ℕ → ℕ → ℕ → Bool
 hasRoom line reception message transmission =
     leb (length (symbolsIn line)) reception && (leb (length (symbolsIn line)) transmission && leb (messageLength line) message)
 
-abbrev pub roomIn : List ℕ → Working → Bool
+abbrev pub roomIn : List ℕ → LineAreas → Bool
 roomIn line w = hasRoom line (length (w .reception)) (length (w .message)) (length (w .transmission))
 
 -- Working areas with room for the frame of every line.
-pub record RoomForAll (w : Working) : Type 0 where
+pub record RoomForAll (w : LineAreas) : Type 0 where
   pub reception : mostSymbols ≤ length (w .reception)
   pub message : mostInformation ≤ length (w .message)
   pub transmission : mostSymbols ≤ length (w .transmission)
 
 -- The line's frame was decoded with the answer a: the reception area holds its symbols and then what it held, the others what decoding leaves in them.
-pub record FrameLeft (line : List ℕ) (w : Working) (a : Answer) (w' : Working) : Type 0 where
+pub record FrameLeft (line : List ℕ) (w : LineAreas) (a : Answer) (w' : LineAreas) : Type 0 where
   pub symbols : w' .reception ≡ symbolsIn line ++ drop (length (symbolsIn line)) (w .reception)
   pub decoded : Decoded (settingIn line) (symbolsIn line) (w .message) (w .transmission) a (w' .message) (w' .transmission)
 
 -- What a call on this line, with these areas lent, returns and leaves in them, whatever they held.
-pub data Answered (line : List ℕ) (w : Working) (output : List ℕ) (r : ℕ) (w' : Working) (output' : List ℕ) : Type 0 where
+pub data Answered (line : List ℕ) (w : LineAreas) (output : List ℕ) (r : ℕ) (w' : LineAreas) (output' : List ℕ) : Type 0 where
   -- One of questions 11, 9, 1, 3 and 10 gets "no": the line is answered, and the working areas are unchanged.
   no-frame : (HoldsFrame line → ⊥) → AnswerShown line output r output' → w' ≡ w → Answered line w output r w' output'
   -- A working area is too small for the line's frame: the length is 0, and nothing is written.

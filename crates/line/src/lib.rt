@@ -2,7 +2,7 @@
 ghost use mathlib.Core.Path.{_≡_};
 ghost use mathlib.Core.Bool.{true};
 ghost use Rattle.line.specs.Questions.{HoldsFrame};
-ghost use Rattle.line.specs.Answering.{outputLine, messageIn, Shown, working, hasRoom, roomIn, FrameLeft, Answered};
+ghost use Rattle.line.specs.Answering.{outputLine, messageIn, Shown, lineAreas, hasRoom, roomIn, FrameLeft, Answered};
 ghost use Rattle.line.specs.parts.Writing.{Written};
 
 mod characters;
@@ -43,8 +43,8 @@ fn decode_line(
     message: &mut [u8],
     transmission: &mut [u8],
 ) -> Answer
-    requires { ⌜ HoldsFrame (now line) × (roomIn (now line) (working (now reception) (now message) (now transmission)) ≡ true) ⌝ }
-    ensures { λ r. ⌜ FrameLeft (now (line .entry)) (working (now (reception .entry)) (now (message .entry)) (now (transmission .entry))) r (working (now (reception .exit)) (now (message .exit)) (now (transmission .exit))) ⌝ }
+    requires { ⌜ HoldsFrame (now line) × (roomIn (now line) (lineAreas (now reception) (now message) (now transmission)) ≡ true) ⌝ }
+    ensures { λ r. ⌜ FrameLeft (now (line .entry)) (lineAreas (now (reception .entry)) (now (message .entry)) (now (transmission .entry))) r (lineAreas (now (reception .exit)) (now (message .exit)) (now (transmission .exit))) ⌝ }
 {
     let number = questions::setting_in(line);
     let long = line.len() - 4;
@@ -76,9 +76,9 @@ pub fn answer_line(
     transmission: &mut [u8],
     output: &mut [u8],
 ) -> usize
-    ensures { λ r. ⌜ Answered (now (line .entry)) (working (now (reception .entry)) (now (message .entry)) (now (transmission .entry))) (now (output .entry)) r (working (now (reception .exit)) (now (message .exit)) (now (transmission .exit))) (now (output .exit)) ⌝ }
+    ensures { λ r. ⌜ Answered (now (line .entry)) (lineAreas (now (reception .entry)) (now (message .entry)) (now (transmission .entry))) (now (output .entry)) r (lineAreas (now (reception .exit)) (now (message .exit)) (now (transmission .exit))) (now (output .exit)) ⌝ }
 {
-    let asked = questions::frame_questions(line);
+    let asked = questions::before_symbols(line);
     if asked.number != 0 {
         return writing::write_refusal(asked, output);
     }

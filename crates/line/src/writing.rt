@@ -7,7 +7,7 @@ ghost use Rattle.field.specs.Symbols.{Symbols};
 ghost use Rattle.question.specs.Questions.{mostInformation};
 ghost use Rattle.line.specs.Characters.{characterOf, hex};
 ghost use Rattle.line.specs.Answering.{refusal, opening, success, Shown};
-ghost use Rattle.line.specs.parts.Writing.{Placed, Continued};
+ghost use Rattle.line.specs.parts.Writing.{Placed, WrittenBehind};
 use super::characters;
 use question::Answer;
 
@@ -35,7 +35,7 @@ fn write_number(number: u64, area: &mut [u8])
 // A number behind what is written: in the places from one up to another.
 fn put_number(number: u64, from: usize, to: usize, output: &mut [u8])
     requires { ⌜ (from ≤ to) × (to ≤ length (now output)) ⌝ }
-    ensures { λ _. ⌜ Continued from (hex (to - from) number) (now (output .entry)) (now (output .exit)) ⌝ }
+    ensures { λ _. ⌜ WrittenBehind from (hex (to - from) number) (now (output .entry)) (now (output .exit)) ⌝ }
 {
     write_number(number, &mut output[from..to]);
 }

@@ -19,13 +19,13 @@ use Rattle.code.specs.declared.Setting.{Setting}
 use Rattle.code.specs.Settings.{settingOf}
 use Rattle.code.specs.parts.Sound.{Sound}
 use Rattle.code.specs.Windows.{transmission}
-use Rattle.code.proofs.Numbers.{transmission-length}
+use Rattle.code.proofs.CodeBelow.{transmission-length}
 use Rattle.code.proofs.Settings.{Sizes, sizesOf}
 use Rattle.frame.specs.parts.Frame.{FrameRead, fits, none}
-use Rattle.frame.proofs.Ends.{left-altered, left-back}
+use Rattle.frame.proofs.Ends.{end-altered, end-back}
 use Rattle.question.specs.declared.Answer.{Answer}
 use Rattle.question.specs.Questions.{answer, firstNo, mostBlocks, blocksOf, decodingQuestions}
-use Rattle.question.proofs.Answers.{decoding-yes}
+use Rattle.question.proofs.Questions.{decoding-yes}
 use Rattle.link.specs.parts.Restoring.{Restored}
 use Rattle.link.specs.Decoding.{FrameDecoded, found, none-fits, Decoded, refused, well-formed}
 
@@ -51,32 +51,32 @@ module _ (q : ℕ) (reception before : List ℕ) where
           ∙ ap (λ (t : ℕ). sub (opsOf q) (getD reception t 0) (getD before t 0)) (sym s)
       at a (no d) h = getD-set-other after i a v 0 d ∙ R .inside a (omega arith)
 
-module _ {p : Setting} {T : ℕ} {reception message left : List ℕ} where
+module _ {p : Setting} {T : ℕ} {reception message residual : List ℕ} where
   -- What the frame's reader leaves, if it found a message..
-  pub left-symbols : {r : Bool} → FrameRead p T reception message left r → not r ≡ false → Symbols (p .q) left
-  left-symbols (fits F symbols long residual) h = symbols
-  left-symbols (none far) h = absurd (false-not-true (sym h))
+  pub residual-symbols : {r : Bool} → FrameRead p T reception message residual r → not r ≡ false → Symbols (p .q) residual
+  residual-symbols (fits F symbols long is-residual) h = symbols
+  residual-symbols (none far) h = absurd (false-not-true (sym h))
 
-  pub left-long : {r : Bool} → FrameRead p T reception message left r → not r ≡ false → length left ≡ length reception
-  left-long (fits F symbols long residual) h = long
-  left-long (none far) h = absurd (false-not-true (sym h))
+  pub residual-long : {r : Bool} → FrameRead p T reception message residual r → not r ≡ false → length residual ≡ length reception
+  residual-long (fits F symbols long is-residual) h = long
+  residual-long (none far) h = absurd (false-not-true (sym h))
 
   -- .. and if it found none.
-  pub frame-decoded-none : {r : Bool} {a : Answer} {cleared emptied : List ℕ} → FrameRead p T reception message left r → not r ≡ true → a ≡ answer 7 0 0
+  pub frame-decoded-none : {r : Bool} {a : Answer} {cleared emptied : List ℕ} → FrameRead p T reception message residual r → not r ≡ true → a ≡ answer 7 0 0
       → cleared ≡ replicate (T * p .k) 0 → emptied ≡ replicate ((T + p .m) * p .n) 0 → FrameDecoded p T reception a cleared emptied
-  frame-decoded-none (fits F symbols long residual) h e f g = absurd (false-not-true h)
+  frame-decoded-none (fits F symbols long is-residual) h e f g = absurd (false-not-true h)
   frame-decoded-none (none far) h e f g = none-fits far e f g
 
   pub frame-decoded-found : Sound p → {r : Bool} {restored : List ℕ} {weight : ℕ} → Symbols (p .q) reception → length reception ≡ (T + p .m) * p .n
-      → FrameRead p T reception message left r → not r ≡ false → weight ≡ countOf (length left) (λ i. not (eqb (getD left i 0) 0))
-      → Restored (p .q) (length left) reception left restored → FrameDecoded p T reception (answer 0 0 weight) message restored
+      → FrameRead p T reception message residual r → not r ≡ false → weight ≡ countOf (length residual) (λ i. not (eqb (getD residual i 0) 0))
+      → Restored (p .q) (length residual) reception residual restored → FrameDecoded p T reception (answer 0 0 weight) message restored
   frame-decoded-found S R long (none far) h counted back = absurd (false-not-true (sym h))
-  frame-decoded-found S {restored = restored} R long (fits F symbols same residual) h counted back =
+  frame-decoded-found S {restored = restored} R long (fits F symbols same is-residual) h counted back =
       found F
-      (ap (answer 0 0) (counted ∙ (ap (λ (t : ℕ). countOf t (λ i. not (eqb (getD left i 0) 0))) (same ∙ long)
-      ∙ sym (left-altered p S T reception message left R (F .message-of) residual))))
+      (ap (answer 0 0) (counted ∙ (ap (λ (t : ℕ). countOf t (λ i. not (eqb (getD residual i 0) 0))) (same ∙ long)
+      ∙ sym (end-altered p S T reception message residual R (F .message-of) is-residual))))
       (ext-getD 0 restored (transmission p message) (back .long ∙ (same ∙ (long ∙ sym (transmission-length p S T message (F .message-of)))))
-      (λ i l. back .inside i (omega (arith, back .long)) ∙ left-back p S T reception message left R (F .message-of) residual i (omega (arith, back .long, same, long))))
+      (λ i l. back .inside i (omega (arith, back .long)) ∙ end-back p S T reception message residual R (F .message-of) is-residual i (omega (arith, back .long, same, long))))
 
 -- What decoding knows of the setting p in hand and the reception, once questions 1 to 6 got "yes".
 pub record Receiving (p : Setting) (reception : List ℕ) (messageRoom transmissionRoom : ℕ) : Type 0 where

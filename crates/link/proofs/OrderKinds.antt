@@ -15,16 +15,16 @@ use Rattle.code.specs.declared.Setting.{Setting}
 use Rattle.code.specs.Settings.{settingOf}
 use Rattle.code.specs.parts.Sound.{Sound}
 use Rattle.code.specs.Windows.{transmission, altered, Fits}
-use Rattle.code.proofs.Numbers.{transmission-long, transmission-length}
+use Rattle.code.proofs.CodeBelow.{transmission-long, transmission-length}
 use Rattle.code.proofs.Settings.{soundOf}
 use Rattle.code.proofs.Demand3.{at-most-one-fits}
 use Rattle.code.proofs.Search.{fitsTest, fits-of-test, noneFits, no-message-fits}
 use Rattle.question.specs.declared.Answer.{Answer}
 use Rattle.question.specs.Questions.{answer, firstNo, blocksOf, decodingQuestions, encodingQuestions}
 use Rattle.link.specs.Encoding.{encodedArea}
-use Rattle.link.specs.Orders.{Call, encoding, decoding, Order, Promised, Begun, OrderKept}
+use Rattle.link.specs.Orders.{Call, encoding, decoding, Order, Promised, Overwritten, OrderKept}
 use Rattle.link.specs.Decoding.{FrameDecoded, found, none-fits, Decoded, refused, well-formed}
-use Rattle.question.proofs.Answers.{all-yes, yes-all, decoding-yes}
+use Rattle.question.proofs.Questions.{all-yes, yes-all, decoding-yes}
 
 -- The tests.
 unfoldable pub sameList : List ℕ → List ℕ → Bool
@@ -117,8 +117,8 @@ same-answer : {r : Answer} {a b c a' b' c' : ℕ} → r ≡ answer a b c → a' 
 same-answer {r} {a} {b} {c} {a'} {b'} {c'} e ea eb ec =
     e ∙ (ap (λ (t : ℕ). answer t b c) (sym ea) ∙ (ap (λ (t : ℕ). answer a' t c) (sym eb) ∙ ap (λ (t : ℕ). answer a' b' t) (sym ec)))
 
-begun : (front other before after : List ℕ) (a : ℕ) → after ≡ other ++ drop a before → front ≡ other → length front ≡ a → Begun front before after
-begun front other before after a e same long =
+overwritten-by : (front other before after : List ℕ) (a : ℕ) → after ≡ other ++ drop a before → front ≡ other → length front ≡ a → Overwritten front before after
+overwritten-by front other before after a e same long =
     e ∙ (ap (λ (l : List ℕ). l ++ drop a before) (sym same) ∙ ap (λ (t : ℕ). front ++ drop t before) (sym long))
 
 zeros-long : (n : ℕ) (l : List ℕ) → l ≡ replicate n 0 → length l ≡ n
@@ -129,7 +129,7 @@ encoding-order : (o : Order) → Passes (encodingTest o) → Promised encoding o
 unfolding encodingTest
 encoding-order o t before after r room E = (
   same-answer (E .answered ∙ clear) zero-number zero-place zero-count,
-  begun (o .sent) (transmission p (o .given)) before after ((length (o .given) / p .k + p .m) * p .n) written sent-is (ap length sent-is ∙ transmission-long p (o .given)),
+  overwritten-by (o .sent) (transmission p (o .given)) before after ((length (o .given) / p .k + p .m) * p .n) written sent-is (ap length sent-is ∙ transmission-long p (o .given)),
 )
   where
     p : Setting
@@ -195,13 +195,13 @@ module _ (o : Order) (asked : firstNo (decodingQuestions (o .setting) (o .given)
       → length (o .message) ≡ blocks o * p .k → length (o .sent) ≡ (blocks o + p .m) * p .n
       → ((x y : List ℕ) → FrameDecoded p (blocks o) (o .given) r x y → Parts o r x y)
       → Decoded (o .setting) (o .given) message sent r message' sent'
-      → (r ≡ answer (o .number) (o .place) (o .count)) × Begun (o .message) message message' × Begun (o .sent) sent sent'
+      → (r ≡ answer (o .number) (o .place) (o .count)) × Overwritten (o .message) message message' × Overwritten (o .sent) sent sent'
   whole message message' sent sent' r hm hs long sent-long frame (refused h e f g) = absurd (never-refused message sent hm hs h)
   whole message message' sent sent' r hm hs long sent-long frame (well-formed h D) =
       let parts = frame (D .message-part) (D .transmission-part) (D .decoded) in (
         parts .answered,
-        begun (o .message) (D .message-part) message message' (blocks o * p .k) (D .message-area) (parts .message-is) long,
-        begun (o .sent) (D .transmission-part) sent sent' ((blocks o + p .m) * p .n) (D .transmission-area) (parts .sent-is) sent-long,
+        overwritten-by (o .message) (D .message-part) message message' (blocks o * p .k) (D .message-area) (parts .message-is) long,
+        overwritten-by (o .sent) (D .transmission-part) sent sent' ((blocks o + p .m) * p .n) (D .transmission-area) (parts .sent-is) sent-long,
       )
 
   read-order : o .number ≡ 0 → Passes (readTest o) → Promised decoding o

@@ -8,7 +8,7 @@ use Rattle.field.specs.Fields.{opsOf, five, eight}
 use Rattle.field.specs.Modular.{modular}
 use Rattle.field.specs.Binary.{binary, timesBits, timesAlpha}
 use Rattle.code.specs.Code.{distancesTo}
-use Rattle.code.specs.Generator.{points, base, rowSymbol, timesG}
+use Rattle.code.specs.Generator.{points, generatorPolynomial, rowSymbol, timesG}
 use Rattle.code.specs.Transmission.{sentSymbol, tabulate}
 use Rattle.code.specs.Windows.{transmission}
 use Rattle.code.proofs.Search.{windowFrom, windowTest, windowsTest, fitsTest, finishedFar, noneBegins, noneFits}
@@ -18,7 +18,7 @@ use Rattle.link.proofs.OrderKinds.{sameList, encodingTest, readTest, se
 
 orders-pass : Passes (ordersTest orders)
 unfolding ordersTest orders encodingTest decodingTest readTest sevenTest sameList fitsTest noneFits noneBegins finishedFar windowsTest windowTest windowFrom all total
-    distancesTo symbolsTo transmission tabulate sentSymbol sum timesG rowSymbol base points fromRoots timesRootAfter power opsOf five eight modular binary timesBits timesAlpha
+    distancesTo symbolsTo transmission tabulate sentSymbol sum timesG rowSymbol generatorPolynomial points fromRoots timesRootAfter power opsOf five eight modular binary timesBits timesAlpha
 orders-pass = tt
 
 pub orders-kept : OrdersKept

@@ -18,11 +18,11 @@ use Rattle.code.specs.Settings.{codeOf}
 use Rattle.code.specs.parts.Sound.{Sound}
 use Rattle.code.specs.Windows.{transmission, windowLength, Message}
 use Rattle.code.proofs.Lists.{getD-zeros}
-use Rattle.code.proofs.Numbers.{laws, positive, message-below, transmission-view, transmission-length, sent-below, transmission-symbols}
+use Rattle.code.proofs.CodeBelow.{laws, positive, message-below, transmission-view, transmission-length, sent-below, transmission-symbols}
 use Rattle.code.proofs.Settings.{block-positive}
 use Rattle.code.proofs.Messages.{place-in-blocks}
 use Rattle.code.proofs.ResidualSteps.{residual-start}
-use Rattle.tables.specs.parts.Adding.{RowsAdded}
+use Rattle.tables.specs.parts.RowsAdded.{RowsAdded}
 use Rattle.frame.specs.parts.Frame.{Adjusted}
 use Rattle.frame.proofs.Guesses.{symbol-room, adjusted}
 use Rattle.link.specs.parts.Sending.{SentTo}
@@ -36,12 +36,12 @@ module _ (p : Setting) (S : Sound p) (T : ℕ) (message : List ℕ) (M : Message
         areas = record {
           message-long = M .long;
           message-symbols = M .symbols;
-          left-long = ap length e ∙ length-replicate ((T + p .m) * p .n) 0;
-          left-symbols = subst (Symbols (p .q)) (sym e) (symbols-zeros (p .q) ((T + p .m) * p .n) (positive p S));
+          residual-long = ap length e ∙ length-replicate ((T + p .m) * p .n) 0;
+          residual-symbols = subst (Symbols (p .q)) (sym e) (symbols-zeros (p .q) ((T + p .m) * p .n) (positive p S));
         };
         sent = λ i l. absurd (omega arith);
         unsent = λ i l. refl;
-        residual = record {
+        is-residual = record {
           symbol = λ s i l u.
               zeros (s * p .n + i)
               ∙ sym (ap (λ (t : ℕ). sub (opsOf (p .q)) t (sentSymbol (codeOf p) (view (p .k) message) s i)) (transmission-view p S T message M s i l u)
@@ -62,7 +62,7 @@ module _ (p : Setting) (S : Sound p) (T : ℕ) (message : List ℕ) (M : Message
         areas = step .revised .areas;
         sent = λ a l. at-sent a (ℕ-discrete a place) l;
         unsent = λ a l. getD-set-other rest place a 0 0 (omega arith) ∙ sending .unsent a (omega arith);
-        residual = step .revised .residual (transmission p message) (transmission-symbols p S T message M) (sending .residual);
+        is-residual = step .revised .is-residual (transmission p message) (transmission-symbols p S T message M) (sending .is-residual);
       }
     where
       rest : List ℕ
@@ -94,7 +94,7 @@ module _ (p : Setting) (S : Sound p) (T : ℕ) (message : List ℕ) (M : Message
   -- All was sent: the rest is zero, and so is its transmission.
   pub sent-all : (area : List ℕ) → SentTo p T message (T * p .k) area → area ≡ transmission p message
   sent-all area sending =
-      ext-getD 0 area (transmission p message) (sending .areas .left-long ∙ sym (transmission-length p S T message M)) (λ a l. at a (omega (arith, sending .areas .left-long)))
+      ext-getD 0 area (transmission p message) (sending .areas .residual-long ∙ sym (transmission-length p S T message M)) (λ a l. at a (omega (arith, sending .areas .residual-long)))
     where
       zeros : (a : ℕ) → getD (sending .rest) a 0 ≡ 0
       zeros a = past a (decLt a (T * p .k))
@@ -108,4 +108,4 @@ module _ (p : Setting) (S : Sound p) (T : ℕ) (message : List ℕ) (M : Message
           let place = place-in-blocks (T + p .m) a (p .n) (block-positive p S) l in
           let whole = residual-start p S T (transmission p message) (sending .rest) (symbol-below (p .q) (transmission p message) (transmission-symbols p S T message M) (positive p S)) zeros in
           subst (λ (t : ℕ). getD area t 0 ≡ getD (transmission p message) t 0) (place .2)
-          (sending .residual .symbol (a / p .n) (a % p .n) (place .0) (place .1) ∙ sym (whole .symbol (a / p .n) (a % p .n) (place .0) (place .1)))
+          (sending .is-residual .symbol (a / p .n) (a % p .n) (place .0) (place .1) ∙ sym (whole .symbol (a / p .n) (a % p .n) (place .0) (place .1)))

@@ -1,4 +1,4 @@
--- What is said of an order that was worked through (01; order, message: the information word). Holds: `Call`, `Order`; `Begun`, `Promised`, `OrderKept`; `encodes`, `reads` and `getsSeven`, the
+-- What is said of an order that was worked through (01; order, message: the information word). Holds: `Call`, `Order`; `Overwritten`, `Promised`, `OrderKept`; `encodes`, `reads` and `getsSeven`, the
 -- three kinds of order. The orders themselves stand in specs/Sample.
 use mathlib.Core.Path.{_≡_}
 use mathlib.Core.List.{List, _++_}
@@ -26,16 +26,16 @@ pub record Order : Type 0 where
   pub sent : List ℕ
 
 -- The area holds these bytes, and past them what it held.
-abbrev pub Begun : List ℕ → List ℕ → List ℕ → Type 0
-Begun front before after = after ≡ front ++ drop (length front) before
+abbrev pub Overwritten : List ℕ → List ℕ → List ℕ → Type 0
+Overwritten front before after = after ≡ front ++ drop (length front) before
 
 -- What 01 says of an order is said of every answer r and all memory that the call's promise allows, whatever areas were lent, if they are long enough.
 abbrev pub Promised : Call → Order → Type 0
 Promised encoding o = (before after : List ℕ) (r : Answer) → length (o .sent) ≤ length before → Encoded (o .setting) (o .given) before r after
-    → (r ≡ answer (o .number) (o .place) (o .count)) × Begun (o .sent) before after
+    → (r ≡ answer (o .number) (o .place) (o .count)) × Overwritten (o .sent) before after
 Promised decoding o = (message message' sent sent' : List ℕ) (r : Answer) → length (o .message) ≤ length message → length (o .sent) ≤ length sent
     → Decoded (o .setting) (o .given) message sent r message' sent'
-    → (r ≡ answer (o .number) (o .place) (o .count)) × Begun (o .message) message message' × Begun (o .sent) sent sent'
+    → (r ≡ answer (o .number) (o .place) (o .count)) × Overwritten (o .message) message message' × Overwritten (o .sent) sent sent'
 
 abbrev pub OrderKept : Order → Type 0
 OrderKept o = Promised (o .call) o

@@ -7,23 +7,23 @@ ghost use Rattle.field.specs.Fields.{Good};
 ghost use Rattle.field.specs.Symbols.{Symbols};
 ghost use Rattle.code.specs.Settings.{isSetting, settingOf};
 ghost use Rattle.question.specs.Questions.{mostBlocks};
-ghost use Rattle.tables.specs.parts.Tables.{Narrow, Ready};
-ghost use Rattle.block.specs.parts.Area.{Working};
+ghost use Rattle.tables.specs.parts.Rows.{Narrow, Ready};
+ghost use Rattle.block.specs.parts.Area.{BlockAreas};
 ghost use Rattle.link.specs.parts.Restoring.{Restored};
 ghost use Rattle.link.specs.Decoding.{FrameDecoded, Decoded};
 use code::Setting;
-use field::Tables;
+use field::Products;
 use question::Answer;
 
-// The reception less what is left of it: the transmission, in the place of what is left.
-fn restore(q: usize, reception: &[u8], left: &mut [u8])
-    requires { ⌜ Good q × Symbols q (now reception) × Symbols q (now left) × (length (now left) ≡ length (now reception)) ⌝ }
-    ensures { λ _. ⌜ Restored q (length (now (left .entry))) (now (reception .entry)) (now (left .entry)) (now (left .exit)) ⌝ }
+// The reception less its residual: the transmission, in the place of the residual.
+fn restore(q: usize, reception: &[u8], residual: &mut [u8])
+    requires { ⌜ Good q × Symbols q (now reception) × Symbols q (now residual) × (length (now residual) ≡ length (now reception)) ⌝ }
+    ensures { λ _. ⌜ Restored q (length (now (residual .entry))) (now (reception .entry)) (now (residual .entry)) (now (residual .exit)) ⌝ }
 {
     let mut i: usize = 0;
-    while i < left.len() {
-        let symbol = field::subtract(q, reception[i], left[i]);
-        left[i] = symbol;
+    while i < residual.len() {
+        let symbol = field::subtract(q, reception[i], residual[i]);
+        residual[i] = symbol;
         i += 1;
     }
 }
@@ -31,7 +31,7 @@ fn restore(q: usize, reception: &[u8], left: &mut [u8])
 // Question 7, with the tables and the working areas lent, on areas of just the sizes that the message and its transmission take.
 fn decode_lent(
     p: Setting,
-    products: &Tables,
+    products: &Products,
     rows: &[u8],
     blocks: usize,
     reception: &[u8],
@@ -42,7 +42,7 @@ fn decode_lent(
     values: &mut [u8],
     information: &mut [u8],
 ) -> Answer
-    requires { ⌜ Ready p (now products) (now rows) × (1 ≤ blocks) × (blocks ≤ mostBlocks) × (length (now reception) ≡ (blocks + p .m) * p .n) × Symbols (p .q) (now reception) × (length (now message) ≡ blocks * p .k) × (length (now transmission) ≡ length (now reception)) × Working p (now series) (now locator) (now values) (now information) ⌝ }
+    requires { ⌜ Ready p (now products) (now rows) × (1 ≤ blocks) × (blocks ≤ mostBlocks) × (length (now reception) ≡ (blocks + p .m) * p .n) × Symbols (p .q) (now reception) × (length (now message) ≡ blocks * p .k) × (length (now transmission) ≡ length (now reception)) × BlockAreas p (now series) (now locator) (now values) (now information) ⌝ }
     ensures { λ r. ⌜ FrameDecoded p blocks (now (reception .entry)) r (now (message .exit)) (now (transmission .exit)) ⌝ }
 {
     if !frame::reading::read(
@@ -83,7 +83,7 @@ fn decode_frame(
     requires { ⌜ T (isSetting setting) × (p ≡ settingOf setting) × Narrow p × (1 ≤ blocks) × (blocks ≤ mostBlocks) × (length (now reception) ≡ (blocks + p .m) * p .n) × Symbols (p .q) (now reception) × (length (now message) ≡ blocks * p .k) × (length (now transmission) ≡ length (now reception)) ⌝ }
     ensures { λ r. ⌜ FrameDecoded p blocks (now (reception .entry)) r (now (message .exit)) (now (transmission .exit)) ⌝ }
 {
-    let products = field::tables(p.q);
+    let products = field::products(p.q);
     let mut rows = [0u8; tables::MOST_ROWS];
     tables::rows(setting, &mut rows);
     let mut series = [0u8; tables::LONGEST_BLOCK + 1];

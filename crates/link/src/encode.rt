@@ -5,18 +5,18 @@ ghost use lib.Dec.{T};
 ghost use lib.ListN.{length};
 ghost use Rattle.code.specs.Settings.{isSetting, settingOf};
 ghost use Rattle.code.specs.Windows.{transmission, Message};
-ghost use Rattle.tables.specs.parts.Tables.{Narrow};
+ghost use Rattle.tables.specs.parts.Rows.{Narrow};
 ghost use Rattle.question.specs.Questions.{mostBlocks};
 ghost use Rattle.link.specs.parts.Sending.{Sending, SentTo};
 ghost use Rattle.link.specs.Encoding.{Encoded};
 use code::Setting;
-use field::Tables;
+use field::Products;
 use question::Answer;
 
 // Sends information block i: adds what it contributes to the m+1 blocks that it reaches.
 fn send_block(
     p: Setting,
-    products: &Tables,
+    products: &Products,
     rows: &[u8],
     message: &[u8],
     blocks: usize,
@@ -40,7 +40,7 @@ fn send_block(
 }
 
 // The whole transmission: zeros, to which each information block adds its part.
-fn send(p: Setting, products: &Tables, rows: &[u8], message: &[u8], blocks: usize, area: &mut [u8])
+fn send(p: Setting, products: &Products, rows: &[u8], message: &[u8], blocks: usize, area: &mut [u8])
     requires { ⌜ Sending p (now products) (now rows) (now message) blocks × (length (now area) ≡ (blocks + p .m) * p .n) ⌝ }
     ensures { λ _. ⌜ now (area .exit) ≡ transmission p (now (message .entry)) ⌝ }
 {
@@ -59,7 +59,7 @@ fn encode_frame(setting: u64, p: Setting, message: &[u8], blocks: usize, area: &
 {
     let mut rows = [0u8; tables::MOST_ROWS];
     tables::rows(setting, &mut rows);
-    let products = field::tables(p.q);
+    let products = field::products(p.q);
     send(p, &products, &rows, message, blocks, area);
 }
 

@@ -1,2 +1,2 @@
 -- What the proofs of everything that asks share.
-pub mod Answers
+pub mod Questions

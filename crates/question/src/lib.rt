@@ -50,7 +50,7 @@ fn larger(a: u8, b: u8) -> u8
 }
 
 // The largest byte, which no byte exceeds. No early exit: the compiler looks at many bytes at once.
-fn largest(bytes: &[u8]) -> u8
+fn largest_byte(bytes: &[u8]) -> u8
     ensures { λ r. ⌜ Symbols (r + 1) (now (bytes .entry)) ⌝ }
 {
     let mut most: u8 = 0;
@@ -80,7 +80,7 @@ fn search_not_below(q: usize, bytes: &[u8]) -> usize
 fn first_not_below(q: usize, bytes: &[u8]) -> usize
     ensures { λ r. ⌜ r ≡ symbolsTo q (now (bytes .entry)) ⌝ }
 {
-    if wide(largest(bytes)) < q {
+    if wide(largest_byte(bytes)) < q {
         return bytes.len();
     }
     search_not_below(q, bytes)

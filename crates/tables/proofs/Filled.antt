@@ -17,7 +17,7 @@ use Rattle.code.specs.Transmission.{tabulate}
 use Rattle.code.specs.Settings.{codeOf}
 use Rattle.code.specs.parts.Sound.{Sound}
 use Rattle.code.proofs.Lists.{length-tabulate, getD-tabulate}
-use Rattle.tables.specs.parts.Tables.{generatorOf, generatorRow, rowsLength, RowsOf}
+use Rattle.tables.specs.parts.Rows.{generatorOf, generatorRow, rowsLength, RowsOf}
 use Rattle.tables.proofs.Parts.{put-length, put-before, put-inside}
 
 -- A row laid out is the part in its place.

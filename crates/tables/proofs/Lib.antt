@@ -4,4 +4,4 @@ pub mod Places
 pub mod Lending
 pub mod Examples
 pub mod Parts
-pub mod Adding
+pub mod RowsAdded

@@ -18,8 +18,8 @@ use Rattle.code.specs.Level.{combination}
 use Rattle.code.specs.Settings.{codeOf}
 use Rattle.code.specs.parts.Sound.{Sound}
 use Rattle.code.proofs.Settings.{block-positive}
-use Rattle.code.proofs.Numbers.{rowSymbol-below}
-use Rattle.tables.specs.parts.Tables.{rowsLength, RowsOf}
+use Rattle.code.proofs.CodeBelow.{rowSymbol-below}
+use Rattle.tables.specs.parts.Rows.{rowsLength, RowsOf}
 
 -- The steps of computing a place stay within the rows, and the symbol there is the generator's.
 pub record Place (p : Setting) (rows : List ℕ) (j r i : ℕ) : Type 0 where

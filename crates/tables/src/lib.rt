@@ -5,7 +5,7 @@ ghost use lib.Dec.{T};
 ghost use lib.ListN.{length};
 ghost use lib.Seq.{paste};
 ghost use Rattle.code.specs.Settings.{isSetting, settingOf};
-ghost use Rattle.tables.specs.parts.Tables.{generatorOf, generatorRow, rowsLength, RowsOf};
+ghost use Rattle.tables.specs.parts.Rows.{generatorOf, generatorRow, rowsLength, RowsOf};
 
 pub mod product;
 

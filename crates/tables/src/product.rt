@@ -4,21 +4,21 @@ ghost use Prim.Native.Nat.{_+_, _-_, _*_, _≤_, _<_};
 ghost use lib.ListN.{length, getD};
 ghost use Rattle.field.specs.Fields.{Good};
 ghost use Rattle.field.specs.Symbols.{Symbols, Is};
-ghost use Rattle.field.specs.parts.Tables.{Lent};
+ghost use Rattle.field.specs.parts.Products.{ProductsOf};
 ghost use Rattle.code.specs.Generator.{timesG};
 ghost use Rattle.code.specs.Level as level;
 ghost use Rattle.code.specs.Transmission.{view};
 ghost use Rattle.code.specs.Settings.{codeOf};
 ghost use Rattle.code.specs.Windows.{windowLength};
-ghost use Rattle.tables.specs.parts.Tables.{Ready};
-ghost use Rattle.tables.specs.parts.Adding.{MultipleAdded, RowAdded, RowsAdded};
+ghost use Rattle.tables.specs.parts.Rows.{Ready};
+ghost use Rattle.tables.specs.parts.RowsAdded.{MultipleAdded, RowAdded, RowsAdded};
 use code::Setting;
-use field::Tables;
+use field::Products;
 
 // Symbol i of (the k information symbols at `from`) × G_j.
 pub fn times_g(
     p: Setting,
-    products: &Tables,
+    products: &Products,
     rows: &[u8],
     information: &[u8],
     from: usize,
@@ -49,7 +49,7 @@ pub fn times_g(
 // Symbol i of the level-l combination of the l + 1 information blocks.
 pub fn combination(
     p: Setting,
-    products: &Tables,
+    products: &Products,
     rows: &[u8],
     information: &[u8],
     l: usize,
@@ -71,8 +71,8 @@ pub fn combination(
 }
 
 // Adds v × a row to a block.
-fn add_multiple(q: usize, products: &Tables, v: u8, row: &[u8], block: &mut [u8])
-    requires { ⌜ Good q × Lent q (now products) × (v < q) × Symbols q (now row) × Symbols q (now block) × (length (now row) ≡ length (now block)) ⌝ }
+fn add_multiple(q: usize, products: &Products, v: u8, row: &[u8], block: &mut [u8])
+    requires { ⌜ Good q × ProductsOf q (now products) × (v < q) × Symbols q (now row) × Symbols q (now block) × (length (now row) ≡ length (now block)) ⌝ }
     ensures { λ _. ⌜ MultipleAdded q v (length (now (block .entry))) (now (row .entry)) (now (block .entry)) (now (block .exit)) ⌝ }
 {
     let mut i: usize = 0;
@@ -83,7 +83,7 @@ fn add_multiple(q: usize, products: &Tables, v: u8, row: &[u8], block: &mut [u8]
 }
 
 // Adds v × row r of G_j to a block.
-fn add_row(p: Setting, products: &Tables, rows: &[u8], r: usize, v: u8, j: usize, block: &mut [u8])
+fn add_row(p: Setting, products: &Products, rows: &[u8], r: usize, v: u8, j: usize, block: &mut [u8])
     requires { ⌜ Ready p (now products) (now rows) × (r < p .k) × (v < p .q) × (j ≤ p .m) × (length (now block) ≡ p .n) × Symbols (p .q) (now block) ⌝ }
     ensures { λ _. ⌜ RowAdded p r v j (now (block .entry)) (now (block .exit)) ⌝ }
 {
@@ -94,7 +94,7 @@ fn add_row(p: Setting, products: &Tables, rows: &[u8], r: usize, v: u8, j: usize
 }
 
 // Adds v × row r of G_0, .., G_m to the blocks of a window: what one information symbol contributes.
-pub fn add_rows(p: Setting, products: &Tables, rows: &[u8], r: usize, v: u8, window: &mut [u8])
+pub fn add_rows(p: Setting, products: &Products, rows: &[u8], r: usize, v: u8, window: &mut [u8])
     requires { ⌜ Ready p (now products) (now rows) × (r < p .k) × (v < p .q) × (length (now window) ≡ windowLength p) × Symbols (p .q) (now window) ⌝ }
     ensures { λ _. ⌜ RowsAdded p r v (p .m + 1) (now (window .entry)) (now (window .exit)) ⌝ }
 {

@@ -22,17 +22,17 @@ extend-requires : tie.Need-extend-requires
 extend-requires c κs =
     let entry = c .before .before .before .before .before .before .before .before .before .before .before .before .before in
     let room = entry .pre .3 in
-    let placed = entry .pre .4 .located .placed in
+    let pair = entry .pre .4 .located .pair in
     let fits = level-fits (entry .args .p) (entry .pre .0 .sound) (entry .args .l) (entry .pre .2) in
     let long = c .before .before .before .before .add-values .kept .1 .1 .1 .1 .1 .1 .0 ∙ room .series-long in (
       entry .pre .0 .sound .good,
       entry .pre .0 .products,
-      placed .locator-below,
-      omega (arith, placed .located .grown, placed .located .placed, room .locator-long),
+      pair .locator-below,
+      omega (arith, pair .located .grown, pair .located .placed, room .locator-long),
       c .before .before .before .before .add-values .ensures .1 .below,
-      omega (arith, placed .located .grown, placed .located .placed),
+      omega (arith, pair .located .grown, pair .located .placed),
       omega (arith, fits, long),
-      placed .former-below,
+      pair .former-below,
       omega (arith, fits, room .values-long),
     )
 

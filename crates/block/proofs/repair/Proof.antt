@@ -2,8 +2,8 @@
 use mathlib.Core.Path.{_∙_}
 use native.Mathlib.Omega.{arith}
 use Rattle.code.proofs.Settings.{sizes, level-fits}
-use Rattle.block.proofs.Working.{working-kept}
-use Rattle.block.proofs.Answers.{step-long, step-near, step-far}
+use Rattle.block.proofs.BlockAreas.{block-areas-kept}
+use Rattle.block.proofs.Step.{step-long, step-near, step-far}
 use borrow.Author.Needs.{needs}
 use Rattle.block.proofs.repair.Statement.{statement}
 use Rattle.block.proofs.repair.Tie as tie
@@ -26,7 +26,7 @@ begin-requires c κs = search needs
 mul-if1 : tie.Need-mul-if1
 mul-if1 c =
     let entry = c .before .before .before .before .before .before .before .before .before .before .before .before .before .before .before .before .before .before .before .before .before .before in
-    let located = c .before .before .before .before .before .before .before .before .before .begin .ensures .located .placed .located in
+    let located = c .before .before .before .before .before .before .before .before .before .begin .ensures .located .pair .located in
     omega (arith, located .grown, located .placed, sizes (entry .args .p) (entry .pre .0 .sound) .symbols-most)
 
 returns : tie.Need-returns
@@ -41,7 +41,7 @@ read-candidate-requires c κs =
       entry .pre .0,
       entry .pre .2,
       entry .pre .3,
-      working-kept (entry .pre .4) (kept .1 .1 .1 .1 .0) (kept .1 .1 .1 .1 .1 .0) (kept .1 .1 .1 .1 .1 .1 .0) (kept .1 .1 .1 .1 .1 .1 .1 .0),
+      block-areas-kept (entry .pre .4) (kept .1 .1 .1 .1 .0) (kept .1 .1 .1 .1 .1 .0) (kept .1 .1 .1 .1 .1 .1 .0) (kept .1 .1 .1 .1 .1 .1 .1 .0),
       c .before .before .before .before .before .before .before .before .before .before .before .before .before .before .begin .ensures,
     )
 

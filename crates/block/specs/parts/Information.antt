@@ -1,5 +1,5 @@
 -- What is read off a spectrum.
--- Holds: `lacking`, `BlockRead`, `Read`.
+-- Holds: `lacking`, `BlockRead`, `InformationRead`.
 use mathlib.Core.Path.{_≡_}
 use mathlib.Core.List.{List}
 use Prim.Native.Nat.{ℕ, _+_, _-_, _<_}
@@ -26,6 +26,6 @@ pub record BlockRead (p : Setting) (from count : ℕ) (values before after : Lis
   pub kept : (i : ℕ) → i < from → at after i ≡ at before i
 
 -- So many information blocks were recovered, each from the values of its places.
-pub record Read (p : Setting) (blocks : ℕ) (values information : List ℕ) : Type 0 where
+pub record InformationRead (p : Setting) (blocks : ℕ) (values information : List ℕ) : Type 0 where
   pub below : AllBelow (p .q) information
   pub recovered : (b : ℕ) → b < blocks → Recovered (codeOf p) (view (p .k) values b) (p .k) (view (p .k) information b)

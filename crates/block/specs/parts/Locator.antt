@@ -15,7 +15,7 @@ convolution o a b j = sum o (suc j) (λ i. o .mul (a i) (b (j - i)))
 unfoldable pub tail : {F : Type 0} → Ops F → ℕ → (ℕ → F) → (ℕ → F) → ℕ → F
 tail o L σ c j = sum o L (λ a. o .mul (σ (a + 1)) (c (j - (a + 1))))
 
--- σ is a locator of degree at most L for c_0 .. c_s, and τ the former one, of degree at most p - L, that fails first at place p; `scale` undoes its failure.
+-- σ is a locator of degree at most L for c_0 .. c_s, and τ the former one, of degree at most p - L, that fails first at place p; `scale` undoes its discrepancy.
 pub record Located {F : Type 0} (o : Ops F) (c : ℕ → F) (s L p : ℕ) (scale : F) (σ τ : ℕ → F) : Type 0 where
   pub grown : L ≤ p
   pub placed : p ≤ s
@@ -24,7 +24,7 @@ pub record Located {F : Type 0} (o : Ops F) (c : ℕ → F) (s L p : ℕ) (scale
   pub annihilates : (j : ℕ) → L < j → j ≤ s → convolution o σ c j ≡ o .zero
   pub former-short : (a : ℕ) → p < L + a → τ a ≡ o .zero
   pub former-annihilates : (j : ℕ) → p < L + j → j < p → convolution o τ c j ≡ o .zero
-  pub former-fails : o .mul scale (convolution o τ c p) ≡ o .one
+  pub former-discrepancy : o .mul scale (convolution o τ c p) ≡ o .one
 
 -- σ' is σ with a multiple of τ, moved up by `shift` places, subtracted: `count` terms of it.
 pub record Subtracted {F : Type 0} (o : Ops F) (factor : F) (shift count : ℕ) (τ σ σ' : ℕ → F) : Type 0 where

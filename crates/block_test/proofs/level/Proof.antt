@@ -4,14 +4,14 @@ use Prim.Native.Nat.{_≤_}
 use Rattle.code.specs.declared.Setting.{Setting}
 use Rattle.code.specs.parts.Sound.{Sound}
 use Rattle.code.proofs.Settings.{soundOf, largestOf}
-use Rattle.tables.specs.parts.Tables.{rowsLength, longestBlock}
+use Rattle.tables.specs.parts.Rows.{rowsLength, longestBlock}
 use Rattle.tables.proofs.Lending.{readyOf}
 use borrow.Author.Needs.{needs}
 use Rattle.block_test.proofs.level.Statement.{statement}
 use Rattle.block_test.proofs.level.Tie as tie
 
-tables-requires : tie.Need-tables-requires
-tables-requires c κs = subst Sound (sym (c .setting .ensures)) (soundOf (c .before .args .number) (c .before .pre .0)) .good
+products-requires : tie.Need-products-requires
+products-requires c κs = subst Sound (sym (c .setting .ensures)) (soundOf (c .before .args .number) (c .before .pre .0)) .good
 
 rows-requires : tie.Need-rows-requires
 rows-requires c κs = let entry = c .before .before .before in (entry .pre .0, largestOf rowsLength (entry .args .number) (entry .pre .0))
@@ -22,7 +22,7 @@ compare-requires c κs =
     let number = entry .args .number in
     let p = entry .pre in
     let e = c .before .before .before .before .before .before .before .before .setting .ensures in (
-      readyOf number _ (p .0) e _ _ (c .before .before .before .before .before .before .before .tables .ensures) (c .before .before .before .before .before .rows2 .ensures),
+      readyOf number _ (p .0) e _ _ (c .before .before .before .before .before .before .before .products .ensures) (c .before .before .before .before .before .rows2 .ensures),
       subst (λ (x : Setting). x .n ≤ longestBlock) (sym e) (largestOf (λ x. x .n) number (p .0)),
       subst (λ (x : Setting). entry .args .l ≤ x .m) (sym e) (p .1),
       p .2,
@@ -35,7 +35,7 @@ level-spec =
     tie.close
     (tie.spec
     (λ c κs. search needs)
-    tables-requires
+    products-requires
     (search needs)
     rows-requires
     (search needs) (search needs) (search needs)

@@ -1,5 +1,5 @@
 -- Reading a window and a reception on lists of bytes (01, "Reading a reception").
--- Holds: `Below`; the costs `levelCost`, `windowCost`, `zeroCost`, `messageCost`; `NearWindow`; `only`, `Residual`.
+-- Holds: `BlocksBelow`; the costs `levelCost`, `windowCost`, `zeroCost`, `messageCost`; `NearWindow`; `only`, `IsResidual`.
 use mathlib.Core.Path.{_≡_}
 use mathlib.Core.List.{List}
 use Prim.Native.Nat.{ℕ, _+_, _<_}
@@ -15,8 +15,8 @@ use Rattle.code.specs.Settings.{codeOf}
 use Rattle.code.specs.parts.Cost.{symbolCost, costTo, blockCost, rebuiltCost}
 
 -- A sequence of information blocks has symbols below q.
-abbrev pub Below : ℕ → (ℕ → ℕ → ℕ) → Type 0
-Below q y = (s r : ℕ) → y s r < q
+abbrev pub BlocksBelow : ℕ → (ℕ → ℕ → ℕ) → Type 0
+BlocksBelow q y = (s r : ℕ) → y s r < q
 
 -- What a block costs against the level-l combination of y.
 abbrev pub levelCost : Setting → (ℕ → ℕ) → ℕ → (ℕ → ℕ → ℕ) → ℕ
@@ -42,7 +42,7 @@ NearWindow p reception message j = messageCost p reception message j < distances
 abbrev pub only : ℕ → ℕ → ℕ → ℕ
 only r v a = pick (eqb a r) v 0
 
--- w less the transmission of g: what is left of a reception of T+m blocks once the message g is taken out.
-pub record Residual (p : Setting) (T : ℕ) (reception message left : List ℕ) : Type 0 where
+-- w less the transmission of g: the residual of a reception of T+m blocks once the message g is taken out.
+pub record IsResidual (p : Setting) (T : ℕ) (reception message residual : List ℕ) : Type 0 where
   pub symbol : (s i : ℕ) → s < T + p .m → i < p .n
-      → view (p .n) left s i ≡ sub (opsOf (p .q)) (view (p .n) reception s i) (sentSymbol (codeOf p) (view (p .k) message) s i)
+      → view (p .n) residual s i ≡ sub (opsOf (p .q)) (view (p .n) reception s i) (sentSymbol (codeOf p) (view (p .k) message) s i)

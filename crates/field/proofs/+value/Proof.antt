@@ -6,7 +6,7 @@ use borrow.Author.Needs.{needs}
 use borrow.Fn.Kinds.{In}
 use borrow.Fn.PlainCycle.{Measures, is, falls, and}
 use Rattle.field.proofs.Symbols.{symbols-part}
-use Rattle.field.proofs.Polynomials.{rest-shorter, value-of-none, value-of-more}
+use Rattle.field.proofs.PolynomialValue.{rest-shorter, value-of-none, value-of-more}
 use Rattle.field.proofs.value.Reads as value
 use Rattle.field.proofs.value.Kinds as value-kinds
 use Rattle.field.proofs.+value.Lts-value as value-lts

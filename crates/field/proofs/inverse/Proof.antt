@@ -12,10 +12,10 @@ use Rattle.field.proofs.inverse.Statement.{statement}
 use Rattle.field.proofs.inverse.Tie as tie
 
 abbrev Inv-loop : tie.InvT-loop
-Inv-loop q tables a b₀ b = (b ≤ q) × (opsOf q .inv a ≡ inverseBelow (opsOf q .mul) b a)
+Inv-loop q products a b₀ b = (b ≤ q) × (opsOf q .inv a ≡ inverseBelow (opsOf q .mul) b a)
 
 abbrev μ-loop : tie.MeasureT-loop
-μ-loop q tables a b₀ b = b
+μ-loop q products a b₀ b = b
 
 loop-holds : tie.Need-loop-holds Inv-loop μ-loop
 loop-holds c = (le-refl _, inverse-start _ _ (c .pre .0) (c .pre .2))

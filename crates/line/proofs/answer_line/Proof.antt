@@ -8,7 +8,7 @@ use denote.Ref.{now}
 use lib.ListN.{length}
 use Rattle.field.specs.Symbols.{Symbols}
 use Rattle.line.specs.Questions.{HoldsFrame}
-use Rattle.line.specs.Answering.{Answers, outputLine, messageIn, working, roomIn, no-frame, no-room, decoded}
+use Rattle.line.specs.Answering.{Answers, outputLine, messageIn, lineAreas, roomIn, no-frame, no-room, decoded}
 use Rattle.line.proofs.Frames.{head-refused, room-is, frame-answered}
 use Rattle.line.proofs.answer_line.Statement.{statement}
 use Rattle.line.proofs.answer_line.Tie as tie
@@ -16,13 +16,13 @@ use Rattle.line.proofs.answer_line.Tie as tie
 returns : tie.Need-returns
 returns c =
     let line = now (c .before .before .before .before .before .before .before .before .before .before .before .before .args .line) in
-    let asked = c .before .before .before .before .before .before .frame-questions in
+    let asked = c .before .before .before .before .before .before .before-symbols in
     no-frame (λ z. c .before .before .before .before .if1 .taken (ap (λ a. a .number) (asked .ensures) ∙ z))
     (record { text = _; answers = head-refused line (asked .result) (asked .ensures) (c .before .before .before .before .if1 .taken); shown = c .before .before .write-refusal .ensures }) refl
 
 -- The line holds a frame.
 holds : (c : tie.Else1) → HoldsFrame (now (c .before .before .before .before .before .before .before .before .args .line))
-holds c = ap (λ a. a .number) (sym (c .before .before .frame-questions .ensures)) ∙ c .if1 .left
+holds c = ap (λ a. a .number) (sym (c .before .before .before-symbols .ensures)) ∙ c .if1 .left
 
 has-room-requires : tie.Need-has-room-requires
 has-room-requires c κs = holds c
@@ -31,7 +31,7 @@ returns-2 : tie.Need-returns-2
 returns-2 c = no-room (holds (c .before .before)) (sym (c .before .has-room .ensures) ∙ not-true _ (c .if2 .taken)) refl refl refl
 
 -- Its frame has room.
-room : (c : tie.Else2) → roomIn (now (c .before .before .before .before .before .before .before .before .before .before .args .line)) (working (now (c .before .before .before .before .before .before .before .before .before .before .args .reception)) (now (c .before .before .before .before .before .before .before .before .before .before .args .message)) (now (c .before .before .before .before .before .before .before .before .before .before .args .transmission))) ≡ true
+room : (c : tie.Else2) → roomIn (now (c .before .before .before .before .before .before .before .before .before .before .args .line)) (lineAreas (now (c .before .before .before .before .before .before .before .before .before .before .args .reception)) (now (c .before .before .before .before .before .before .before .before .before .before .args .message)) (now (c .before .before .before .before .before .before .before .before .before .before .args .transmission))) ≡ true
 room c = sym (c .before .has-room .ensures) ∙ not-false _ (c .if2 .left)
 
 decode-line-requires : tie.Need-decode-line-requires

@@ -6,7 +6,7 @@ use borrow.Author.Needs.{needs}
 use denote.Ref.{now}
 use lib.ListN.{length, drop, length-drop}
 use lib.Seq.{length-take-le}
-use Rattle.line.specs.Answering.{working}
+use Rattle.line.specs.Answering.{lineAreas}
 use Rattle.line.proofs.Asked.{HeadYes, head-yes}
 use Rattle.line.proofs.Frames.{symbols-count, room-is, frame-left}
 use Rattle.line.proofs.decode_line.Statement.{statement}
@@ -55,7 +55,7 @@ slice-aggregate-decode c = sym (length-take-le _ _ (omega (arith, room (c .befor
 returns : tie.Need-returns
 returns c =
     let a = c .before .before .before .before .before .before .before .before .before .before .before .before .before .before .before .before .before .before .args in
-    frame-left (now (a .line)) (c .before .before .before .before .before .before .before .before .before .before .before .before .before .setting-in .result) (c .before .before .before .before .before .before .before .before .before .before .read-digits .last .1 .0) (working (now (a .reception)) (now (a .message)) (now (a .transmission))) (c .before .before .before .before .decode .result) _ _ (c .before .before .before .before .before .before .before .before .before .before .before .before .before .setting-in .ensures)
+    frame-left (now (a .line)) (c .before .before .before .before .before .before .before .before .before .before .before .before .before .setting-in .result) (c .before .before .before .before .before .before .before .before .before .before .read-digits .last .1 .0) (lineAreas (now (a .reception)) (now (a .message)) (now (a .transmission))) (c .before .before .before .before .decode .result) _ _ (c .before .before .before .before .before .before .before .before .before .before .before .before .before .setting-in .ensures)
     (c .before .before .before .before .before .before .before .before .before .before .read-digits .ensures) (c .before .before .before .before .decode .ensures)
 
 pub decode-line-spec : {M : Type 1} → statement M

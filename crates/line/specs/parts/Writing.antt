@@ -1,4 +1,4 @@
--- What the functions that write an answer promise and ask of one another. Holds: `Placed`, `Continued`, `Written`.
+-- What the functions that write an answer promise and ask of one another. Holds: `Placed`, `WrittenBehind`, `Written`.
 use mathlib.Core.Path.{_≡_}
 use mathlib.Core.List.{List, _++_}
 use Prim.Native.Nat.{ℕ, _≤_}
@@ -13,7 +13,7 @@ pub record Placed (text before after : List ℕ) : Type 0 where
   pub room : length text ≤ length before
 
 -- A part written from this place on: behind whatever text ends there.
-pub record Continued (from : ℕ) (part before after : List ℕ) : Type 0 where
+pub record WrittenBehind (from : ℕ) (part before after : List ℕ) : Type 0 where
   pub long : length after ≡ length before
   pub behind : {done start : List ℕ} → length done ≡ from → Placed done start before → Placed (done ++ part) start after
 

@@ -3,12 +3,12 @@ use mathlib.Core.Path.{_≡_}
 use mathlib.Core.List.{List}
 use Prim.Native.Nat.{ℕ, _≤_, _<_}
 use lib.ListN.{getD}
-use Rattle.field.specs.parts.Tables.{Products}
+use Rattle.field.specs.parts.Products.{Products}
 use Rattle.code.specs.declared.Setting.{Setting}
 use Rattle.code.specs.Windows.{transmission, Message}
-use Rattle.code.specs.parts.Reading.{Residual}
-use Rattle.tables.specs.parts.Tables.{Ready}
-use Rattle.frame.specs.parts.Frame.{Areas}
+use Rattle.code.specs.parts.Reading.{IsResidual}
+use Rattle.tables.specs.parts.Rows.{Ready}
+use Rattle.frame.specs.parts.Frame.{FrameAreas}
 use Rattle.question.specs.Questions.{mostBlocks}
 
 -- A message of T blocks, and the tables of its setting.
@@ -20,7 +20,7 @@ pub record Sending (p : Setting) (products : Products) (rows message : List ℕ)
 -- The message's first `count` symbols were sent: the area holds its transmission less that of the rest, the message with zeros in their places.
 pub record SentTo (p : Setting) (T : ℕ) (message : List ℕ) (count : ℕ) (area : List ℕ) : Type 0 where
   pub rest : List ℕ
-  pub areas : Areas p T rest area
+  pub areas : FrameAreas p T rest area
   pub sent : (i : ℕ) → i < count → getD rest i 0 ≡ 0
   pub unsent : (i : ℕ) → count ≤ i → getD rest i 0 ≡ getD message i 0
-  pub residual : Residual p T (transmission p message) rest area
+  pub is-residual : IsResidual p T (transmission p message) rest area

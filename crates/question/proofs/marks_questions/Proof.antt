@@ -3,7 +3,7 @@ use mathlib.Core.List.{List, [], _∷_}
 use lib.Dec.{eqb}
 use borrow.Author.Tests.{eq-eqb, ne-eqb}
 use Rattle.question.specs.Questions.{Question, ask, displayQuestions, marksQuestions}
-use Rattle.question.proofs.Answers.{Left, left-yes, says-no, says-yes, first-says-no, first-left}
+use Rattle.question.proofs.Questions.{Left, left-yes, says-no, says-yes, first-says-no, first-left}
 use Rattle.question.proofs.marks_questions.Statement.{statement}
 use Rattle.question.proofs.marks_questions.Tie as tie
 

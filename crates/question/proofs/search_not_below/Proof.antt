@@ -4,7 +4,7 @@ use Prim.Native.Nat.{ℕ, _-_}
 use native.Mathlib.Omega.{arith}
 use lib.ListN.{length}
 use Rattle.question.specs.Questions.{symbolsTo}
-use Rattle.question.proofs.Answers.{Searched, searched-none, searched-more, searched-stop, searched-all, map-same}
+use Rattle.question.proofs.Questions.{Searched, searched-none, searched-more, searched-stop, searched-all, map-same}
 use Rattle.question.proofs.search_not_below.Statement.{statement}
 use Rattle.question.proofs.search_not_below.Tie as tie
 

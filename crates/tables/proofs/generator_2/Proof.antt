@@ -4,14 +4,14 @@ use Rattle.algebra.specs.Sum.{power}
 use Rattle.algebra.specs.Polynomial.{timesRootAfter, fromRoots}
 use Rattle.field.specs.Fields.{opsOf, eight}
 use Rattle.field.specs.Binary.{binary, timesBits, timesAlpha}
-use Rattle.code.specs.Generator.{points, base, rowSymbol}
+use Rattle.code.specs.Generator.{points, generatorPolynomial, rowSymbol}
 use Rattle.code.specs.Transmission.{tabulate}
-use Rattle.tables.specs.parts.Tables.{generatorOf}
+use Rattle.tables.specs.parts.Rows.{generatorOf}
 use Rattle.tables.proofs.generator_2.Statement.{statement}
 use Rattle.tables.proofs.generator_2.Tie as tie
 
 returns : tie.Need-returns
-unfolding generatorOf tabulate rowSymbol base points fromRoots timesRootAfter power opsOf eight binary timesBits timesAlpha
+unfolding generatorOf tabulate rowSymbol generatorPolynomial points fromRoots timesRootAfter power opsOf eight binary timesBits timesAlpha
 returns c = refl
 
 pub generator-2-spec : {M : Type 1} → statement M

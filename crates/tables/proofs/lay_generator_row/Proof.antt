@@ -8,7 +8,7 @@ use lib.ListN.{length, getD}
 use lib.Seq.{paste}
 use Rattle.code.specs.Settings.{settingOf}
 use Rattle.code.proofs.Settings.{setting-range}
-use Rattle.tables.specs.parts.Tables.{generatorOf, generatorRow}
+use Rattle.tables.specs.parts.Rows.{generatorOf, generatorRow}
 use Rattle.tables.proofs.Filled.{row-laid}
 use Rattle.tables.proofs.lay_generator_row.Statement.{statement}
 use Rattle.tables.proofs.lay_generator_row.Tie as tie

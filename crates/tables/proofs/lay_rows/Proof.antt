@@ -9,7 +9,7 @@ use Rattle.code.specs.declared.Setting.{Setting}
 use Rattle.code.specs.Settings.{settingOf}
 use Rattle.code.specs.parts.Sound.{Sound}
 use Rattle.code.proofs.Settings.{soundOf, sizes}
-use Rattle.tables.specs.parts.Tables.{generatorRow}
+use Rattle.tables.specs.parts.Rows.{generatorRow}
 use Rattle.tables.proofs.Filled.{row-within, Filled, filled-none, filled-long, filled-more, rows-of}
 use Rattle.tables.proofs.lay_rows.Statement.{statement}
 use Rattle.tables.proofs.lay_rows.Tie as tie

@@ -6,7 +6,7 @@ use denote.Ref.{now}
 use lib.ListN.{length}
 use Rattle.code.specs.Settings.{settingOf}
 use Rattle.code.proofs.Settings.{setting-range}
-use Rattle.tables.specs.parts.Tables.{rowsLength, RowsOf}
+use Rattle.tables.specs.parts.Rows.{rowsLength, RowsOf}
 use Rattle.tables.proofs.rows.Statement.{statement}
 use Rattle.tables.proofs.rows.Tie as tie
 

@@ -6,7 +6,7 @@ use Rattle.algebra.specs.parts.Values.{falling}
 use Rattle.field.specs.Fields.{opsOf}
 use Rattle.field.specs.Symbols.{Is}
 use Rattle.block.specs.parts.Area.{at}
-use Rattle.block.proofs.Reading.{falling-none, falling-more}
+use Rattle.block.proofs.InformationRead.{falling-none, falling-more}
 use Rattle.block.proofs.information.falling.Statement.{statement}
 use Rattle.block.proofs.information.falling.Tie as tie
 

@@ -6,14 +6,14 @@ use native.Mathlib.Omega.{arith}
 use borrow.Author.Needs.{needs}
 use denote.Ref.{now}
 use lib.ListN.{length}
-use Rattle.block.specs.parts.Information.{Read}
+use Rattle.block.specs.parts.Information.{InformationRead}
 use Rattle.block.proofs.Accumulated.{alpha-below}
-use Rattle.block.proofs.Reading.{read-none, read-more}
+use Rattle.block.proofs.InformationRead.{read-none, read-more}
 use Rattle.block.proofs.information.read.Statement.{statement}
 use Rattle.block.proofs.information.read.Tie as tie
 
 abbrev Inv-loop : tie.InvT-loop
-Inv-loop p products rows blocks values information₀ k back b₀ information b = (b ≤ blocks) × (length information ≡ length information₀) × Read p b values information
+Inv-loop p products rows blocks values information₀ k back b₀ information b = (b ≤ blocks) × (length information ≡ length information₀) × InformationRead p b values information
 
 abbrev μ-loop : tie.MeasureT-loop
 μ-loop p products rows blocks values information₀ k back b₀ information b = blocks - b
@@ -27,7 +27,7 @@ clear-requires c κs = search needs
 loop-holds : tie.Need-loop-holds Inv-loop μ-loop
 loop-holds c =
     let entry = c .before .before .before .before .before .before .before .before in
-    (omega arith, refl, subst (Read (entry .args .p) 0 (now (entry .args .values))) (sym (c .before .before .clear .ensures)) (read-none _ (entry .pre .0 .sound) _ (entry .pre .1) (length (now (entry .args .information)))))
+    (omega arith, refl, subst (InformationRead (entry .args .p) 0 (now (entry .args .values))) (sym (c .before .before .clear .ensures)) (read-none _ (entry .pre .0 .sound) _ (entry .pre .1) (length (now (entry .args .information)))))
 
 mul-read-block : tie.Need-mul-read-block Inv-loop μ-loop
 mul-read-block c =

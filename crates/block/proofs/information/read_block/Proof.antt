@@ -7,7 +7,7 @@ use Rattle.algebra.specs.Sum.{power}
 use Rattle.field.specs.Fields.{opsOf, alpha}
 use Rattle.field.specs.Symbols.{Is}
 use Rattle.block.specs.parts.Information.{BlockRead}
-use Rattle.block.proofs.Reading.{back-none, back-more, block-none, block-more}
+use Rattle.block.proofs.InformationRead.{back-none, back-more, block-none, block-more}
 use Rattle.block.proofs.information.read_block.Statement.{statement}
 use Rattle.block.proofs.information.read_block.Tie as tie
 

@@ -5,8 +5,8 @@ use native.Mathlib.Omega.{arith}
 use borrow.Author.Needs.{needs}
 use denote.Ref.{now}
 use lib.ListN.{length}
-use Rattle.block.specs.parts.Progress.{Placed}
-use Rattle.block.proofs.Placing.{placed-kept, placed-corrected, placed-lengthened}
+use Rattle.block.specs.parts.LocatorAreas.{LocatorPair}
+use Rattle.block.proofs.LocatorPair.{pair-kept, pair-corrected, pair-lengthened}
 use Rattle.block.proofs.locator.advance.Statement.{statement}
 use Rattle.block.proofs.locator.advance.Tie as tie
 
@@ -14,7 +14,7 @@ tail-requires : tie.Need-tail-requires
 tail-requires c κs =
     let entry = c .before .before .before .before .before in
     let located = entry .pre .8 .located in
-    let up-to : entry .args .progress .degree ≤ entry .args .next - 1 = omega (arith, located .grown, located .placed) in
+    let up-to : entry .args .state .degree ≤ entry .args .next - 1 = omega (arith, located .grown, located .placed) in
     (entry .pre .0, entry .pre .1, entry .pre .8 .locator-below, omega (arith, entry .pre .5), entry .pre .2, omega arith, entry .pre .4)
 
 shared-slice-read-add : tie.Need-shared-slice-read-add
@@ -27,7 +27,7 @@ returns : tie.Need-returns
 returns c =
     let entry = c .before .before .before .before .before .before .before .before .before in
     let step : suc (entry .args .next - 1) ≡ entry .args .next = omega arith in
-    placed-kept _ (entry .pre .0) step (entry .pre .2) (entry .pre .8) (c .before .before .before .tail .ensures) (c .before .add .ensures) (c .if1 .taken)
+    pair-kept _ (entry .pre .0) step (entry .pre .2) (entry .pre .8) (c .before .before .before .tail .ensures) (c .before .add .ensures) (c .if1 .taken)
 
 multiply-requires : tie.Need-multiply-requires
 multiply-requires c κs = search needs
@@ -45,7 +45,7 @@ add-if2 : tie.Need-add-if2
 add-if2 c = search needs
 
 -- The former locator, moved up to the place, lies within the locator.
-room : (c : tie.Start) → c .args .next - c .args .progress .place + (c .args .progress .place - c .args .progress .degree + 1) ≤ length (now (c .args .series))
+room : (c : tie.Start) → c .args .next - c .args .state .place + (c .args .state .place - c .args .state .degree + 1) ≤ length (now (c .args .series))
 room c = omega (arith, c .pre .8 .located .grown, c .pre .8 .located .placed, c .pre .4)
 
 subtract-multiple-requires : tie.Need-subtract-multiple-requires
@@ -58,7 +58,7 @@ returns-2 : tie.Need-returns-2
 returns-2 c =
     let entry = c .before .before .before .before .before .before .before .before .before .before .before .before .before .before .before .before in
     let step : suc (entry .args .next - 1) ≡ entry .args .next = omega arith in
-    placed-corrected _ (entry .pre .0) step (entry .pre .2) (entry .pre .8) (c .before .before .before .before .before .before .before .before .before .before .tail .ensures) (c .before .before .before .before .before .before .before .before .add .ensures)
+    pair-corrected _ (entry .pre .0) step (entry .pre .2) (entry .pre .8) (c .before .before .before .before .before .before .before .before .before .before .tail .ensures) (c .before .before .before .before .before .before .before .before .add .ensures)
     (c .before .before .before .before .before .before .multiply .ensures) (c .before .before .subtract-multiple .ensures) (c .before .before .before .before .before .if2 .taken)
 
 exchange-requires : tie.Need-exchange-requires
@@ -84,8 +84,8 @@ returns-3 : tie.Need-returns-3
 returns-3 c =
     let entry = c .before .before .before .before .before .before .before .before .before .before .before .before .before .before .before .before .before .before .before .before .before .before in
     let step : suc (entry .args .next - 1) ≡ entry .args .next = omega arith in
-    subst (Placed _ _ _ _ _ _ _) (sym (c .before .before .before .before .before .before .before .exchange .ensures .1))
-    (placed-lengthened _ (entry .pre .0) step (entry .pre .2) (entry .pre .8) (c .before .before .before .before .before .before .before .before .before .before .before .before .before .before .before .before .tail .ensures) (c .before .before .before .before .before .before .before .before .before .before .before .before .before .before .add .ensures)
+    subst (LocatorPair _ _ _ _ _ _ _) (sym (c .before .before .before .before .before .before .before .exchange .ensures .1))
+    (pair-lengthened _ (entry .pre .0) step (entry .pre .2) (entry .pre .8) (c .before .before .before .before .before .before .before .before .before .before .before .before .before .before .before .before .tail .ensures) (c .before .before .before .before .before .before .before .before .before .before .before .before .before .before .add .ensures)
     (c .before .before .before .before .before .before .before .before .before .before .before .before .multiply .ensures) (c .before .before .before .before .before .before .before .exchange .ensures .0) (c .before .before .before .before .before .before .before .before .before .before .before .if2 .left) (c .before .before .before .before .before .before .before .before .before .before .before .before .before .if1 .left) (c .inverse .ensures))
 
 pub advance-spec : {M : Type 1} → statement M

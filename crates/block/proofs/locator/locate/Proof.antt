@@ -3,18 +3,18 @@ use mathlib.Core.Path.{_≡_, _∙_}
 use Prim.Native.Nat.{_≤_, _<_, _+_, _-_}
 use native.Mathlib.Omega.{arith}
 use lib.ListN.{length}
-use Rattle.block.specs.parts.Progress.{Placed}
-use Rattle.block.proofs.Placing.{placed-start}
+use Rattle.block.specs.parts.LocatorAreas.{LocatorPair}
+use Rattle.block.proofs.LocatorPair.{pair-start}
 use Rattle.block.proofs.locator.locate.Statement.{statement}
 use Rattle.block.proofs.locator.locate.Tie as tie
 
 abbrev Inv-loop : tie.InvT-loop
-Inv-loop q products series known locator₀ former₀ spare₀ progress₀ next₀ locator former spare progress next =
+Inv-loop q products series known locator₀ former₀ spare₀ progress₀ next₀ locator former spare state next =
     (0 < next) × (next ≤ known) × (length locator ≡ length series) × (length former ≡ length series) × (length spare ≡ length series)
-    × Placed q series (next - 1) (progress .degree) (progress .place) (progress .scale) locator former
+    × LocatorPair q series (next - 1) (state .degree) (state .place) (state .scale) locator former
 
 abbrev μ-loop : tie.MeasureT-loop
-μ-loop q products series known locator₀ former₀ spare₀ progress₀ next₀ locator former spare progress next = known - next
+μ-loop q products series known locator₀ former₀ spare₀ progress₀ next₀ locator former spare state next = known - next
 
 unit-requires : tie.Need-unit-requires Inv-loop μ-loop
 unit-requires c κs = let p = c .before .before .before .before .before .pre in omega (arith, p .4, p .5, p .6)
@@ -30,7 +30,7 @@ loop-holds c =
       c .before .before .before .before .before .before .unit .kept .0 ∙ p .6,
       c .before .before .unit2 .kept .0 ∙ p .7,
       p .8,
-      placed-start _ (p .0) (p .2) (p .3) (c .before .before .before .before .before .before .unit .ensures) (c .before .before .unit2 .ensures),
+      pair-start _ (p .0) (p .2) (p .3) (c .before .before .before .before .before .before .unit .ensures) (c .before .before .unit2 .ensures),
     )
 
 advance-requires : tie.Need-advance-requires Inv-loop μ-loop
@@ -71,7 +71,7 @@ returns : tie.Need-returns Inv-loop μ-loop
 returns c =
     let l = c .before .loop in
     let done : l .next ≡ c .before .before .before .before .before .before .before .before .before .before .before .before .before .before .args .known = omega arith in
-    record { place = _; scale = _; placed = rw done at (l .inv .5) }
+    record { place = _; scale = _; pair = rw done at (l .inv .5) }
 
 pub locate-spec : {M : Type 1} → statement M
 locate-spec =

@@ -3,7 +3,7 @@ use mathlib.Core.Path.{_≡_, refl}
 use Prim.Native.Nat.{_≤_, _-_, _+_}
 use native.Mathlib.Omega.{arith}
 use lib.ListN.{length, length-set}
-use Rattle.block.specs.parts.Progress.{Multiple}
+use Rattle.block.specs.parts.LocatorAreas.{Multiple}
 use Rattle.block.proofs.Multiples.{multiple-none, multiple-more}
 use Rattle.block.proofs.locator.subtract_multiple.Statement.{statement}
 use Rattle.block.proofs.locator.subtract_multiple.Tie as tie

@@ -5,7 +5,7 @@ use Prim.Native.Nat.{ℕ, _-_}
 use native.Mathlib.Omega.{arith}
 use denote.Ref.{now}
 use lib.ListN.{length, take}
-use Rattle.desk.specs.parts.Reading.{Within, Holds, Reached}
+use Rattle.desk.specs.parts.Lines.{Within, Holds, Reached}
 use Rattle.desk.proofs.Texts.{reached-none, reached-all}
 use Rattle.desk.proofs.lines.answer_lines.Statement.{statement}
 use Rattle.desk.proofs.lines.answer_lines.Tie as tie

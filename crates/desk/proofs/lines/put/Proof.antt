@@ -5,7 +5,7 @@ use borrow.Author.Needs.{needs}
 use denote.Ref.{now}
 use lib.ListN.{length, take, drop, length-drop}
 use lib.Seq.{length-take-le}
-use Rattle.line.specs.Answering.{working}
+use Rattle.line.specs.Answering.{lineAreas}
 use Rattle.line.proofs.Frames.{answered-shown}
 use Rattle.desk.specs.Turns.{answersRoom}
 use Rattle.desk.proofs.Texts.{answer-few, put-behind}
@@ -46,7 +46,7 @@ returns c =
     let done = answered .answer-line in
     let room = length (now (a .output)) - a .filled in
     let rest = drop (a .filled) (now (a .output)) in
-    let after = working (done .last .1 .0) (done .last .1 .1 .0) (done .last .1 .1 .1 .0) in
+    let after = lineAreas (done .last .1 .0) (done .last .1 .1 .0) (done .last .1 .1 .1 .0) in
     put-behind (now (a .line)) (now (a .output)) (take room rest) (done .last .1 .1 .1 .1 .0) (a .filled) room (done .result) (entry .pre .0)
     (length-take-le room rest (omega (arith, length-drop (a .filled) (now (a .output)))))
     (answered-shown _ _ _ _ after _ (entry .pre .1) (done .ensures)) (omega (arith, few answered, entry .pre .0))

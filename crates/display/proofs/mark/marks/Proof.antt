@@ -3,8 +3,8 @@ use mathlib.Core.Path.{_≡_, sym, ap, _∙_}
 use native.Mathlib.Omega.{arith}
 use denote.Ref.{now}
 use lib.ListN.{length}
-use Rattle.question.proofs.Answers.{WindowYes, marks-yes}
-use Rattle.display.proofs.Windows.{Window, window-yes, marked-refused, marked-found}
+use Rattle.question.proofs.Questions.{WindowYes, marks-yes}
+use Rattle.display.proofs.Display.{Window, window-yes, marked-refused, marked-found}
 use Rattle.display.proofs.mark.marks.Statement.{statement}
 use Rattle.display.proofs.mark.marks.Tie as tie
 

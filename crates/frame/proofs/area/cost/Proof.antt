@@ -7,7 +7,7 @@ use denote.Ref.{now}
 use lib.ListN.{length}
 use Rattle.code.proofs.Cost.{cost-count}
 use Rattle.block.specs.parts.Area.{at}
-use Rattle.frame.proofs.Levels.{few}
+use Rattle.frame.proofs.RebuiltCost.{few}
 use Rattle.frame.proofs.area.cost.Statement.{statement}
 use Rattle.frame.proofs.area.cost.Tie as tie
 

@@ -5,18 +5,18 @@ use native.Mathlib.Omega.{arith}
 use denote.Ref.{now}
 use lib.ListN.{getD}
 use Rattle.field.proofs.Symbols.{symbol-below}
-use Rattle.code.proofs.Numbers.{positive}
+use Rattle.code.proofs.CodeBelow.{positive}
 use Rattle.code.proofs.Settings.{sizes}
 use Rattle.frame.proofs.Guesses.{Adding, adding-none, adding-zero, adding-more, adding-all, added-past}
 use Rattle.frame.proofs.guess.add_block.Statement.{statement}
 use Rattle.frame.proofs.guess.add_block.Tie as tie
 
 abbrev Inv-loop : tie.InvT-loop
-Inv-loop p products rows blocks i information from message₀ left₀ k next₀ message left next =
-    (next ≤ p .k) × Adding p blocks i (λ r. getD information (from + r) 0) next message₀ left₀ message left
+Inv-loop p products rows blocks i information from message₀ residual₀ k next₀ message residual next =
+    (next ≤ p .k) × Adding p blocks i (λ r. getD information (from + r) 0) next message₀ residual₀ message residual
 
 abbrev μ-loop : tie.MeasureT-loop
-μ-loop p products rows blocks i information from message₀ left₀ k next₀ message left next = p .k - next
+μ-loop p products rows blocks i information from message₀ residual₀ k next₀ message residual next = p .k - next
 
 returns : tie.Need-returns Inv-loop μ-loop
 returns c =

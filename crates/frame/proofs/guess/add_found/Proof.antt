@@ -12,10 +12,10 @@ use Rattle.frame.proofs.guess.add_found.Statement.{statement}
 use Rattle.frame.proofs.guess.add_found.Tie as tie
 
 abbrev Inv-loop : tie.InvT-loop
-Inv-loop p products rows blocks j information found message₀ left₀ k a₀ message left a = (1 ≤ a) × Revised p blocks (j + 1) message₀ left₀ message left
+Inv-loop p products rows blocks j information found message₀ residual₀ k a₀ message residual a = (1 ≤ a) × Revised p blocks (j + 1) message₀ residual₀ message residual
 
 abbrev μ-loop : tie.MeasureT-loop
-μ-loop p products rows blocks j information found message₀ left₀ k a₀ message left a = found - a
+μ-loop p products rows blocks j information found message₀ residual₀ k a₀ message residual a = found - a
 
 add-block-requires : tie.Need-add-block-requires Inv-loop μ-loop
 add-block-requires c κs =
@@ -31,7 +31,7 @@ add-add-block : tie.Need-add-add-block Inv-loop μ-loop
 add-add-block c =
     let entry = c .before .before .before .before .before .before .before .before .before .before .before .before .before in
     let a = entry .args in
-    omega (arith, blocks-few (a .p) (entry .pre .0 .sound) (a .blocks) (now (a .message)) (now (a .left)) (entry .pre .5), entry .pre .2, entry .pre .4)
+    omega (arith, blocks-few (a .p) (entry .pre .0 .sound) (a .blocks) (now (a .message)) (now (a .residual)) (entry .pre .5), entry .pre .2, entry .pre .4)
 
 mul-add-block : tie.Need-mul-add-block Inv-loop μ-loop
 mul-add-block c =
@@ -62,7 +62,7 @@ returns : tie.Need-returns Inv-loop μ-loop
 returns c =
     let a = c .before .before .before .before .before .before .before .before .before .before .before .before .before .args in
     let from-start = fun-ext (λ (r : ℕ). ap (λ (t : ℕ). getD (now (a .information)) t 0) (zero-add r)) in
-    added-then (subst (λ (x : ℕ → ℕ). Added (a .p) (a .blocks) (a .j) x (now (a .message)) (now (a .left)) (c .before .before .before .before .before .before .add-block .last .1 .1 .1 .1 .1 .1 .1 .0) (c .before .before .before .before .before .before .add-block .last .1 .1 .1 .1 .1 .1 .1 .1 .0)) from-start (c .before .before .before .before .before .before .add-block .ensures)) (c .before .loop .inv .1) (omega arith)
+    added-then (subst (λ (x : ℕ → ℕ). Added (a .p) (a .blocks) (a .j) x (now (a .message)) (now (a .residual)) (c .before .before .before .before .before .before .add-block .last .1 .1 .1 .1 .1 .1 .1 .0) (c .before .before .before .before .before .before .add-block .last .1 .1 .1 .1 .1 .1 .1 .1 .0)) from-start (c .before .before .before .before .before .before .add-block .ensures)) (c .before .loop .inv .1) (omega arith)
 
 pub add-found-spec : {M : Type 1} → statement M
 add-found-spec =

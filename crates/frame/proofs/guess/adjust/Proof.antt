@@ -1,4 +1,4 @@
--- `frame::guess::adjust`: one symbol of the message, and one window of what is left.
+-- `frame::guess::adjust`: one symbol of the message, and one window of the residual.
 use mathlib.Core.Path.{ap, _∙_}
 use Prim.Native.Nat.{_+_, _*_, _≤_, _<_}
 use native.Mathlib.Omega.{arith}
@@ -9,21 +9,21 @@ use Rattle.code.proofs.Settings.{sizes}
 use Rattle.field.specs.Fields.{opsOf}
 use Rattle.field.proofs.Symbols.{symbol-below, symbols-part}
 use Rattle.code.specs.Windows.{windowLength}
-use Rattle.code.proofs.Numbers.{laws, positive}
+use Rattle.code.proofs.CodeBelow.{laws, positive}
 use Rattle.tables.proofs.Parts.{part-length}
 use Rattle.frame.proofs.Guesses.{window-room, symbol-room, adjusted}
 use Rattle.frame.proofs.guess.adjust.Statement.{statement}
 use Rattle.frame.proofs.guess.adjust.Tie as tie
 
-room : (c : tie.Start) → c .args .i * c .args .p .n + windowLength (c .args .p) ≤ length (now (c .args .left))
+room : (c : tie.Start) → c .args .i * c .args .p .n + windowLength (c .args .p) ≤ length (now (c .args .residual))
 room c =
     let a = c .args in
-    window-room (a .p) (a .blocks) (a .i) (now (a .message)) (now (a .left)) (c .pre .4) (c .pre .1)
+    window-room (a .p) (a .blocks) (a .i) (now (a .message)) (now (a .residual)) (c .pre .4) (c .pre .1)
 
 inside : (c : tie.Start) → c .args .i * c .args .p .k + c .args .r < length (now (c .args .message))
 inside c =
     let a = c .args in
-    symbol-room (a .p) (a .blocks) (a .i) (a .r) (now (a .message)) (now (a .left)) (c .pre .4) (c .pre .1) (c .pre .2)
+    symbol-room (a .p) (a .blocks) (a .i) (a .r) (now (a .message)) (now (a .residual)) (c .pre .4) (c .pre .1) (c .pre .2)
 
 mul-place : tie.Need-mul-place
 mul-place c = omega (arith, inside (c .before .before .before .before))
@@ -74,8 +74,8 @@ add-rows-requires c κs =
       entry .pre .0,
       entry .pre .2,
       c .before .negate .ensures .below,
-      part-length (windowLength (a .p)) (a .i * a .p .n) (now (a .left)) (room entry),
-      symbols-part (a .p .q) (a .i * a .p .n) (a .i * a .p .n + windowLength (a .p)) (now (a .left)) (entry .pre .4 .left-symbols),
+      part-length (windowLength (a .p)) (a .i * a .p .n) (now (a .residual)) (room entry),
+      symbols-part (a .p .q) (a .i * a .p .n) (a .i * a .p .n + windowLength (a .p)) (now (a .residual)) (entry .pre .4 .residual-symbols),
     )
 
 returns : tie.Need-returns
@@ -83,7 +83,7 @@ returns c =
     let entry = c .before .before .before .before .before .before .before .before .before .before .before .before in
     let a = entry .args in
     let less = c .before .before .before .before .negate in
-    adjusted (a .p) (entry .pre .0 .sound) (a .blocks) (a .i) (a .r) (a .v) (now (a .message)) (now (a .left)) (entry .pre .4) (entry .pre .1) (entry .pre .2) (entry .pre .3)
+    adjusted (a .p) (entry .pre .0 .sound) (a .blocks) (a .i) (a .r) (a .v) (now (a .message)) (now (a .residual)) (entry .pre .4) (entry .pre .1) (entry .pre .2) (entry .pre .3)
     (c .before .before .before .before .before .add .result) (c .before .before .before .before .before .add .ensures .same)
     (less .result) (less .ensures .below)
     (ap (opsOf (a .p .q) .add (a .v)) (less .ensures .same) ∙ laws (a .p) (entry .pre .0 .sound) .plus-neg (a .v) (entry .pre .3))

@@ -20,7 +20,7 @@ is-light-requires : tie.Need-is-light-requires
 is-light-requires c κs =
     let entry = c .before .before .before .before .before in
     let a = entry .args in
-    (entry .pre .0 .sound, block-room (a .p) (a .blocks) (a .i) (now (a .message)) (now (a .left)) (entry .pre .2) (some (c .before)))
+    (entry .pre .0 .sound, block-room (a .p) (a .blocks) (a .i) (now (a .message)) (now (a .residual)) (entry .pre .2) (some (c .before)))
 
 returns-2 : tie.Need-returns-2
 returns-2 c = search needs

@@ -1,10 +1,10 @@
--- `frame::guess::guess_from`: whatever is guessed, what is left stays the residual.
+-- `frame::guess::guess_from`: whatever is guessed, the residual stays the residual.
 use Prim.Native.Nat.{_+_, _-_, _*_, _≤_, _<_}
 use native.Mathlib.Omega.{arith}
 use denote.Ref.{now}
 use lib.ListN.{length}
 use Rattle.field.proofs.Symbols.{symbol-below}
-use Rattle.code.proofs.Numbers.{positive}
+use Rattle.code.proofs.CodeBelow.{positive}
 use Rattle.code.proofs.Settings.{sizes}
 use Rattle.frame.specs.parts.Frame.{Revised}
 use Rattle.frame.proofs.Guesses.{revised-none, revised-then, block-room}
@@ -12,17 +12,17 @@ use Rattle.frame.proofs.guess.guess_from.Statement.{statement}
 use Rattle.frame.proofs.guess.guess_from.Tie as tie
 
 abbrev Inv-loop : tie.InvT-loop
-Inv-loop p products rows scale first down blocks i message₀ left₀ q k start turn₀ message left turn =
-    (turn ≤ p .k) × Revised p blocks i message₀ left₀ message left
+Inv-loop p products rows scale first down blocks i message₀ residual₀ q k start turn₀ message residual turn =
+    (turn ≤ p .k) × Revised p blocks i message₀ residual₀ message residual
 
 abbrev μ-loop : tie.MeasureT-loop
-μ-loop p products rows scale first down blocks i message₀ left₀ q k start turn₀ message left turn = p .k - turn
+μ-loop p products rows scale first down blocks i message₀ residual₀ q k start turn₀ message residual turn = p .k - turn
 
 -- Block i is there.
-room : (c : tie.Start Inv-loop μ-loop) → c .args .i * c .args .p .n + c .args .p .n ≤ length (now (c .args .left))
+room : (c : tie.Start Inv-loop μ-loop) → c .args .i * c .args .p .n + c .args .p .n ≤ length (now (c .args .residual))
 room c =
     let a = c .args in
-    block-room (a .p) (a .blocks) (a .i) (now (a .message)) (now (a .left)) (c .pre .4) (c .pre .3)
+    block-room (a .p) (a .blocks) (a .i) (now (a .message)) (now (a .residual)) (c .pre .4) (c .pre .3)
 
 mul-start : tie.Need-mul-start Inv-loop μ-loop
 mul-start c = omega (arith, room (c .before .before .before .before))
@@ -36,12 +36,12 @@ loop-holds c = (omega arith, revised-none (c .before .before .before .before .pr
 -- The symbol that is taken is there.
 inside : (c : tie.After-taken Inv-loop μ-loop)
     → let a = c .before .before .before .before .before .before .before .args in
-    a .i * a .p .n + a .first + c .taken .result < length (c .before .before .loop .left)
+    a .i * a .p .n + a .first + c .taken .result < length (c .before .before .loop .residual)
 inside c =
     let entry = c .before .before .before .before .before .before .before in
     let a = entry .args in
     let l = c .before .before .loop in
-    omega (arith, block-room (a .p) (a .blocks) (a .i) (l .message) (l .left) (l .inv .1 .areas) (entry .pre .3), entry .pre .2, c .taken .ensures)
+    omega (arith, block-room (a .p) (a .blocks) (a .i) (l .message) (l .residual) (l .inv .1 .areas) (entry .pre .3), entry .pre .2, c .taken .ensures)
 
 add-multiply : tie.Need-add-multiply Inv-loop μ-loop
 add-multiply c = omega (arith, inside c, c .before .before .before .before .before .before .before .pre .4, c .before .before .loop .inv .1 .areas)
@@ -57,7 +57,7 @@ multiply-requires c κs =
       entry .pre .0 .sound .good,
       entry .pre .0 .products,
       entry .pre .1,
-      symbol-below (a .p .q) (l .left) (l .inv .1 .areas .left-symbols) (positive (a .p) (entry .pre .0 .sound))
+      symbol-below (a .p .q) (l .residual) (l .inv .1 .areas .residual-symbols) (positive (a .p) (entry .pre .0 .sound))
           (a .i * a .p .n + a .first + c .before .taken .result),
     )
 

@@ -9,10 +9,10 @@ use Rattle.frame.proofs.guess.guess_window.Statement.{statement}
 use Rattle.frame.proofs.guess.guess_window.Tie as tie
 
 abbrev Inv-loop : tie.InvT-loop
-Inv-loop p products rows scale blocks j message₀ left₀ m s₀ message left s = Revised p blocks j message₀ left₀ message left
+Inv-loop p products rows scale blocks j message₀ residual₀ m s₀ message residual s = Revised p blocks j message₀ residual₀ message residual
 
 abbrev μ-loop : tie.MeasureT-loop
-μ-loop p products rows scale blocks j message₀ left₀ m s₀ message left s = m + 1 - s
+μ-loop p products rows scale blocks j message₀ residual₀ m s₀ message residual s = m + 1 - s
 
 loop-holds : tie.Need-loop-holds Inv-loop μ-loop
 loop-holds c =
@@ -22,7 +22,7 @@ add-guess-block : tie.Need-add-guess-block Inv-loop μ-loop
 add-guess-block c =
     let entry = c .before .before .before .before .before in
     let a = entry .args in
-    omega (arith, blocks-few (a .p) (entry .pre .0 .sound) (a .blocks) (now (a .message)) (now (a .left)) (entry .pre .3), entry .pre .2)
+    omega (arith, blocks-few (a .p) (entry .pre .0 .sound) (a .blocks) (now (a .message)) (now (a .residual)) (entry .pre .3), entry .pre .2)
 
 guess-block-requires : tie.Need-guess-block-requires Inv-loop μ-loop
 guess-block-requires c κs = (c .before .before .before .before .before .before .before .pre .0, c .before .before .before .before .before .before .before .pre .1, c .before .before .before .loop .inv .areas)

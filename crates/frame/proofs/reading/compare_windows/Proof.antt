@@ -17,24 +17,24 @@ use Rattle.frame.proofs.reading.compare_windows.Tie as tie
 
 -- What the window of this size from block j on costs against zeros.
 abbrev costAt : ℕ → ℕ → ℕ → List ℕ → ℕ → ℕ
-costAt q n size left j = zeroCost q (take size (drop (j * n) left))
+costAt q n size residual j = zeroCost q (take size (drop (j * n) residual))
 
 abbrev Inv-loop : tie.InvT-loop
-Inv-loop blocks left bound n size start₀ j₀ start j = (j ≤ blocks) × (start ≡ j * n) × ((q i : ℕ) → i < j → costAt q n size left i < bound)
+Inv-loop blocks residual bound n size start₀ j₀ start j = (j ≤ blocks) × (start ≡ j * n) × ((q i : ℕ) → i < j → costAt q n size residual i < bound)
 
 abbrev μ-loop : tie.MeasureT-loop
-μ-loop blocks left bound n size start₀ j₀ start j = blocks - j
+μ-loop blocks residual bound n size start₀ j₀ start j = blocks - j
 
--- A window of an information block lies within what is left.
+-- A window of an information block lies within the residual.
 inside : (T m n size long j : ℕ) → size ≡ (m + 1) * n → long ≡ (T + m) * n → j < T → j * n + size ≤ long
 inside T m n size long j e f l =
     let top : j + (m + 1) ≤ T + m = omega arith in
     omega (arith, mul-le-mul-right n top)
 
-window-room : (c : tie.In-loop Inv-loop μ-loop) → c .before .loop .start + windowLength (c .before .before .before .before .args .p) ≤ length (now (c .before .before .before .before .args .left))
+window-room : (c : tie.In-loop Inv-loop μ-loop) → c .before .loop .start + windowLength (c .before .before .before .before .args .p) ≤ length (now (c .before .before .before .before .args .residual))
 window-room c =
     let a = c .before .before .before .before .args in
-    omega (arith, inside (a .blocks) (a .p .m) (a .p .n) (windowLength (a .p)) (length (now (a .left))) (c .before .loop .j) refl (c .before .before .before .before .pre .2) (c .loop-test .taken), c .before .loop .inv .1)
+    omega (arith, inside (a .blocks) (a .p .m) (a .p .n) (windowLength (a .p)) (length (now (a .residual))) (c .before .loop .j) refl (c .before .before .before .before .pre .2) (c .loop-test .taken), c .before .loop .inv .1)
 
 add-size : tie.Need-add-size Inv-loop μ-loop
 add-size c = let entry = c .before .before in omega (arith, sizes (entry .args .p) (entry .pre .0) .memory-most)
@@ -65,12 +65,12 @@ cost-requires : tie.Need-cost-requires Inv-loop μ-loop
 cost-requires c κs = tt
 
 -- The cost that was counted is the window's.
-counted : (q : ℕ) (c : tie.After-cost Inv-loop μ-loop) → c .cost .result ≡ costAt q (c .before .before .before .before .before .before .args .p .n) (windowLength (c .before .before .before .before .before .before .args .p)) (now (c .before .before .before .before .before .before .args .left)) (c .before .before .before .loop .j)
+counted : (q : ℕ) (c : tie.After-cost Inv-loop μ-loop) → c .cost .result ≡ costAt q (c .before .before .before .before .before .before .args .p .n) (windowLength (c .before .before .before .before .before .before .args .p)) (now (c .before .before .before .before .before .before .args .residual)) (c .before .before .before .loop .j)
 counted q c =
     let a = c .before .before .before .before .before .before .args in
     c .cost .ensures q
-    ∙ ap (λ (t : ℕ). zeroCost q (take t (drop (c .before .before .before .loop .start) (now (a .left))))) (part-size (windowLength (a .p)) (c .before .before .before .loop .start) (now (a .left)))
-    ∙ ap (λ (t : ℕ). zeroCost q (take (windowLength (a .p)) (drop t (now (a .left))))) (c .before .before .before .loop .inv .1)
+    ∙ ap (λ (t : ℕ). zeroCost q (take t (drop (c .before .before .before .loop .start) (now (a .residual))))) (part-size (windowLength (a .p)) (c .before .before .before .loop .start) (now (a .residual)))
+    ∙ ap (λ (t : ℕ). zeroCost q (take (windowLength (a .p)) (drop t (now (a .residual))))) (c .before .before .before .loop .inv .1)
 
 returns : tie.Need-returns Inv-loop μ-loop
 returns c =
@@ -92,11 +92,11 @@ loop-again c =
     let l = c .before .before .before .before .loop in
     (omega arith, omega (arith, l .inv .1), λ q i u. more q i u (decLt i (l .j)))
   where
-    more : (q i : ℕ) → i < c .before .before .before .before .loop .j + 1 → Dec (i < c .before .before .before .before .loop .j) → costAt q (c .before .before .before .before .before .before .before .args .p .n) (windowLength (c .before .before .before .before .before .before .before .args .p)) (now (c .before .before .before .before .before .before .before .args .left)) i < c .before .before .before .before .before .before .before .args .bound
+    more : (q i : ℕ) → i < c .before .before .before .before .loop .j + 1 → Dec (i < c .before .before .before .before .loop .j) → costAt q (c .before .before .before .before .before .before .before .args .p .n) (windowLength (c .before .before .before .before .before .before .before .args .p)) (now (c .before .before .before .before .before .before .before .args .residual)) i < c .before .before .before .before .before .before .before .args .bound
     more q i u (yes h) = c .before .before .before .before .loop .inv .2 q i h
     more q i u (no d) =
         let here : c .before .before .before .before .loop .j ≡ i = omega arith in
-        subst (λ (t : ℕ). costAt q (c .before .before .before .before .before .before .before .args .p .n) (windowLength (c .before .before .before .before .before .before .before .args .p)) (now (c .before .before .before .before .before .before .before .args .left)) t < c .before .before .before .before .before .before .before .args .bound) here
+        subst (λ (t : ℕ). costAt q (c .before .before .before .before .before .before .before .args .p .n) (windowLength (c .before .before .before .before .before .before .before .args .p)) (now (c .before .before .before .before .before .before .before .args .residual)) t < c .before .before .before .before .before .before .before .args .bound) here
         (omega (arith, c .if1 .left, counted q (c .before)))
 
 returns-2 : tie.Need-returns-2 Inv-loop μ-loop

@@ -26,7 +26,7 @@ read-windows-requires c κs =
       c .before .before .before .before .before .before .before .before .before .before .before .before .before .before .distances-to .ensures,
       entry .pre .2,
       entry .pre .3,
-      begin _ (entry .pre .0 .sound) _ _ (now (a .left)) _ (now (a .message)) _
+      begin _ (entry .pre .0 .sound) _ _ (now (a .residual)) _ (now (a .message)) _
           (entry .pre .3) (entry .pre .2) (entry .pre .4) (c .before .before .before .before .before .before .before .before .before .before .before .before .clear .ensures) (entry .pre .5) (c .before .before .before .before .before .before .before .before .copy .ensures .1),
       entry .pre .6,
     )
@@ -40,7 +40,7 @@ compare-windows-requires : tie.Need-compare-windows-requires
 compare-windows-requires c κs =
     let entry = c .before .before .before .before .before .before .before .before .before .before .before .before .before .before .before .before .before .before .before .before .before .before .before .before .before .before .before .before .before .before .before .before .before .before .before .before .before .before in
     let windows = c .before .before .before .before .before .before .before .before .before .before .before .before .before .before .read-windows in
-    (entry .pre .0 .sound, c .before .before .before .before .before .before .before .before .before .before .before .before .before .before .before .before .before .before .before .before .before .before .before .before .before .before .before .before .before .distances-to .ensures, (advance-more (windows .ensures) (c .before .if1 .left)) .areas .left-long)
+    (entry .pre .0 .sound, c .before .before .before .before .before .before .before .before .before .before .before .before .before .before .before .before .before .before .before .before .before .before .before .before .before .before .before .before .before .distances-to .ensures, (advance-more (windows .ensures) (c .before .if1 .left)) .areas .residual-long)
 
 returns-2 : tie.Need-returns-2
 returns-2 c =

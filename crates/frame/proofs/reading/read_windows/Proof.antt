@@ -6,20 +6,20 @@ use native.Mathlib.Omega.{arith}
 use denote.Ref.{now}
 use lib.ListN.{length}
 use Rattle.tables.proofs.Places.{first-place}
-use Rattle.block.proofs.Working.{working-kept}
-use Rattle.frame.specs.parts.Frame.{Progress, advanced}
-use Rattle.frame.proofs.Progress.{progress-revised}
+use Rattle.block.proofs.BlockAreas.{block-areas-kept}
+use Rattle.frame.specs.parts.Frame.{Settled, advanced}
+use Rattle.frame.proofs.Settled.{settled-revised}
 use Rattle.frame.proofs.Advance.{advance-more, advance-stopped}
 use Rattle.frame.proofs.reading.read_windows.Statement.{statement}
 use Rattle.frame.proofs.reading.read_windows.Tie as tie
 
 abbrev Inv-loop : tie.InvT-loop
-Inv-loop p products rows bound blocks reception message₀ left₀ series₀ locator₀ values₀ information₀ scale j₀ message left series locator values information j =
-    Progress p blocks reception j message left × (j ≤ blocks)
+Inv-loop p products rows bound blocks reception message₀ residual₀ series₀ locator₀ values₀ information₀ scale j₀ message residual series locator values information j =
+    Settled p blocks reception j message residual × (j ≤ blocks)
     × (length series ≡ length series₀) × (length locator ≡ length locator₀) × (length values ≡ length values₀) × (length information ≡ length information₀)
 
 abbrev μ-loop : tie.MeasureT-loop
-μ-loop p products rows bound blocks reception message₀ left₀ series₀ locator₀ values₀ information₀ scale j₀ message left series locator values information j = blocks - j
+μ-loop p products rows bound blocks reception message₀ residual₀ series₀ locator₀ values₀ information₀ scale j₀ message residual series locator values information j = blocks - j
 
 shared-slice-read-inverse : tie.Need-shared-slice-read-inverse Inv-loop μ-loop
 shared-slice-read-inverse c = let entry = c .before .before .before .before .before .before .before .before .before in first-place (entry .args .p) (entry .pre .0 .sound) (now (entry .args .rows)) (entry .pre .0 .rows) .0
@@ -49,9 +49,9 @@ settle-requires c κs =
       entry .pre .2,
       entry .pre .3,
       c .before .before .before .before .before .before .before .before .before .before .before .before .before .loop-test .taken,
-      progress-revised (a .p) (entry .pre .0 .sound) (a .blocks) (now (a .reception)) (entry .pre .3) (entry .pre .2) (l .j) (l .message) (l .left) (l .inv .0)
+      settled-revised (a .p) (entry .pre .0 .sound) (a .blocks) (now (a .reception)) (entry .pre .3) (entry .pre .2) (l .j) (l .message) (l .residual) (l .inv .0)
           (l .j) (guessed .last .1 .1 .1 .1 .1 .1 .0) (guessed .last .1 .1 .1 .1 .1 .1 .1 .0) (omega arith) (guessed .ensures),
-      working-kept (entry .pre .5) (l .inv .2) (l .inv .3) (l .inv .4) (l .inv .5),
+      block-areas-kept (entry .pre .5) (l .inv .2) (l .inv .3) (l .inv .4) (l .inv .5),
     )
 
 same-length : tie.Need-same-length Inv-loop μ-loop
@@ -105,7 +105,7 @@ returns-2 : tie.Need-returns-2 Inv-loop μ-loop
 returns-2 c =
     let a = c .before .before .before .before .before .before .before .before .before .before .before .before .args in
     let done : c .before .loop .j ≡ a .blocks = omega arith in
-    advanced (subst (λ (t : ℕ). Progress (a .p) (a .blocks) (now (a .reception)) t (c .before .loop .message) (c .before .loop .left)) done (c .before .loop .inv .0))
+    advanced (subst (λ (t : ℕ). Settled (a .p) (a .blocks) (now (a .reception)) t (c .before .loop .message) (c .before .loop .residual)) done (c .before .loop .inv .0))
 
 pub read-windows-spec : {M : Type 1} → statement M
 read-windows-spec =

@@ -8,17 +8,17 @@ use Rattle.code.specs.Windows.{windowLength}
 use Rattle.code.proofs.Settings.{sizes}
 use Rattle.tables.proofs.Parts.{part-length}
 use Rattle.frame.proofs.Guesses.{window-room}
-use Rattle.frame.proofs.Turn.{levels-below, levels-few}
+use Rattle.frame.proofs.Turn.{search-below, search-few}
 use Rattle.frame.proofs.Advance.{advance-clean, advance-none, advance-found}
 use borrow.Author.Needs.{needs}
 use Rattle.frame.proofs.reading.settle.Statement.{statement}
 use Rattle.frame.proofs.reading.settle.Tie as tie
 
--- The window lies within what is left.
-room : (c : tie.Start) → c .args .j * c .args .p .n + windowLength (c .args .p) ≤ length (now (c .args .left))
+-- The window lies within the residual.
+room : (c : tie.Start) → c .args .j * c .args .p .n + windowLength (c .args .p) ≤ length (now (c .args .residual))
 room c =
     let a = c .args in
-    window-room (a .p) (a .blocks) (a .j) (now (a .message)) (now (a .left)) (c .pre .5 .areas) (c .pre .4)
+    window-room (a .p) (a .blocks) (a .j) (now (a .message)) (now (a .residual)) (c .pre .5 .areas) (c .pre .4)
 
 mul-start : tie.Need-mul-start
 mul-start c = omega (arith, room (c .before .before .before .before .before .before .before .before .before))
@@ -48,7 +48,7 @@ returns : tie.Need-returns
 returns c =
     let entry = c .before .before .before .before .before .before .before .before .before .before .before .before .before .before .before in
     let a = entry .args in
-    advance-clean (entry .pre .0 .sound) (entry .pre .3) (entry .pre .2) (entry .pre .5) (entry .pre .4) (part-length (windowLength (a .p)) (a .j * a .p .n) (now (a .left)) (room entry)) (c .before .cost .ensures (a .p .q)) (omega (arith, c .if1 .taken, entry .pre .1))
+    advance-clean (entry .pre .0 .sound) (entry .pre .3) (entry .pre .2) (entry .pre .5) (entry .pre .4) (part-length (windowLength (a .p)) (a .j * a .p .n) (now (a .residual)) (room entry)) (c .before .cost .ensures (a .p .q)) (omega (arith, c .if1 .taken, entry .pre .1))
 
 sub-find-level : tie.Need-sub-find-level
 sub-find-level c = search needs
@@ -64,8 +64,8 @@ find-level-requires c κs =
     let entry = c .before .before .before .before .before .before .before .before .before .before .before .before .before .before .before .before .before .before .before .before .before in
     let a = entry .args in (
       entry .pre .0,
-      part-length (windowLength (a .p)) (a .j * a .p .n) (now (a .left)) (room entry),
-      symbols-part (a .p .q) (a .j * a .p .n) (a .j * a .p .n + windowLength (a .p)) (now (a .left)) (entry .pre .5 .areas .left-symbols),
+      part-length (windowLength (a .p)) (a .j * a .p .n) (now (a .residual)) (room entry),
+      symbols-part (a .p .q) (a .j * a .p .n) (a .j * a .p .n + windowLength (a .p)) (now (a .residual)) (entry .pre .5 .areas .residual-symbols),
       entry .pre .6,
     )
 
@@ -78,10 +78,10 @@ add-found-requires : tie.Need-add-found-requires
 add-found-requires c κs =
     let entry = c .before .before .before .before .before .before .before .before .before .before .before .before .before .before .before .before .before .before .before .before .before .before .before .before .before .before .before .before .before .before .before .before .before .before in
     let found = c .before .before .before .before .before .before .before .before .before .before .before .before .find-level in
-    let below = levels-below (found .ensures) (c .before .before .before .if2 .left) in (
+    let below = search-below (found .ensures) (c .before .before .before .if2 .left) in (
       entry .pre .0,
       record { below = λ i l. below i },
-      levels-few (found .ensures),
+      search-few (found .ensures),
       omega (arith, entry .pre .0 .sound .room, found .kept .1 .1 .1 .1 .1 .1 .1 .0, entry .pre .6 .information-long),
       entry .pre .4,
       entry .pre .5 .areas,

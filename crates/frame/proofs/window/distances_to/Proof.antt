@@ -4,7 +4,7 @@ use Prim.Native.Nat.{ℕ, _+_, _-_, _*_, _≤_}
 use native.Mathlib.Omega.{arith}
 use Rattle.code.specs.Code.{distancesTo}
 use Rattle.code.proofs.Settings.{level-fits, information-fits, sizes}
-use Rattle.frame.proofs.Levels.{distances-none, distances-more}
+use Rattle.frame.proofs.RebuiltCost.{distances-none, distances-more}
 use Rattle.frame.proofs.window.distances_to.Statement.{statement}
 use Rattle.frame.proofs.window.distances_to.Tie as tie
 

@@ -5,15 +5,15 @@ use native.Mathlib.Omega.{arith}
 use denote.Ref.{now}
 use lib.ListN.{length}
 use Rattle.code.proofs.Settings.{sizes}
-use Rattle.block.proofs.Working.{working-kept}
-use Rattle.frame.specs.parts.Window.{Levels}
-use Rattle.frame.proofs.Reached.{Reached, reached-start, reached-next, reached-served, reached-none}
+use Rattle.block.proofs.BlockAreas.{block-areas-kept}
+use Rattle.frame.specs.parts.Window.{LevelSearch}
+use Rattle.frame.proofs.LevelsFailed.{LevelsFailed, levels-failed-start, levels-failed-next, levels-failed-served, levels-failed-none}
 use Rattle.frame.proofs.window.find_level.Statement.{statement}
 use Rattle.frame.proofs.window.find_level.Tie as tie
 
 abbrev Inv-loop : tie.InvT-loop
 Inv-loop p products rows window series₀ locator₀ values₀ information₀ blocks₀ series locator values information blocks =
-    (blocks ≤ p .m + 1) × Reached p window blocks
+    (blocks ≤ p .m + 1) × LevelsFailed p window blocks
     × (length series ≡ length series₀) × (length locator ≡ length locator₀) × (length values ≡ length values₀) × (length information ≡ length information₀)
 
 abbrev μ-loop : tie.MeasureT-loop
@@ -23,7 +23,7 @@ add-blocks : tie.Need-add-blocks Inv-loop μ-loop
 add-blocks c = let entry = c .before .before .before .before .before .before .before in omega (arith, sizes (entry .args .p) (entry .pre .0 .sound) .memory-most)
 
 loop-holds : tie.Need-loop-holds Inv-loop μ-loop
-loop-holds c = let entry = c .before .before .before .before .before .before .before in (omega arith, reached-start (entry .args .p) (now (entry .args .window)), refl, refl, refl, refl)
+loop-holds c = let entry = c .before .before .before .before .before .before .before in (omega arith, levels-failed-start (entry .args .p) (now (entry .args .window)), refl, refl, refl, refl)
 
 sub-l : tie.Need-sub-l Inv-loop μ-loop
 sub-l c = omega arith
@@ -32,7 +32,7 @@ try-level-requires : tie.Need-try-level-requires Inv-loop μ-loop
 try-level-requires c κs =
     let entry = c .before .before .before .before .before .before .before .before .before .before .before .before .before in
     let l = c .before .before .before .before .before .loop in
-    (entry .pre .0, entry .pre .1, entry .pre .2, omega arith, working-kept (entry .pre .3) (l .inv .2) (l .inv .3) (l .inv .4) (l .inv .5))
+    (entry .pre .0, entry .pre .1, entry .pre .2, omega arith, block-areas-kept (entry .pre .3) (l .inv .2) (l .inv .3) (l .inv .4) (l .inv .5))
 
 returns : tie.Need-returns Inv-loop μ-loop
 returns c =
@@ -40,9 +40,9 @@ returns c =
     let l = c .before .before .before .before .before .before .before .before .before .before .before .before .before .before .before .loop in
     let tried = c .before .before .before .before .before .before .before .before .before .try-level in
     let back : l .blocks ≡ suc (l .blocks - 1) = omega (arith, c .before .before .before .before .before .before .before .before .before .before .before .before .before .before .loop-test .taken) in
-    subst (Levels (entry .args .p) (now (entry .args .window)) _) (sym back)
-    (reached-served (entry .args .p) (entry .pre .0 .sound) (now (entry .args .window)) _ (l .blocks - 1) (omega arith)
-    (tried .ensures) (c .if1 .taken) (subst (Reached (entry .args .p) (now (entry .args .window))) back (l .inv .1)))
+    subst (LevelSearch (entry .args .p) (now (entry .args .window)) _) (sym back)
+    (levels-failed-served (entry .args .p) (entry .pre .0 .sound) (now (entry .args .window)) _ (l .blocks - 1) (omega arith)
+    (tried .ensures) (c .if1 .taken) (subst (LevelsFailed (entry .args .p) (now (entry .args .window))) back (l .inv .1)))
 
 loop-less : tie.Need-loop-less Inv-loop μ-loop
 loop-less c = omega arith
@@ -54,8 +54,8 @@ loop-again c =
     let tried = c .before .before .before .before .before .before .before .before .before .try-level in
     let back : l .blocks ≡ suc (l .blocks - 1) = omega (arith, c .before .before .before .before .before .before .before .before .before .before .before .before .before .before .loop-test .taken) in (
       omega arith,
-      reached-next (entry .args .p) (entry .pre .0 .sound) (now (entry .args .window)) _ (l .blocks - 1)
-          (tried .ensures) (c .if1 .left) (subst (Reached (entry .args .p) (now (entry .args .window))) back (l .inv .1)),
+      levels-failed-next (entry .args .p) (entry .pre .0 .sound) (now (entry .args .window)) _ (l .blocks - 1)
+          (tried .ensures) (c .if1 .left) (subst (LevelsFailed (entry .args .p) (now (entry .args .window))) back (l .inv .1)),
       tried .kept .1 .1 .1 .1 .1 .0 ∙ l .inv .2,
       tried .kept .1 .1 .1 .1 .1 .1 .0 ∙ l .inv .3,
       tried .kept .1 .1 .1 .1 .1 .1 .1 .0 ∙ l .inv .4,
@@ -66,7 +66,7 @@ returns-2 : tie.Need-returns-2 Inv-loop μ-loop
 returns-2 c =
     let entry = c .before .before .before .before .before .before .before .before .before in
     let none : c .before .loop .blocks ≡ 0 = omega arith in
-    reached-none (entry .args .p) (now (entry .args .window)) _ (subst (Reached (entry .args .p) (now (entry .args .window))) none (c .before .loop .inv .1))
+    levels-failed-none (entry .args .p) (now (entry .args .window)) _ (subst (LevelsFailed (entry .args .p) (now (entry .args .window))) none (c .before .loop .inv .1))
 
 pub find-level-spec : {M : Type 1} → statement M
 find-level-spec =

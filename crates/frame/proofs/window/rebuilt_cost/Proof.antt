@@ -11,7 +11,7 @@ use Rattle.code.proofs.Settings.{sizes}
 use Rattle.tables.proofs.Parts.{part-length}
 use Rattle.block.specs.parts.Area.{at}
 use Rattle.block.proofs.Accumulated.{total-none, total-more}
-use Rattle.frame.proofs.Levels.{rebuilt-term, rebuilt-all, part-cost, block-most}
+use Rattle.frame.proofs.RebuiltCost.{rebuilt-term, rebuilt-all, part-cost, block-most}
 use Rattle.frame.proofs.window.rebuilt_cost.Statement.{statement}
 use Rattle.frame.proofs.window.rebuilt_cost.Tie as tie
 

@@ -7,7 +7,7 @@ use lib.ListN.{length}
 use Rattle.field.proofs.Symbols.{symbols-part}
 use Rattle.code.proofs.Settings.{level-fits}
 use Rattle.tables.proofs.Parts.{part-length}
-use Rattle.frame.proofs.Tried.{step-below, tried-far, tried-refused, tried-serves}
+use Rattle.frame.proofs.LevelTried.{step-below, tried-far, tried-refused, tried-serves}
 use borrow.Author.Needs.{needs}
 use Rattle.frame.proofs.window.try_level.Statement.{statement}
 use Rattle.frame.proofs.window.try_level.Tie as tie

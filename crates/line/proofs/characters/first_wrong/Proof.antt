@@ -2,7 +2,7 @@
 use Prim.Native.Nat.{_-_}
 use native.Mathlib.Omega.{arith}
 use lib.ListN.{length}
-use Rattle.question.proofs.Answers.{Searched, searched-none, searched-more, searched-stop, searched-all}
+use Rattle.question.proofs.Questions.{Searched, searched-none, searched-more, searched-stop, searched-all}
 use Rattle.line.specs.Characters.{digitOf}
 use Rattle.line.proofs.characters.first_wrong.Statement.{statement}
 use Rattle.line.proofs.characters.first_wrong.Tie as tie

@@ -5,7 +5,7 @@ use borrow.Author.Tests.{le-leb, lt-leb, eq-eqb, ne-eqb}
 use denote.Ref.{now}
 use lib.ListN.{drop}
 use Rattle.question.specs.Questions.{answer}
-use Rattle.question.proofs.Answers.{Left, left-all, left-yes, says-no, says-yes}
+use Rattle.question.proofs.Questions.{Left, left-all, left-yes, says-no, says-yes}
 use Rattle.line.specs.Questions.{characterQuestions}
 use Rattle.line.proofs.questions.character_questions.Statement.{statement}
 use Rattle.line.proofs.questions.character_questions.Tie as tie

@@ -10,7 +10,7 @@ use lib.ListN.{length, drop}
 use Rattle.code.specs.declared.Setting.{Setting}
 use Rattle.code.specs.Settings.{isSetting, settingOf}
 use Rattle.code.proofs.Settings.{Sizes}
-use Rattle.question.proofs.Answers.{Left, left-yes, says-no, says-yes, setting-known, setting-sizes, transmission-most}
+use Rattle.question.proofs.Questions.{Left, left-yes, says-no, says-yes, setting-known, setting-sizes, transmission-most}
 use Rattle.line.specs.Questions.{blocksIn, headQuestions}
 use Rattle.line.proofs.Asked.{headLater, head-of, after-setting}
 use Rattle.line.proofs.questions.head_questions.Statement.{statement}

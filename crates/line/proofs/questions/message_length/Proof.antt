@@ -7,7 +7,7 @@ use lib.Dec.{T}
 use Rattle.code.specs.declared.Setting.{Setting}
 use Rattle.code.specs.Settings.{isSetting, settingOf}
 use Rattle.question.specs.Questions.{mostInformation}
-use Rattle.question.proofs.Answers.{message-most}
+use Rattle.question.proofs.Questions.{message-most}
 use Rattle.line.proofs.Asked.{HeadYes, head-yes}
 use Rattle.line.proofs.questions.message_length.Statement.{statement}
 use Rattle.line.proofs.questions.message_length.Tie as tie

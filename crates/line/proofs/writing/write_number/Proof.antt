@@ -6,7 +6,7 @@ use native.Mathlib.Omega.{arith}
 use denote.Ref.{now}
 use lib.ListN.{length, drop, length-set}
 use Rattle.line.specs.Characters.{hex}
-use Rattle.line.proofs.Numbers.{hex-start, hex-back, hex-all}
+use Rattle.line.proofs.Hex.{hex-start, hex-back, hex-all}
 use Rattle.line.proofs.writing.write_number.Statement.{statement}
 use Rattle.line.proofs.writing.write_number.Tie as tie
 

@@ -3,27 +3,27 @@ use Prim.Native.Nat.{_-_}
 use native.Mathlib.Omega.{arith}
 use lib.ListN.{length}
 use Rattle.line.specs.Characters.{characterOf}
-use Rattle.line.proofs.Digits.{Filled, filled-none, filled-more, filled-all}
+use Rattle.line.proofs.Digits.{MapFilled, map-filled-none, map-filled-more, map-filled-all}
 use Rattle.line.proofs.writing.write_symbols.Statement.{statement}
 use Rattle.line.proofs.writing.write_symbols.Tie as tie
 
 abbrev Inv-loop : tie.InvT-loop
-Inv-loop symbols area₀ i₀ area i = Filled characterOf symbols i area
+Inv-loop symbols area₀ i₀ area i = MapFilled characterOf symbols i area
 
 abbrev μ-loop : tie.MeasureT-loop
 μ-loop symbols area₀ i₀ area i = length symbols - i
 
 loop-holds : tie.Need-loop-holds Inv-loop μ-loop
-loop-holds c = filled-none (c .before .before .pre .1)
+loop-holds c = map-filled-none (c .before .before .pre .1)
 
 character-requires : tie.Need-character-requires Inv-loop μ-loop
 character-requires c κs = c .before .before .before .before .before .pre .0 .below (c .before .before .loop .i) (c .before .loop-test .taken)
 
 loop-again : tie.Need-loop-again Inv-loop μ-loop
-loop-again c = filled-more (c .before .before .before .loop .inv) (c .before .before .loop-test .taken) (c .character .ensures)
+loop-again c = map-filled-more (c .before .before .before .loop .inv) (c .before .before .loop-test .taken) (c .character .ensures)
 
 returns : tie.Need-returns Inv-loop μ-loop
-returns c = filled-all (c .before .loop .inv) (omega arith)
+returns c = map-filled-all (c .before .loop .inv) (omega arith)
 
 pub write-symbols-spec : {M : Type 1} → statement M
 write-symbols-spec =

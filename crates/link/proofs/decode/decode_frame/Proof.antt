@@ -6,7 +6,7 @@ use lib.Seq.{length-take-le}
 use Rattle.code.specs.declared.Setting.{Setting}
 use Rattle.code.specs.parts.Sound.{Sound}
 use Rattle.code.proofs.Settings.{soundOf, sizes}
-use Rattle.tables.specs.parts.Tables.{rowsLength, mostRows, longestBlock}
+use Rattle.tables.specs.parts.Rows.{rowsLength, mostRows, longestBlock}
 use Rattle.tables.proofs.Lending.{readyOf}
 use borrow.Author.Needs.{needs}
 use Rattle.link.proofs.decode.decode_frame.Statement.{statement}
@@ -19,8 +19,8 @@ sound c = subst Sound (sym (c .pre .1)) (soundOf (c .args .setting) (c .pre .0))
 room : (c : tie.Start) → c .args .p .n + 1 ≤ longestBlock + 1
 room c = omega (arith, c .pre .2 .block)
 
-tables-requires : tie.Need-tables-requires
-tables-requires c κs = sound (c .before .before .before) .good
+products-requires : tie.Need-products-requires
+products-requires c κs = sound (c .before .before .before) .good
 
 slice-aggregate-rows : tie.Need-slice-aggregate-rows
 slice-aggregate-rows c = search needs
@@ -65,7 +65,7 @@ decode-lent-requires c κs =
     let entry = c .before .before .before .before .before .before .before .before .before .before .before .before .before .before .before .before in
     let a = entry .args in
     let fits = room entry in (
-      readyOf (a .setting) (a .p) (entry .pre .0) (entry .pre .1) (c .before .before .before .before .before .before .before .before .before .before .before .before .tables .result) (c .before .before .before .before .before .before .before .before .before .before .rows2 .last .1 .0) (c .before .before .before .before .before .before .before .before .before .before .before .before .tables .ensures) (c .before .before .before .before .before .before .before .before .before .before .rows2 .ensures),
+      readyOf (a .setting) (a .p) (entry .pre .0) (entry .pre .1) (c .before .before .before .before .before .before .before .before .before .before .before .before .products .result) (c .before .before .before .before .before .before .before .before .before .before .rows2 .last .1 .0) (c .before .before .before .before .before .before .before .before .before .before .before .before .products .ensures) (c .before .before .before .before .before .before .before .before .before .before .rows2 .ensures),
       entry .pre .3,
       entry .pre .4,
       entry .pre .5,
@@ -82,7 +82,7 @@ pub decode-frame-spec : {M : Type 1} → statement M
 decode-frame-spec =
     tie.close
     (tie.spec
-    tables-requires
+    products-requires
     slice-aggregate-rows
     rows-requires
     add-room

@@ -5,9 +5,9 @@ use native.Mathlib.Omega.{arith}
 use lib.ListN.{length, replicate}
 use Rattle.code.proofs.Settings.{sizes}
 use Rattle.block.specs.parts.Area.{at}
-use Rattle.frame.proofs.Levels.{few}
-use Rattle.question.proofs.Answers.{transmission-small}
-use Rattle.link.proofs.Decoding.{left-symbols, left-long, frame-decoded-none, frame-decoded-found}
+use Rattle.frame.proofs.RebuiltCost.{few}
+use Rattle.question.proofs.Questions.{transmission-small}
+use Rattle.link.proofs.Decoding.{residual-symbols, residual-long, frame-decoded-none, frame-decoded-found}
 use borrow.Author.Needs.{needs}
 use Rattle.link.proofs.decode.decode_lent.Statement.{statement}
 use Rattle.link.proofs.decode.decode_lent.Tie as tie
@@ -41,8 +41,8 @@ restore-requires c κs =
     let read = c .before .before .before .before .before .before .before .before .before .before .before .before .before .before .before .before .read in (
       entry .pre .0 .sound .good,
       entry .pre .4,
-      left-symbols (read .ensures) (c .before .before .before .if1 .left),
-      left-long (read .ensures) (c .before .before .before .if1 .left),
+      residual-symbols (read .ensures) (c .before .before .before .if1 .left),
+      residual-long (read .ensures) (c .before .before .before .if1 .left),
     )
 
 cast-t37 : tie.Need-cast-t37

@@ -10,13 +10,13 @@ use Rattle.link.proofs.decode.restore.Statement.{statement}
 use Rattle.link.proofs.decode.restore.Tie as tie
 
 abbrev Inv-loop : tie.InvT-loop
-Inv-loop q reception left₀ i₀ left i = (i ≤ length left₀) × Restored q i reception left₀ left
+Inv-loop q reception residual₀ i₀ residual i = (i ≤ length residual₀) × Restored q i reception residual₀ residual
 
 abbrev μ-loop : tie.MeasureT-loop
-μ-loop q reception left₀ i₀ left i = length left₀ - i
+μ-loop q reception residual₀ i₀ residual i = length residual₀ - i
 
 loop-holds : tie.Need-loop-holds Inv-loop μ-loop
-loop-holds c = (omega arith, restored-none (c .before .before .args .q) (now (c .before .before .args .reception)) (now (c .before .before .args .left)))
+loop-holds c = (omega arith, restored-none (c .before .before .args .q) (now (c .before .before .args .reception)) (now (c .before .before .args .residual)))
 
 shared-slice-read-subtract : tie.Need-shared-slice-read-subtract Inv-loop μ-loop
 shared-slice-read-subtract c = omega (arith, c .before .before .before .before .before .pre .3, c .before .before .loop .inv .1 .long)
@@ -34,8 +34,8 @@ subtract-requires c κs =
       subst (λ (t : ℕ). t < entry .args .q) (sym (l .inv .1 .outside (l .i) least)) (entry .pre .2 .below (l .i) (omega (arith, l .inv .1 .long))),
     )
 
-slice-write-left : tie.Need-slice-write-left Inv-loop μ-loop
-slice-write-left c = omega (arith, c .before .before .before .before .loop .inv .1 .long)
+slice-write-residual : tie.Need-slice-write-residual Inv-loop μ-loop
+slice-write-residual c = omega (arith, c .before .before .before .before .loop .inv .1 .long)
 
 add-i : tie.Need-add-i Inv-loop μ-loop
 add-i c = omega (arith, c .before .before .before .before .loop .inv .1 .long)
@@ -48,14 +48,14 @@ loop-again c =
     let a = c .before .before .before .before .before .before .before .args in
     let l = c .before .before .before .before .loop in (
       omega (arith, l .inv .1 .long),
-      restored-more (a .q) (now (a .reception)) (now (a .left)) (l .i) (l .left) (c .subtract .result) (l .inv .1) (omega (arith, l .inv .1 .long)) (c .subtract .ensures .same),
+      restored-more (a .q) (now (a .reception)) (now (a .residual)) (l .i) (l .residual) (c .subtract .result) (l .inv .1) (omega (arith, l .inv .1 .long)) (c .subtract .ensures .same),
     )
 
 returns : tie.Need-returns Inv-loop μ-loop
 returns c =
     let a = c .before .before .before .before .args in
-    let done : c .before .loop .i ≡ length (now (a .left)) = omega (arith, c .before .loop .inv .1 .long) in
-    subst (λ (t : ℕ). Restored (a .q) t (now (a .reception)) (now (a .left)) (c .before .loop .left)) done (c .before .loop .inv .1)
+    let done : c .before .loop .i ≡ length (now (a .residual)) = omega (arith, c .before .loop .inv .1 .long) in
+    subst (λ (t : ℕ). Restored (a .q) t (now (a .reception)) (now (a .residual)) (c .before .loop .residual)) done (c .before .loop .inv .1)
 
 pub restore-spec : {M : Type 1} → statement M
 restore-spec =
@@ -67,7 +67,7 @@ restore-spec =
     shared-slice-read-subtract
     slice-read-subtract
     subtract-requires
-    slice-write-left
+    slice-write-residual
     add-i
     loop-less
     loop-again

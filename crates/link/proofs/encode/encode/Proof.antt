@@ -10,7 +10,7 @@ use Rattle.code.specs.Windows.{Message}
 use Rattle.code.proofs.Settings.{sizesOf}
 use Rattle.tables.proofs.Lending.{narrowOf}
 use Rattle.question.specs.Questions.{mostBlocks}
-use Rattle.question.proofs.Answers.{EncodingYes, encoding-yes}
+use Rattle.question.proofs.Questions.{EncodingYes, encoding-yes}
 use Rattle.link.proofs.Encoding.{encoded-refused, encoded-sent}
 use borrow.Author.Needs.{needs}
 use Rattle.link.proofs.encode.encode.Statement.{statement}

@@ -5,7 +5,7 @@ use Prim.Native.Nat.{_≤_}
 use Rattle.code.specs.declared.Setting.{Setting}
 use Rattle.code.specs.parts.Sound.{Sound}
 use Rattle.code.proofs.Settings.{soundOf}
-use Rattle.tables.specs.parts.Tables.{rowsLength, mostRows}
+use Rattle.tables.specs.parts.Rows.{rowsLength, mostRows}
 use Rattle.tables.proofs.Lending.{readyOf}
 use borrow.Author.Needs.{needs}
 use Rattle.link.proofs.encode.encode_frame.Statement.{statement}
@@ -15,8 +15,8 @@ use Rattle.link.proofs.encode.encode_frame.Tie as tie
 sound : (c : tie.Start) → Sound (c .args .p)
 sound c = subst Sound (sym (c .pre .1)) (soundOf (c .args .setting) (c .pre .0))
 
-tables-requires : tie.Need-tables-requires
-tables-requires c κs = sound (c .before .before .before .before .before) .good
+products-requires : tie.Need-products-requires
+products-requires c κs = sound (c .before .before .before .before .before) .good
 
 slice-aggregate-rows : tie.Need-slice-aggregate-rows
 slice-aggregate-rows c = search needs
@@ -33,7 +33,7 @@ send-requires : tie.Need-send-requires
 send-requires c κs =
     let entry = c .before .before .before .before .before .before .before .before .before in
     let a = entry .args in
-    let ready = readyOf (a .setting) (a .p) (entry .pre .0) (entry .pre .1) (c .before .before .before .tables .result) (c .before .before .before .before .before .rows2 .last .1 .0) (c .before .before .before .tables .ensures) (c .before .before .before .before .before .rows2 .ensures) in
+    let ready = readyOf (a .setting) (a .p) (entry .pre .0) (entry .pre .1) (c .before .before .before .products .result) (c .before .before .before .before .before .rows2 .last .1 .0) (c .before .before .before .products .ensures) (c .before .before .before .before .before .rows2 .ensures) in
     (record { ready = ready; message-of = entry .pre .3; most = entry .pre .4 }, entry .pre .5)
 
 returns : tie.Need-returns
@@ -45,7 +45,7 @@ encode-frame-spec =
     (tie.spec
     slice-aggregate-rows
     rows-requires
-    tables-requires
+    products-requires
     slice-aggregate-send
     send-requires
     (λ c. omega arith)

@@ -49,7 +49,7 @@ loop-again c =
     )
 
 same-length : tie.Need-same-length Inv-loop μ-loop
-same-length c = c .before .loop .inv .1 .areas .left-long ∙ sym (c .before .before .before .before .before .before .before .before .before .pre .1)
+same-length c = c .before .loop .inv .1 .areas .residual-long ∙ sym (c .before .before .before .before .before .before .before .before .before .pre .1)
 
 returns : tie.Need-returns Inv-loop μ-loop
 returns c =

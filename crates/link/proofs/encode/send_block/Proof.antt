@@ -8,7 +8,7 @@ use lib.ListN.{length}
 use Rattle.code.proofs.Settings.{sizes}
 use Rattle.field.proofs.Symbols.{symbols-part}
 use Rattle.code.specs.Windows.{windowLength}
-use Rattle.code.proofs.Numbers.{message-below}
+use Rattle.code.proofs.CodeBelow.{message-below}
 use Rattle.tables.proofs.Parts.{part-length}
 use Rattle.frame.proofs.Guesses.{window-room}
 use Rattle.link.specs.parts.Sending.{SentTo}
@@ -84,7 +84,7 @@ add-rows-requires c κs =
       c .before .before .loop-test .taken,
       message-below (a .p) sound (a .blocks) (now (a .message)) (entry .pre .0 .message-of) (a .i) (l .r),
       part-length (windowLength (a .p)) (a .i * a .p .n) (l .area) (room (c .before .before)),
-      symbols-part (a .p .q) (a .i * a .p .n) (a .i * a .p .n + windowLength (a .p)) (l .area) (l .inv .1 .areas .left-symbols),
+      symbols-part (a .p .q) (a .i * a .p .n) (a .i * a .p .n + windowLength (a .p)) (l .area) (l .inv .1 .areas .residual-symbols),
     )
 
 add-r : tie.Need-add-r Inv-loop μ-loop
@@ -104,7 +104,7 @@ loop-again c =
     )
 
 same-length : tie.Need-same-length Inv-loop μ-loop
-same-length c = c .before .loop .inv .1 .areas .left-long ∙ sym (c .before .before .before .before .before .before .pre .2 .areas .left-long)
+same-length c = c .before .loop .inv .1 .areas .residual-long ∙ sym (c .before .before .before .before .before .before .pre .2 .areas .residual-long)
 
 returns : tie.Need-returns Inv-loop μ-loop
 returns c =

@@ -6,8 +6,8 @@ use denote.Ref.{now}
 use lib.ListN.{length}
 use Rattle.field.proofs.Sums.{zero-below}
 use Rattle.field.proofs.Symbols.{symbol-below}
-use Rattle.tables.specs.parts.Adding.{MultipleAdded}
-use Rattle.tables.proofs.Adding.{multiple-none, multiple-more}
+use Rattle.tables.specs.parts.RowsAdded.{MultipleAdded}
+use Rattle.tables.proofs.RowsAdded.{multiple-none, multiple-more}
 use Rattle.tables.proofs.product.add_multiple.Statement.{statement}
 use Rattle.tables.proofs.product.add_multiple.Tie as tie
 

@@ -8,7 +8,7 @@ use denote.Ref.{now}
 use lib.ListN.{length}
 use Rattle.code.proofs.Settings.{block-positive}
 use Rattle.tables.proofs.Parts.{part-length}
-use Rattle.tables.proofs.Adding.{row-room, row-symbols, row-added}
+use Rattle.tables.proofs.RowsAdded.{row-room, row-symbols, row-added}
 use Rattle.tables.proofs.product.add_row.Statement.{statement}
 use Rattle.tables.proofs.product.add_row.Tie as tie
 

@@ -7,9 +7,9 @@ use denote.Ref.{now}
 use lib.ListN.{length}
 use Rattle.field.proofs.Symbols.{symbols-part}
 use Rattle.code.proofs.Settings.{sizes}
-use Rattle.tables.specs.parts.Adding.{RowsAdded}
+use Rattle.tables.specs.parts.RowsAdded.{RowsAdded}
 use Rattle.tables.proofs.Parts.{part-length}
-use Rattle.tables.proofs.Adding.{rows-none, rows-more}
+use Rattle.tables.proofs.RowsAdded.{rows-none, rows-more}
 use Rattle.tables.proofs.product.add_rows.Statement.{statement}
 use Rattle.tables.proofs.product.add_rows.Tie as tie
 

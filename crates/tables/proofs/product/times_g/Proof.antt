@@ -7,7 +7,7 @@ use Rattle.field.specs.Symbols.{Is}
 use Rattle.field.proofs.Symbols.{symbol-below}
 use Rattle.field.proofs.Sums.{sum-none, sum-more}
 use Rattle.code.proofs.Settings.{sizes}
-use Rattle.code.proofs.Numbers.{positive}
+use Rattle.code.proofs.CodeBelow.{positive}
 use Rattle.tables.proofs.Places.{Place, place-of, product-sum, product-sum-all}
 use Rattle.tables.proofs.product.times_g.Statement.{statement}
 use Rattle.tables.proofs.product.times_g.Tie as tie

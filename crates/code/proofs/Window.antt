@@ -13,7 +13,7 @@ use borrow.Author.Tests.{le-leb, lt-leb, eq-eqb, ne-eqb}
 use Rattle.algebra.specs.Ops.{Ops, pick}
 use Rattle.algebra.specs.Sum.{sum}
 use Rattle.algebra.proofs.Laws.{Field}
-use Rattle.algebra.proofs.Order.{Order}
+use Rattle.algebra.proofs.HasOrder.{HasOrder}
 use Rattle.algebra.proofs.Sums.{sum-zeros, sum-single}
 use Rattle.algebra.proofs.Weights.{total-ext}
 use Rattle.code.specs.Code.{Code, levelDistance, distancesTo}
@@ -22,7 +22,7 @@ use Rattle.code.specs.Transmission.{earlier, sentSymbol}
 use Rattle.code.specs.parts.Cost.{costTo, blockCost, rebuiltCost}
 use Rattle.code.proofs.Blocks.{codeOver, timesG-ext, combination-ext}
 use Rattle.code.proofs.Certainty.{timesG-zeros, block-certain}
-use Rattle.code.proofs.Windows.{sent-ahead, combination-certain}
+use Rattle.code.proofs.Differences.{sent-ahead, combination-certain}
 
 module _ {F : Type 0} (K : Field F) (α : F) (n k m : ℕ) where
   open Ops (K .ops) using (zero as 𝟘)
@@ -85,7 +85,7 @@ module _ {F : Type 0} (K : Field F) (α : F) (n k m : ℕ) where
           let past : s < b = omega arith in
           zeros (λ j u v e. omega arith) ∙ sym (ap (λ (t : Bool). pick t (pick (leb (s - b) m) (timesG c x (s - b) i) 𝟘) 𝟘) (lt-leb b s past))
 
-  module _ (order : Order (K .ops) n α) (fits : (m + 1) * k ≤ n) {R : Type 0} (cost : R → F → ℕ)
+  module _ (order : HasOrder (K .ops) n α) (fits : (m + 1) * k ≤ n) {R : Type 0} (cost : R → F → ℕ)
       (apart : (v : R) (a b : F) → (a ≡ b → ⊥) → 2 ≤ cost v a + cost v b) (w : ℕ → ℕ → R) where
     -- A message's blocks from the first on cost what its combinations cost.
     sent-cost : (y : ℕ → ℕ → F) (l : ℕ) → l ≤ m → costTo n cost w (sentSymbol c y) 0 l ≡ rebuiltCost c cost w l y

@@ -1,5 +1,5 @@
 -- The windows in turn: residual, zero window and the chain of refusals, put together on bytes.
--- Holds: `progress-start`, `near-of-fits`, `progress-none`, `progress-revised`, `progress-found`.
+-- Holds: `settled-start`, `near-of-fits`, `settled-none`, `settled-revised`, `settled-found`.
 use mathlib.Core.Path.{_≡_, sym, ap, subst, _∙_}
 use mathlib.Core.List.{List}
 use Prim.Native.Nat.{ℕ, _+_, _-_, _*_, _≤_, _<_}
@@ -14,47 +14,47 @@ use Rattle.field.proofs.Symbols.{symbol-below, symbols-zeros}
 use Rattle.code.specs.declared.Setting.{Setting}
 use Rattle.code.specs.parts.Sound.{Sound}
 use Rattle.code.specs.Windows.{Fits}
-use Rattle.code.specs.parts.Reading.{Below}
+use Rattle.code.specs.parts.Reading.{BlocksBelow}
 use Rattle.code.proofs.Lists.{getD-zeros}
-use Rattle.code.proofs.Numbers.{positive}
+use Rattle.code.proofs.CodeBelow.{positive}
 use Rattle.code.proofs.Cost.{fits-near}
 use Rattle.code.proofs.Residuals.{ahead, ahead-below, add-back, residual-window}
 use Rattle.code.proofs.ResidualSteps.{residual-start}
 use Rattle.frame.specs.parts.Window.{Near}
-use Rattle.frame.specs.parts.Frame.{Progress, Revised, Added, NoneFits}
+use Rattle.frame.specs.parts.Frame.{Settled, Revised, Added, NoneFits}
 use Rattle.frame.proofs.Guesses.{windowAt}
 
 module _ (p : Setting) (S : Sound p) (T : ℕ) (reception : List ℕ) (R : Symbols (p .q) reception) (long : length reception ≡ (T + p .m) * p .n) where
   received : (i : ℕ) → getD reception i 0 < p .q
   received = symbol-below (p .q) reception R (positive p S)
 
-  pub progress-start : (message : List ℕ) → message ≡ replicate (T * p .k) 0 → Progress p T reception 0 message reception
-  progress-start message e =
+  pub settled-start : (message : List ℕ) → message ≡ replicate (T * p .k) 0 → Settled p T reception 0 message reception
+  settled-start message e =
       record {
         areas = record {
           message-long = ap length e ∙ length-replicate (T * p .k) 0;
           message-symbols = subst (Symbols (p .q)) (sym e) (symbols-zeros (p .q) (T * p .k) (positive p S));
-          left-long = long;
-          left-symbols = R;
+          residual-long = long;
+          residual-symbols = R;
         };
-        residual = residual-start p S T reception message received zeros;
+        is-residual = residual-start p S T reception message received zeros;
         begins = λ x f i l. absurd (omega arith);
       }
     where
       zeros : (i : ℕ) → getD message i 0 ≡ 0
       zeros i = ap (λ (l : List ℕ). getD l i 0) e ∙ getD-zeros (T * p .k) i
 
-  module _ (j : ℕ) (message left : List ℕ) (P : Progress p T reception j message left) where
+  module _ (j : ℕ) (message residual : List ℕ) (P : Settled p T reception j message residual) where
     found-below : (i : ℕ) → getD message i 0 < p .q
     found-below = symbol-below (p .q) message (P .areas .message-symbols) (positive p S)
 
-    -- What a message that fits has beyond the blocks found is near window j of what is left.
-    pub near-of-fits : j < T → (x : List ℕ) → Fits p T reception x → Near p (windowAt p left j) (p .m) (ahead p x message j)
+    -- What a message that fits has beyond the blocks found is near window j of the residual.
+    pub near-of-fits : j < T → (x : List ℕ) → Fits p T reception x → Near p (windowAt p residual j) (p .m) (ahead p x message j)
     near-of-fits l x F =
-        rw (residual-window p S T reception message left received found-below (P .residual) x (F .message-of) j l (P .begins x F))
+        rw (residual-window p S T reception message residual received found-below (P .is-residual) x (F .message-of) j l (P .begins x F))
         (fits-near p S T reception x F j l)
 
-    pub fits-below : (x : List ℕ) → Fits p T reception x → Below (p .q) (ahead p x message j)
+    pub fits-below : (x : List ℕ) → Fits p T reception x → BlocksBelow (p .q) (ahead p x message j)
     fits-below x F = ahead-below p S x message j (symbol-below (p .q) x (F .message-of .symbols) (positive p S)) found-below
 
     -- The first block of what x has beyond.
@@ -64,8 +64,8 @@ module _ (p : Setting) (S : Sound p) (T : ℕ) (reception : List ℕ) (R : Symbo
         ap (λ (t : ℕ). sub (opsOf (p .q)) (getD x t 0) (getD message t 0)) place
 
     -- No near information: no message fits.
-    pub progress-none : j < T → ((y : ℕ → ℕ → ℕ) → Below (p .q) y → Near p (windowAt p left j) (p .m) y → ⊥) → NoneFits p T reception
-    progress-none l far x F = far (ahead p x message j) (fits-below x F) (near-of-fits l x F)
+    pub settled-none : j < T → ((y : ℕ → ℕ → ℕ) → BlocksBelow (p .q) y → Near p (windowAt p residual j) (p .m) y → ⊥) → NoneFits p T reception
+    settled-none l far x F = far (ahead p x message j) (fits-below x F) (near-of-fits l x F)
 
     -- The blocks before j+1 of a message that fits, from those before j and block j.
     begins-more : (h : List ℕ) → ((i : ℕ) → i < j * p .k → getD h i 0 ≡ getD message i 0)
@@ -80,22 +80,22 @@ module _ (p : Setting) (S : Sound p) (T : ℕ) (reception : List ℕ) (R : Symbo
             subst (λ (t : ℕ). getD x t 0 ≡ getD h t 0) place (block x F (i - j * p .k) (omega arith))
 
     -- Other guesses from a later block on keep what is known.
-    pub progress-revised : (i : ℕ) (message' left' : List ℕ) → j ≤ i → Revised p T i message left message' left' → Progress p T reception j message' left'
-    progress-revised i message' left' low N =
+    pub settled-revised : (i : ℕ) (message' residual' : List ℕ) → j ≤ i → Revised p T i message residual message' residual' → Settled p T reception j message' residual'
+    settled-revised i message' residual' low N =
         record {
           areas = N .areas;
-          residual = N .residual reception R (P .residual);
+          is-residual = N .is-residual reception R (P .is-residual);
           begins = λ x F a u. P .begins x F a u ∙ sym (N .before a (omega (arith, mul-le-mul-right (p .k) low)));
         }
 
-    -- Block j was found beyond the guess: it goes into the message, and its contribution out of what is left.
-    pub progress-found : (z : ℕ → ℕ) (message' left' : List ℕ) → j < T
-        → ((y : ℕ → ℕ → ℕ) → Below (p .q) y → Near p (windowAt p left j) (p .m) y → (r : ℕ) → r < p .k → y 0 r ≡ z r)
-        → Added p T j z message left message' left' → Progress p T reception (j + 1) message' left'
-    progress-found z message' left' l first D =
+    -- Block j was found beyond the guess: it goes into the message, and its contribution out of the residual.
+    pub settled-found : (z : ℕ → ℕ) (message' residual' : List ℕ) → j < T
+        → ((y : ℕ → ℕ → ℕ) → BlocksBelow (p .q) y → Near p (windowAt p residual j) (p .m) y → (r : ℕ) → r < p .k → y 0 r ≡ z r)
+        → Added p T j z message residual message' residual' → Settled p T reception (j + 1) message' residual'
+    settled-found z message' residual' l first D =
         record {
           areas = D .revised .areas;
-          residual = D .revised .residual reception R (P .residual);
+          is-residual = D .revised .is-residual reception R (P .is-residual);
           begins = begins-more message' (D .revised .before) (λ x F r u.
               sym (add-back p S (getD x (j * p .k + r) 0) (getD message (j * p .k + r) 0) (symbol-below (p .q) x (F .message-of .symbols) (positive p S) (j * p .k + r)) (found-below (j * p .k + r)))
               ∙ ap (opsOf (p .q) .add (getD message (j * p .k + r) 0)) (sym (ahead-first x r) ∙ first (ahead p x message j) (fits-below x F) (near-of-fits l x F) r u)

@@ -1,5 +1,5 @@
 -- One place more in the search for the locator, as the code has it: areas and the numbers of its progress.
--- Holds: `unit-below`, `placed-start`, `placed-kept`, `placed-corrected`, `placed-lengthened`.
+-- Holds: `unit-below`, `pair-start`, `pair-kept`, `pair-corrected`, `pair-lengthened`.
 use mathlib.Core.Path.{_≡_, sym, ap, ap₂, subst, _∙_}
 use mathlib.Core.List.{List}
 use Prim.Native.Nat.{ℕ, zero, suc, _+_, _-_, _≤_, _<_}
@@ -10,7 +10,7 @@ use Rattle.field.specs.Symbols.{Is}
 use Rattle.field.proofs.Laws.{lawsOf}
 use Rattle.block.specs.parts.Area.{AllBelow, at}
 use Rattle.block.specs.parts.Locator.{tail, Located}
-use Rattle.block.specs.parts.Progress.{Unit, Multiple, Placed}
+use Rattle.block.specs.parts.LocatorAreas.{Unit, Multiple, LocatorPair}
 use Rattle.field.proofs.Sums.{zero-below}
 use Rattle.block.proofs.LocatorBelow.{start-below, kept-below, corrected-below, grown-below}
 
@@ -23,8 +23,8 @@ module _ (q : ℕ) (good : Good q) where
   unit-below l u (suc i) = subst (λ (t : ℕ). t < q) (sym (u .rest (suc i) (omega arith))) (zero-below q good)
 
   -- Before the first place both locators are 1.
-  pub placed-start : {series l f : List ℕ} → AllBelow q series → at series 0 ≡ 1 → Unit l → Unit f → Placed q series 0 0 0 1 l f
-  placed-start {series} {l} {f} h first u v =
+  pub pair-start : {series l f : List ℕ} → AllBelow q series → at series 0 ≡ 1 → Unit l → Unit f → LocatorPair q series 0 0 0 1 l f
+  pair-start {series} {l} {f} h first u v =
       record {
         locator-below = unit-below l u;
         former-below = unit-below f v;
@@ -32,16 +32,16 @@ module _ (q : ℕ) (good : Good q) where
         located = start-below q (opsOf q) B (at series) (at l) (at f) h (unit-below l u) (unit-below f v) first (u .first) (v .first) (u .rest) (v .rest);
       }
 
-  module _ {series locator former : List ℕ} {s next L p scale rest failure : ℕ} (step : suc s ≡ next) (hs : AllBelow q series) (h : Placed q series s L p scale locator former)
-      (sums : Is q rest (tail (opsOf q) L (at locator) (at series) next)) (fails : Is q failure (opsOf q .add (at series next) rest)) where
-    failure-is : failure ≡ opsOf q .add (at series (suc s)) (tail (opsOf q) L (at locator) (at series) (suc s))
+  module _ {series locator former : List ℕ} {s next L p scale rest discrepancy : ℕ} (step : suc s ≡ next) (hs : AllBelow q series) (h : LocatorPair q series s L p scale locator former)
+      (sums : Is q rest (tail (opsOf q) L (at locator) (at series) next)) (fails : Is q discrepancy (opsOf q .add (at series next) rest)) where
+    failure-is : discrepancy ≡ opsOf q .add (at series (suc s)) (tail (opsOf q) L (at locator) (at series) (suc s))
     failure-is =
         fails .same
         ∙ ap₂ (λ (t u : ℕ). opsOf q .add (at series t) u) (sym step)
         (sums .same ∙ ap (tail (opsOf q) L (at locator) (at series)) (sym step))
 
-    pub placed-kept : failure ≡ 0 → Placed q series next L p scale locator former
-    placed-kept e =
+    pub pair-kept : discrepancy ≡ 0 → LocatorPair q series next L p scale locator former
+    pair-kept e =
         record {
           locator-below = h .locator-below;
           former-below = h .former-below;
@@ -52,7 +52,7 @@ module _ (q : ℕ) (good : Good q) where
               (h .located) (sym failure-is ∙ e ∙ sym (B .zero-is)));
         }
 
-    module _ {factor : ℕ} {locator' : List ℕ} (multiplied : Is q factor (opsOf q .mul failure scale))
+    module _ {factor : ℕ} {locator' : List ℕ} (multiplied : Is q factor (opsOf q .mul discrepancy scale))
         (M : Multiple q factor (next - p) (p - L + 1) former locator locator') where
       at-place : next - p + p ≡ suc s
       at-place = omega (arith, step, h .located .placed)
@@ -60,30 +60,30 @@ module _ (q : ℕ) (good : Good q) where
       enough : p - L + 1 + L ≡ suc p
       enough = omega (arith, h .located .grown)
 
-      pub placed-corrected : next ≤ L + L → Placed q series next L p scale locator' former
-      placed-corrected l =
+      pub pair-corrected : next ≤ L + L → LocatorPair q series next L p scale locator' former
+      pair-corrected l =
           record {
             locator-below = M .below;
             former-below = h .former-below;
             scale-below = h .scale-below;
             located =
                 subst (λ (t : ℕ). Located (opsOf q) (at series) t L p scale (at locator') (at former)) step
-                (corrected-below q (opsOf q) B (at series) (at locator) (at former) (at locator') scale failure factor (next - p) (p - L + 1)
+                (corrected-below q (opsOf q) B (at series) (at locator) (at former) (at locator') scale discrepancy factor (next - p) (p - L + 1)
                 hs (h .locator-below) (h .former-below) (M .below) (h .scale-below) (fails .below) (multiplied .below)
                 (h .located) failure-is (multiplied .same) at-place enough (M .subtracted) (omega (arith, step)));
           }
 
-      pub placed-lengthened : {scale' : ℕ} → L + L < next → (failure ≡ 0 → ⊥) → Is q scale' (opsOf q .inv failure)
-          → Placed q series next (next - L) next scale' locator' locator
-      placed-lengthened l nonzero inverts =
+      pub pair-lengthened : {scale' : ℕ} → L + L < next → (discrepancy ≡ 0 → ⊥) → Is q scale' (opsOf q .inv discrepancy)
+          → LocatorPair q series next (next - L) next scale' locator' locator
+      pair-lengthened l nonzero inverts =
           record {
             locator-below = M .below;
             former-below = h .locator-below;
             scale-below = inverts .below;
             located =
                 subst (λ (t : ℕ). Located (opsOf q) (at series) next (next - L) next t (at locator') (at locator)) (sym (inverts .same))
-                (subst (λ (t : ℕ). Located (opsOf q) (at series) t (t - L) t (opsOf q .inv failure) (at locator') (at locator)) step
-                (grown-below q (opsOf q) B (at series) (at locator) (at former) (at locator') scale failure factor (next - p) (p - L + 1)
+                (subst (λ (t : ℕ). Located (opsOf q) (at series) t (t - L) t (opsOf q .inv discrepancy) (at locator') (at locator)) step
+                (grown-below q (opsOf q) B (at series) (at locator) (at former) (at locator') scale discrepancy factor (next - p) (p - L + 1)
                 hs (h .locator-below) (h .former-below) (M .below) (h .scale-below) (fails .below) (multiplied .below)
                 (h .located) failure-is (multiplied .same) at-place enough (M .subtracted) (omega (arith, step)) nonzero));
           }

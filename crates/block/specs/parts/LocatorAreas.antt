@@ -1,5 +1,5 @@
 -- What the functions that make the locator promise, as records over the areas they write.
--- Holds: `Unit`, `Multiple`, `Placed`, `Found`.
+-- Holds: `Unit`, `Multiple`, `LocatorPair`, `LocatorFound`.
 use mathlib.Core.Path.{_≡_}
 use mathlib.Core.List.{List}
 use Prim.Native.Nat.{ℕ, _-_, _<_}
@@ -18,14 +18,14 @@ pub record Multiple (q factor shift count : ℕ) (source before after : List ℕ
   pub subtracted : Subtracted (opsOf q) factor shift count (at source) (at before) (at after)
 
 -- The locator and the former one, in their areas, for the series up to place s.
-pub record Placed (q : ℕ) (series : List ℕ) (s L place scale : ℕ) (locator former : List ℕ) : Type 0 where
+pub record LocatorPair (q : ℕ) (series : List ℕ) (s L place scale : ℕ) (locator former : List ℕ) : Type 0 where
   pub locator-below : AllBelow q locator
   pub former-below : AllBelow q former
   pub scale-below : scale < q
   pub located : Located (opsOf q) (at series) s L place scale (at locator) (at former)
 
 -- A locator of this degree was found for the first `known` terms of the series, beside the former one.
-pub record Found (q : ℕ) (series : List ℕ) (known L : ℕ) (locator former : List ℕ) : Type 0 where
+pub record LocatorFound (q : ℕ) (series : List ℕ) (known L : ℕ) (locator former : List ℕ) : Type 0 where
   pub place : ℕ
   pub scale : ℕ
-  pub placed : Placed q series (known - 1) L place scale locator former
+  pub pair : LocatorPair q series (known - 1) L place scale locator former

@@ -7,7 +7,7 @@ use lib.ListN.{length, getD}
 use Rattle.code.specs.declared.Setting.{Setting}
 use Rattle.code.specs.Generator.{rowSymbol}
 use Rattle.code.specs.Transmission.{tabulate}
-use Rattle.field.specs.parts.Tables.{Products, Lent}
+use Rattle.field.specs.parts.Products.{Products, ProductsOf}
 use Rattle.code.specs.Settings.{settings, codeOf, largest}
 use Rattle.code.specs.parts.Sound.{Sound}
 
@@ -43,5 +43,5 @@ pub record RowsOf (p : Setting) (rows : List ℕ) : Type 0 where
 -- What a setting's functions are lent: its field's products and its rows.
 pub record Ready (p : Setting) (lent-products : Products) (lent-rows : List ℕ) : Type 0 where
   pub sound : Sound p
-  pub products : Lent (p .q) lent-products
+  pub products : ProductsOf (p .q) lent-products
   pub rows : RowsOf p lent-rows

@@ -1,4 +1,4 @@
--- `question::largest`: no byte before i exceeds the largest so far.
+-- `question::largest_byte`: no byte before i exceeds the largest so far.
 use mathlib.Core.Path.{_≡_, sym, subst}
 use mathlib.Core.List.{List}
 use Prim.Native.Nat.{ℕ, _+_, _-_, _≤_, _<_}
@@ -6,8 +6,8 @@ use native.Mathlib.Omega.{arith}
 use native.Mathlib.Decide.{ℕ-discrete}
 use denote.Ref.{now}
 use lib.ListN.{length, getD}
-use Rattle.question.proofs.largest.Statement.{statement}
-use Rattle.question.proofs.largest.Tie as tie
+use Rattle.question.proofs.largest_byte.Statement.{statement}
+use Rattle.question.proofs.largest_byte.Tie as tie
 
 abbrev Inv-loop : tie.InvT-loop
 Inv-loop bytes most₀ i₀ most i = (i ≤ length bytes) × ((a : ℕ) → a < i → getD bytes a 0 ≤ most)
@@ -34,6 +34,6 @@ loop-again c =
 returns : tie.Need-returns Inv-loop μ-loop
 returns c = record { below = λ a h. omega (arith, c .before .loop .inv .1 a (omega arith)) }
 
-pub largest-spec : {M : Type 1} → statement M
-largest-spec =
+pub largest-byte-spec : {M : Type 1} → statement M
+largest-byte-spec =
     tie.close (tie.spec Inv-loop μ-loop loop-holds (omega arith) (λ c κs. tt) (omega arith) (omega arith) loop-again returns)

@@ -1,11 +1,11 @@
--- `field::tables` meets its contract: the rule of either table is one test over all pairs, which the checker computes.
+-- `field::products` meets its contract: the rule of either table is one test over all pairs, which the checker computes.
 use Rattle.algebra.proofs.Tests.{all}
 use Rattle.field.specs.Modular.{modular}
 use Rattle.field.specs.Binary.{timesAlpha, timesBits, binary}
 use Rattle.field.specs.Fields.{five, eight, opsOf}
 use Rattle.field.proofs.Operations.{eight-else, lent-by-test}
-use Rattle.field.proofs.tables.Statement.{statement}
-use Rattle.field.proofs.tables.Tie as tie
+use Rattle.field.proofs.products.Statement.{statement}
+use Rattle.field.proofs.products.Tie as tie
 
 returns : tie.Need-returns
 unfolding all opsOf five modular
@@ -15,5 +15,5 @@ returns-2 : tie.Need-returns-2
 unfolding all opsOf eight binary timesBits timesAlpha
 returns-2 c = lent-by-test _ 8 _ (eight-else _ (c .before .pre) (c .if1 .left)) tt
 
-pub tables-spec : {M : Type 1} → statement M
-tables-spec = tie.close (tie.spec returns returns-2)
+pub products-spec : {M : Type 1} → statement M
+products-spec = tie.close (tie.spec returns returns-2)

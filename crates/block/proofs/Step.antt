@@ -17,7 +17,7 @@ use Rattle.code.specs.parts.Sound.{Sound}
 use Rattle.code.specs.parts.Reading.{levelCost}
 use Rattle.code.proofs.Blocks.{combination-ext}
 use Rattle.block.specs.parts.Area.{at}
-use Rattle.block.specs.parts.Candidate.{zerosAt, Begun, Candidate}
+use Rattle.block.specs.parts.Candidate.{syndromesAt, Begun, Candidate}
 use Rattle.block.specs.parts.Step.{Information, Step, near, far}
 use Rattle.block.proofs.Spectra.{found-longer}
 use Rattle.block.proofs.CandidateBelow.{degree-of-near, read-of-near}
@@ -45,7 +45,7 @@ module _ {p : Setting} (S : Sound p) {l : ℕ} (level : l ≤ p .m) {block : Lis
         read : (b r : ℕ) → b ≤ l → r < p .k → view (p .k) found b r ≡ x b r
         read =
             read-of-near p S l level block long symbols x information (C .series) locator former degree close
-            (found-longer (p .q) block (zerosAt p l) (p .n) series (C .series) (omega arith) (B .spectral) (C .spectral) (B .located))
+            (found-longer (p .q) block (syndromesAt p l) (p .n) series (C .series) (omega arith) (B .spectral) (C .spectral) (B .located))
             (C .after) (C .values) found (C .spectral) (C .continued) (C .reads)
 
     pub step-far : levelDistance (p .n) (p .k) l ≤ cost → Step p l block found false

@@ -17,16 +17,16 @@ use Rattle.code.specs.parts.Cost.{symbolCost, blockCost, rebuiltCost}
 use Rattle.code.specs.Settings.{codeOf}
 use Rattle.code.specs.parts.Sound.{Sound}
 use Rattle.code.specs.Windows.{windowLength}
-use Rattle.code.specs.parts.Reading.{Below, levelCost, windowCost, zeroCost}
+use Rattle.code.specs.parts.Reading.{BlocksBelow, levelCost, windowCost, zeroCost}
 use Rattle.code.proofs.Blocks.{combination-ext}
-use Rattle.code.proofs.Windows.{combination-zeros}
-use Rattle.code.proofs.Turns.{turn-certain, turn-refused}
-use Rattle.code.proofs.Numbers.{positive, fieldOf, rootOf, orderAt, overField, number-zero, lifted, number-lifted, combination-number}
+use Rattle.code.proofs.Differences.{combination-zeros}
+use Rattle.code.proofs.Window.{turn-certain, turn-refused}
+use Rattle.code.proofs.CodeBelow.{positive, fieldOf, rootOf, orderAt, overField, number-zero, lifted, number-lifted, combination-number}
 use Rattle.code.proofs.Cost.{byteCost, bytes-apart}
 
 module _ (p : Setting) (S : Sound p) where
   -- The costs over the field.
-  level-cost : (block : ℕ → ℕ) (l : ℕ) (y : ℕ → ℕ → ℕ) → Below (p .q) y → blockCost (overField p S) (byteCost (p .q)) block l (lifted p S y) ≡ levelCost p block l y
+  level-cost : (block : ℕ → ℕ) (l : ℕ) (y : ℕ → ℕ → ℕ) → BlocksBelow (p .q) y → blockCost (overField p S) (byteCost (p .q)) block l (lifted p S y) ≡ levelCost p block l y
   unfolding blockCost
   level-cost block l y Y = total-ext (p .n) _ _ (λ i h. ap (symbolCost (p .q) (block i)) (combination-number p S y l i (λ b r u v. Y b r)))
 
@@ -40,7 +40,7 @@ module _ (p : Setting) (S : Sound p) where
       ∙ number-zero p S
 
   module _ (window : List ℕ) where
-    window-cost : (l : ℕ) (y : ℕ → ℕ → ℕ) → Below (p .q) y → rebuiltCost (overField p S) (byteCost (p .q)) (view (p .n) window) l (lifted p S y) ≡ windowCost p window l y
+    window-cost : (l : ℕ) (y : ℕ → ℕ → ℕ) → BlocksBelow (p .q) y → rebuiltCost (overField p S) (byteCost (p .q)) (view (p .n) window) l (lifted p S y) ≡ windowCost p window l y
     unfolding rebuiltCost
     window-cost l y Y = total-ext (suc l) _ _ (λ s h. level-cost (view (p .n) window s) s y Y)
 
@@ -53,7 +53,7 @@ module _ (p : Setting) (S : Sound p) where
         ∙ total-ext (suc (p .m)) _ _ (λ s h. total-ext (p .n) _ _ (λ i u. ap (symbolCost (p .q) (view (p .n) window s i)) (sym (combination-none s i))))
 
     -- Two sequences near blocks 0 .. l have the same first block.
-    pub first-certain : (y z : ℕ → ℕ → ℕ) → Below (p .q) y → Below (p .q) z → (l : ℕ) → l ≤ p .m
+    pub first-certain : (y z : ℕ → ℕ → ℕ) → BlocksBelow (p .q) y → BlocksBelow (p .q) z → (l : ℕ) → l ≤ p .m
         → windowCost p window l y < distancesTo (p .n) (p .k) l → windowCost p window l z < distancesTo (p .n) (p .k) l → (r : ℕ) → r < p .k → y 0 r ≡ z 0 r
     first-certain y z Y Z l low near good r h =
         sym (number-lifted p S y 0 r (Y 0 r))
@@ -62,7 +62,7 @@ module _ (p : Setting) (S : Sound p) where
         ∙ number-lifted p S z 0 r (Z 0 r)
 
     -- A candidate z of level l that is refused: block l of every near y costs at least d_l.
-    pub level-refused : (y z : ℕ → ℕ → ℕ) → Below (p .q) y → Below (p .q) z → (l : ℕ) → l ≤ p .m
+    pub level-refused : (y z : ℕ → ℕ → ℕ) → BlocksBelow (p .q) y → BlocksBelow (p .q) z → (l : ℕ) → l ≤ p .m
         → windowCost p window l y < distancesTo (p .n) (p .k) l → levelCost p (view (p .n) window l) l z < levelDistance (p .n) (p .k) l
         → distancesTo (p .n) (p .k) l ≤ windowCost p window l z → levelDistance (p .n) (p .k) l ≤ levelCost p (view (p .n) window l) l y
     level-refused y z Y Z l low near close bad =

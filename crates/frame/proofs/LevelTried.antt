@@ -11,11 +11,11 @@ use Rattle.code.specs.Code.{distancesTo}
 use Rattle.code.specs.Transmission.{view}
 use Rattle.code.specs.parts.Sound.{Sound}
 use Rattle.code.specs.parts.Reading.{windowCost}
-use Rattle.code.proofs.Reading.{level-refused}
+use Rattle.code.proofs.WindowBelow.{level-refused}
 use Rattle.block.specs.parts.Area.{AllBelow}
 use Rattle.block.specs.parts.Step.{Step, near, far}
-use Rattle.frame.specs.parts.Window.{Tried, serves, fails}
-use Rattle.frame.proofs.Levels.{part-cost}
+use Rattle.frame.specs.parts.Window.{LevelTried, serves, fails}
+use Rattle.frame.proofs.RebuiltCost.{part-cost}
 
 -- The block step's information has symbols below q, if it answered "near".
 pub step-below : {p : Setting} {l : ℕ} {block information : List ℕ} {r : Bool} → Step p l block information r → not r ≡ false → AllBelow (p .q) information
@@ -27,17 +27,17 @@ abbrev blockAt : Setting → List ℕ → ℕ → List ℕ
 blockAt p window l = take (l * p .n + p .n - l * p .n) (drop (l * p .n) window)
 
 module _ {p : Setting} (S : Sound p) {window : List ℕ} {l : ℕ} (level : l ≤ p .m) {information : List ℕ} where
-  pub tried-far : {r : Bool} → Step p l (blockAt p window l) information r → not r ≡ true → Tried p window l information false
+  pub tried-far : {r : Bool} → Step p l (blockAt p window l) information r → not r ≡ true → LevelTried p window l information false
   tried-far (near below close) e = absurd (false-not-true e)
   tried-far (far none) e = fails (λ y Y h. rw (part-cost p l (l * p .n) l window y refl) at (none y (λ b r u v. Y b r)))
 
   pub tried-refused : {r : Bool} → Step p l (blockAt p window l) information r → not r ≡ false
-      → distancesTo (p .n) (p .k) l ≤ windowCost p window l (view (p .k) information) → Tried p window l information false
+      → distancesTo (p .n) (p .k) l ≤ windowCost p window l (view (p .k) information) → LevelTried p window l information false
   tried-refused (near below close) h bad =
       fails (λ y Y good. level-refused p S window y (view (p .k) information) Y (λ s r. below (s * p .k + r)) l level good
       (rw (part-cost p l (l * p .n) l window (view (p .k) information) refl) at close) bad)
   tried-refused (far none) h bad = absurd (false-not-true (sym h))
 
   pub tried-serves : {r : Bool} → Step p l (blockAt p window l) information r → not r ≡ false
-      → windowCost p window l (view (p .k) information) < distancesTo (p .n) (p .k) l → Tried p window l information true
+      → windowCost p window l (view (p .k) information) < distancesTo (p .n) (p .k) l → LevelTried p window l information true
   tried-serves step h good = serves (step-below step h) good

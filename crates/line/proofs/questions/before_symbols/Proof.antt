@@ -1,11 +1,11 @@
--- `line::questions::frame_questions` asks 11 and 9, then 1, 3 and 10.
+-- `line::questions::before_symbols` asks 11 and 9, then 1, 3 and 10.
 use mathlib.Core.Path.{sym, _∙_}
 use denote.Ref.{now}
-use Rattle.question.proofs.Answers.{first-says-no, first-left}
+use Rattle.question.proofs.Questions.{first-says-no, first-left}
 use Rattle.line.specs.Questions.{characterQuestions, headQuestions}
 use Rattle.line.proofs.Asked.{characters-least}
-use Rattle.line.proofs.questions.frame_questions.Statement.{statement}
-use Rattle.line.proofs.questions.frame_questions.Tie as tie
+use Rattle.line.proofs.questions.before_symbols.Statement.{statement}
+use Rattle.line.proofs.questions.before_symbols.Tie as tie
 
 returns : tie.Need-returns
 returns c =
@@ -22,5 +22,5 @@ returns-2 c =
     c .head-questions .ensures
     ∙ sym (first-left (characterQuestions line) (headQuestions line) (c .before .before .before .character-questions .ensures) tt (c .before .if1 .left) .same)
 
-pub frame-questions-spec : {M : Type 1} → statement M
-frame-questions-spec = tie.close (tie.spec (λ c κs. tt) returns head-questions-requires returns-2)
+pub before-symbols-spec : {M : Type 1} → statement M
+before-symbols-spec = tie.close (tie.spec (λ c κs. tt) returns head-questions-requires returns-2)

@@ -2,7 +2,7 @@
 -- Holds: `true-of`; `first-yes`, `first-no` (one question), `append-yes`, `append-no` (a list of questions before others), `all-yes`, `yes-all` (number 0
 -- says that every answer was "yes"); `Left`, `left-all`, `left-yes`, `says-no`, `says-yes`, `first-says-no`, `first-left`, `after-first`, `after-frame` (a
 -- call that asks in order), `setting-known`, `setting-sizes`; `Searched`, `searched-none`, `searched-more`, `searched-stop`, `searched-all` (question 4, as
--- a loop asks it), `map-same`, `all-symbols`, `symbols-all`; `Frame`; `FrameYes`, `DecodingYes`, `EncodingYes`, `WindowYes` and `frame-yes`,
+-- a loop asks it), `map-same`, `symbolsTo-whole`, `whole-symbols`; `Frame`; `FrameYes`, `DecodingYes`, `EncodingYes`, `WindowYes` and `frame-yes`,
 -- `frame-of-setting`, `decoding-yes`, `encoding-yes`, `display-yes`, `marks-yes`; `message-most`, `transmission-most`, `transmission-small`, `window-small`
 -- (the areas' sizes).
 use mathlib.Core.Path.{_≡_, refl, sym, ap, subst, _∙_}
@@ -196,17 +196,17 @@ map-same [] = refl
 map-same (x ∷ l) = ap (λ (t : List ℕ). x ∷ t) (map-same l)
 
 -- All of them are symbols.
-pub all-symbols : (q : ℕ) (l : List ℕ) → Symbols q l → symbolsTo q l ≡ length l
+pub symbolsTo-whole : (q : ℕ) (l : List ℕ) → Symbols q l → symbolsTo q l ≡ length l
 unfolding symbolsTo
-all-symbols q [] S = refl
-all-symbols q (x ∷ l) S =
+symbolsTo-whole q [] S = refl
+symbolsTo-whole q (x ∷ l) S =
     ap (λ (t : Bool). pick t (suc (symbolsTo q l)) 0) (lt-ltb x q (S .below 0 (omega arith)))
-    ∙ ap suc (all-symbols q l (record { below = λ i h. S .below (suc i) (omega arith) }))
+    ∙ ap suc (symbolsTo-whole q l (record { below = λ i h. S .below (suc i) (omega arith) }))
 
-pub symbols-all : (q : ℕ) (l : List ℕ) → symbolsTo q l ≡ length l → Symbols q l
+pub whole-symbols : (q : ℕ) (l : List ℕ) → symbolsTo q l ≡ length l → Symbols q l
 unfolding symbolsTo
-symbols-all q [] e = no-symbols q
-symbols-all q (x ∷ l) e = at (symbols-all q l) (ltb x q) refl e
+whole-symbols q [] e = no-symbols q
+whole-symbols q (x ∷ l) e = at (whole-symbols q l) (ltb x q) refl e
   where
     at : (symbolsTo q l ≡ length l → Symbols q l) → (t : Bool) → ltb x q ≡ t → pick t (suc (symbolsTo q l)) 0 ≡ suc (length l) → Symbols q (x ∷ l)
     at more true b e = symbols-more q x l (ltb-true x q b) (more (omega arith))
@@ -285,7 +285,7 @@ decoding-yes number reception messageRoom transmissionRoom e =
       blocks = frame .blocks;
       most = frame .most;
       long = frame .long-is;
-      symbols = symbols-all (p .q) reception (eqb→eq (symbolsTo (p .q) reception) (length reception) (all .1 .1 .1 .0));
+      symbols = whole-symbols (p .q) reception (eqb→eq (symbolsTo (p .q) reception) (length reception) (all .1 .1 .1 .0));
       message-room = leb→le (blocksOf p (length reception) * p .k) messageRoom (all .1 .1 .1 .1 .0);
       transmission-room = leb→le ((blocksOf p (length reception) + p .m) * p .n) transmissionRoom (all .1 .1 .1 .1 .1 .0);
     }
@@ -313,7 +313,7 @@ encoding-yes number message transmissionRoom e =
           record {
             blocks = le-div-iff-mul-le (sizesOf number (all .0) .information) .1 once;
             long = omega (arith, div-add-mod' (length message) (p .k));
-            symbols = symbols-all (p .q) message (eqb→eq (symbolsTo (p .q) message) (length message) (all .1 .1 .1 .0));
+            symbols = whole-symbols (p .q) message (eqb→eq (symbolsTo (p .q) message) (length message) (all .1 .1 .1 .0));
           };
       room = leb→le ((T + p .m) * p .n) transmissionRoom (all .1 .1 .1 .1 .0);
     }

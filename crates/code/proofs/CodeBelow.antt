@@ -11,10 +11,10 @@ use Rattle.algebra.specs.Sum.{power}
 use Rattle.algebra.specs.Polynomial.{value}
 use Rattle.algebra.specs.parts.Values.{valueOf}
 use Rattle.algebra.proofs.Laws.{Field}
-use Rattle.algebra.proofs.Order.{Order}
+use Rattle.algebra.proofs.HasOrder.{HasOrder}
 use Rattle.algebra.proofs.Polynomials.{valueOf-ext, value-is-valueOf}
 use Rattle.algebra.proofs.Naturality.{Homomorphism, power-natural, valueOf-natural}
-use Rattle.algebra.proofs.Below.{Below, number, element, number-element, fieldBelow, number-keeps, orderBelow, FieldBelow, positive as below-positive}
+use Rattle.algebra.proofs.Below.{Element, number, element, number-element, fieldBelow, number-keeps, orderBelow, FieldBelow, positive as below-positive}
 use Rattle.field.specs.Fields.{opsOf, alpha}
 use Rattle.field.specs.Symbols.{Symbols}
 use Rattle.field.proofs.Laws.{lawsOf, orderOf}
@@ -44,18 +44,18 @@ module _ (p : Setting) (S : Sound p) where
   positive = below-positive laws
 
   -- The field of a setting, its α, and their code.
-  abbrev pub fieldOf : Field (Below (p .q))
+  abbrev pub fieldOf : Field (Element (p .q))
   fieldOf = fieldBelow (p .q) (opsOf (p .q)) laws
 
-  abbrev pub rootOf : Below (p .q)
+  abbrev pub rootOf : Element (p .q)
   rootOf = element (p .q) positive alpha
 
-  pub orderAt : Order (fieldOf .ops) (p .n) rootOf
+  pub orderAt : HasOrder (fieldOf .ops) (p .n) rootOf
   orderAt =
-      subst (λ (n : ℕ). Order (fieldOf .ops) n rootOf) (sym (S .block))
+      subst (λ (n : ℕ). HasOrder (fieldOf .ops) n rootOf) (sym (S .block))
       (orderBelow (p .q) (opsOf (p .q)) laws (p .q - 1) alpha positive (orderOf (p .q) (S .good)))
 
-  abbrev pub overField : Code (Below (p .q))
+  abbrev pub overField : Code (Element (p .q))
   overField = codeOver fieldOf rootOf (p .n) (p .k) (p .m)
 
   pub keeps : Homomorphism (fieldOf .ops) (opsOf (p .q)) number
@@ -64,7 +64,7 @@ module _ (p : Setting) (S : Sound p) where
   pub number-zero : number (fieldOf .ops .zero) ≡ 0
   number-zero = keeps .on-zero ∙ laws .zero-is
 
-  pub number-sub : (a b : Below (p .q)) → number (sub (fieldOf .ops) a b) ≡ sub (opsOf (p .q)) (number a) (number b)
+  pub number-sub : (a b : Element (p .q)) → number (sub (fieldOf .ops) a b) ≡ sub (opsOf (p .q)) (number a) (number b)
   number-sub a b = keeps .on-add a (fieldOf .ops .neg b) ∙ ap (opsOf (p .q) .add (number a)) (keeps .on-neg b)
 
   pub root-number : number rootOf ≡ alpha
@@ -74,7 +74,7 @@ module _ (p : Setting) (S : Sound p) where
   mapped-code = ap (λ (a : ℕ). record { ops = opsOf (p .q); α = a; n = p .n; k = p .k; m = p .m }) root-number
 
   -- Numbers as elements.
-  unfoldable pub lifted : (ℕ → ℕ → ℕ) → ℕ → ℕ → Below (p .q)
+  unfoldable pub lifted : (ℕ → ℕ → ℕ) → ℕ → ℕ → Element (p .q)
   lifted u s r = element (p .q) positive (u s r)
 
   pub number-lifted : (u : ℕ → ℕ → ℕ) (s r : ℕ) → u s r < p .q → number (lifted u s r) ≡ u s r
@@ -109,7 +109,7 @@ module _ (p : Setting) (S : Sound p) where
       ∙ ap₂ (λ (c : Code ℕ) (w : ℕ → ℕ). ending c w j) mapped-code (fun-ext (λ e. number-element (p .q) positive (v e) (below e)))
 
   -- A block's symbols as elements, and the value of its polynomial at a power of α.
-  pub received : List ℕ → ℕ → Below (p .q)
+  pub received : List ℕ → ℕ → Element (p .q)
   received block i = element (p .q) positive (getD block i 0)
 
   module _ (block : List ℕ) (symbols : Symbols (p .q) block) where

@@ -23,7 +23,7 @@ use Rattle.code.specs.Settings.{codeOf}
 use Rattle.code.specs.parts.Sound.{Sound}
 use Rattle.code.proofs.Blocks.{timesG-ext}
 use Rattle.block.specs.parts.Area.{AllBelow, at}
-use Rattle.block.specs.parts.Information.{lacking, BlockRead, Read}
+use Rattle.block.specs.parts.Information.{lacking, BlockRead, InformationRead}
 use Rattle.field.proofs.Sums.{zero-below}
 use Rattle.block.proofs.Accumulated.{zeros-below, below-set}
 use Rattle.block.proofs.CandidateBelow.{recovered-more}
@@ -94,10 +94,10 @@ module _ (p : Setting) (S : Sound p) (values : List ℕ) (values-below : AllBelo
         below = h .below;
       }
 
-  pub read-none : (w : ℕ) → Read p 0 values (replicate w 0)
+  pub read-none : (w : ℕ) → InformationRead p 0 values (replicate w 0)
   read-none w = record { below = zeros-below (p .q) (S .good) w; recovered = λ b l. absurd (omega arith) }
 
-  pub read-more : (b : ℕ) (before after : List ℕ) → Read p b values before → BlockRead p (b * p .k) (p .k) values before after → Read p (b + 1) values after
+  pub read-more : (b : ℕ) (before after : List ℕ) → InformationRead p b values before → BlockRead p (b * p .k) (p .k) values before after → InformationRead p (b + 1) values after
   read-more b before after h new = record { below = new .below; recovered = λ a l. by-block a l (ℕ-discrete a b) }
     where
       by-block : (a : ℕ) → a < b + 1 → Dec (a ≡ b) → Recovered (codeOf p) (view (p .k) values a) (p .k) (view (p .k) after a)

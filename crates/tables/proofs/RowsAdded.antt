@@ -18,10 +18,10 @@ use Rattle.code.specs.Generator.{rowSymbol}
 use Rattle.code.specs.Transmission.{view}
 use Rattle.code.specs.Settings.{codeOf}
 use Rattle.code.specs.parts.Sound.{Sound}
-use Rattle.code.proofs.Numbers.{rowSymbol-below}
+use Rattle.code.proofs.CodeBelow.{rowSymbol-below}
 use Rattle.code.proofs.Lists.{stored}
-use Rattle.tables.specs.parts.Tables.{RowsOf}
-use Rattle.tables.specs.parts.Adding.{plusRow, MultipleAdded, RowAdded, RowsAdded}
+use Rattle.tables.specs.parts.Rows.{RowsOf}
+use Rattle.tables.specs.parts.RowsAdded.{plusRow, MultipleAdded, RowAdded, RowsAdded}
 use Rattle.tables.proofs.Parts.{part-length, part-symbol, put-length, put-before, put-inside, put-after, put-symbols}
 
 module _ (q u : ℕ) (row before : List ℕ) where

@@ -9,7 +9,7 @@ use native.Mathlib.Omega.{arith}
 use lib.Dec.{leb}
 use Rattle.algebra.specs.Ops.{Ops, sub, pick}
 use Rattle.algebra.proofs.Laws.{Field, Tested, is-zero, non-zero, add-zero, neg-zero, eq-of-sub, sub-self}
-use Rattle.algebra.proofs.Order.{Order}
+use Rattle.algebra.proofs.HasOrder.{HasOrder}
 use Rattle.algebra.proofs.Sums.{sum-ext, sum-zeros}
 use Rattle.code.specs.Code.{Code, levelDistance}
 use Rattle.code.specs.Generator.{timesG}
@@ -82,7 +82,7 @@ module _ {F : Type 0} (K : Field F) (α : F) (n k m : ℕ) where
       ∙ sent-difference K α n k m y (λ s r. 𝟘) b l i low zeros
       ∙ combination-ext c l (λ s r. sub (K .ops) (y (b + s) r) 𝟘) (λ s r. y (b + s) r) i (λ s r h q. sub-zero (y (b + s) r))
 
-  module _ (order : Order (K .ops) n α) (fits : (m + 1) * k ≤ n) {R : Type 0} (cost : R → F → ℕ)
+  module _ (order : HasOrder (K .ops) n α) (fits : (m + 1) * k ≤ n) {R : Type 0} (cost : R → F → ℕ)
       (apart : (v : R) (a b : F) → (a ≡ b → ⊥) → 2 ≤ cost v a + cost v b) where
     -- Two combinations of one level that are both near a block have the same information.
     pub combination-certain : (v : ℕ → R) (l : ℕ) (y z : ℕ → ℕ → F) → l ≤ m
