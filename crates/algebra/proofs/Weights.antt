@@ -1,16 +1,18 @@
 -- Totals of numbers, counts of the places at which a test holds, and weights of sequences over a field.
 -- Holds: `total-ext`, `total-mono`, `total-most`, `total-add`, `total-scale`, `total-split`, `total-blocks`; `countOf-ext`, `one-le`, `countOf-le`, `countOf-mono`,
--- `countOf-without`; `zero-test`, `nonzero-test`, `zero-uncounted`, `weight-short`.
+-- `countOf-without`; `zero-test`, `nonzero-test`, `zero-uncounted`, `weight-short`;
+-- `distance-le`; `total-none`, `total-same`, `total-more` (as a loop adds up).
 use mathlib.Core.Path.{_≡_, refl, sym, ap, ap₂, subst, _∙_}
 use mathlib.Core.Bool.{Bool, true, false, not, _&&_}
 use Prim.Native.Nat.{ℕ, zero, suc, _+_, _*_, _≤_, _<_}
 use native.Mathlib.Nat.{add-zero, add-suc, add-assoc, zero-mul, suc-mul}
+use native.Mathlib.Numerals.{add-one}
 use native.Mathlib.Omega.{arith}
 use native.Mathlib.Decide.{ℕ-discrete, decLt}
 use lib.Dec.{eqb, T}
 use borrow.Author.Tests.{eq-eqb, ne-eqb}
 use Rattle.algebra.specs.Ops.{Ops, pick}
-use Rattle.algebra.specs.Weight.{total, countOf, weight}
+use Rattle.algebra.specs.Weight.{total, countOf, weight, distance}
 use Rattle.algebra.proofs.Laws.{Field, Tested, is-zero, non-zero}
 
 pub total-ext : (n : ℕ) (f g : ℕ → ℕ) → ((i : ℕ) → i < n → f i ≡ g i) → total n f ≡ total n g
@@ -135,3 +137,20 @@ module _ {F : Type 0} (K : Field F) where
       at (no d) rest =
           let gone : _≡_ {A = ℕ} (pick (not (K .ops .isZero (b n))) 1 0) 0 = ap {B = ℕ} (λ (t : Bool). pick (not t) 1 0) (zero-test (b n) (h n (omega arith) (omega arith))) in
           omega arith
+
+-- A count of what each place adds: none yet, one more place that adds nothing, one more that adds v.
+module _ (f : ℕ → ℕ) where
+  pub total-none : 0 ≡ total 0 f
+  unfolding total
+  total-none = refl
+
+  pub total-more : (i v : ℕ) → f i ≡ v → total i f + v ≡ total (i + 1) f
+  unfolding total
+  total-more i v e = ap (λ (t : ℕ). total i f + t) (sym e) ∙ ap (λ (j : ℕ). total j f) (sym (add-one i))
+
+  pub total-same : (i : ℕ) → f i ≡ 0 → total i f ≡ total (i + 1) f
+  total-same i e = omega (arith, total-more i 0 e)
+
+-- Sequences differ in no more symbols than they have.
+pub distance-le : {r : ℕ} (n : ℕ) (a b : ℕ → ℕ) → r ≡ distance n a b → r ≤ n
+distance-le n a b e = subst (λ (t : ℕ). t ≤ n) (sym e) (countOf-le n (λ i. not (eqb (a i) (b i))))

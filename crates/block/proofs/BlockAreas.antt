@@ -4,7 +4,7 @@ use mathlib.Core.List.{List}
 use Prim.Native.Nat.{ℕ}
 use lib.ListN.{length}
 use Rattle.code.specs.declared.Setting.{Setting}
-use Rattle.block.specs.parts.Area.{BlockAreas}
+use Rattle.block.specs.parts.BlockAreas.{BlockAreas}
 
 pub block-areas-kept : {p : Setting} {series locator values information series' locator' values' information' : List ℕ} → BlockAreas p series locator values information
     → length series' ≡ length series → length locator' ≡ length locator → length values' ≡ length values → length information' ≡ length information

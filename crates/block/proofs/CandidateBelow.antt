@@ -15,19 +15,18 @@ use Rattle.field.specs.Symbols.{Symbols}
 use Rattle.code.specs.declared.Setting.{Setting}
 use Rattle.code.specs.Code.{Code, levelDistance}
 use Rattle.code.specs.Generator.{timesG}
-use Rattle.code.specs.Transmission.{view}
+use Rattle.area.specs.Lists.{view}
 use Rattle.code.specs.Level.{combination}
 use Rattle.code.specs.parts.Recovery.{ending, Recovered}
-use Rattle.code.specs.parts.Cost.{symbolCost, blockCost}
+use Rattle.code.specs.parts.Cost.{symbolCost, blockCost, levelCost}
 use Rattle.code.specs.Settings.{codeOf}
 use Rattle.code.specs.parts.Sound.{Sound}
-use Rattle.code.specs.parts.Reading.{levelCost}
 use Rattle.code.proofs.Certainty.{weight-apart}
 use Rattle.code.proofs.Cost.{cost-same, byteCost, bytes-apart}
 use Rattle.code.proofs.Recovery.{recovered-step}
 use Rattle.code.proofs.CodeBelow.{laws, fieldOf, rootOf, orderAt, overField, lifted, timesG-number, combination-number, ending-number, received, received-number, value-number}
 use Rattle.code.proofs.Settings.{level-fits, information-fits}
-use Rattle.block.specs.parts.Area.{at}
+use Rattle.field.specs.parts.Sequences.{at}
 use Rattle.block.specs.parts.Locator.{Located, Extended}
 use Rattle.block.specs.parts.LocatorAreas.{LocatorFound}
 use Rattle.block.specs.parts.Spectrum.{SpectrumOf, Continued}

@@ -17,15 +17,15 @@ use Rattle.field.specs.Symbols.{Is}
 use Rattle.field.proofs.Laws.{lawsOf}
 use Rattle.code.specs.declared.Setting.{Setting}
 use Rattle.code.specs.Generator.{timesG}
-use Rattle.code.specs.Transmission.{view}
+use Rattle.area.specs.Lists.{view}
 use Rattle.code.specs.parts.Recovery.{ending, Recovered}
 use Rattle.code.specs.Settings.{codeOf}
 use Rattle.code.specs.parts.Sound.{Sound}
 use Rattle.code.proofs.Blocks.{timesG-ext}
-use Rattle.block.specs.parts.Area.{AllBelow, at}
+use Rattle.field.specs.parts.Sequences.{AllBelow, at}
 use Rattle.block.specs.parts.Information.{lacking, BlockRead, InformationRead}
 use Rattle.field.proofs.Sums.{zero-below}
-use Rattle.block.proofs.Accumulated.{zeros-below, below-set}
+use Rattle.field.proofs.Symbols.{zeros-below, below-set}
 use Rattle.block.proofs.CandidateBelow.{recovered-more}
 
 module _ (q : ℕ) (good : Good q) where

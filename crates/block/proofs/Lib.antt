@@ -3,7 +3,6 @@ pub mod LocatorStep
 pub mod ErrorSpectrum
 pub mod Candidate
 pub mod LocatorBelow
-pub mod Accumulated
 pub mod Multiples
 pub mod LocatorPair
 pub mod Spectra

@@ -8,7 +8,7 @@ use Rattle.algebra.proofs.Below.{FieldBelow}
 use Rattle.field.specs.Fields.{Good, opsOf}
 use Rattle.field.specs.Symbols.{Is}
 use Rattle.field.proofs.Laws.{lawsOf}
-use Rattle.block.specs.parts.Area.{AllBelow, at}
+use Rattle.field.specs.parts.Sequences.{AllBelow, at}
 use Rattle.block.specs.parts.Locator.{tail, Located}
 use Rattle.block.specs.parts.LocatorAreas.{Unit, Multiple, LocatorPair}
 use Rattle.field.proofs.Sums.{zero-below}

@@ -9,10 +9,10 @@ use lib.Seq.{getD-set-other}
 use Rattle.algebra.specs.Ops.{sub}
 use Rattle.field.specs.Fields.{opsOf}
 use Rattle.field.specs.Symbols.{Is}
-use Rattle.code.proofs.Lists.{stored}
-use Rattle.block.specs.parts.Area.{AllBelow, at}
+use Rattle.area.proofs.Lists.{stored}
+use Rattle.field.specs.parts.Sequences.{AllBelow, at}
 use Rattle.block.specs.parts.LocatorAreas.{Multiple}
-use Rattle.block.proofs.Accumulated.{below-set}
+use Rattle.field.proofs.Symbols.{below-set}
 
 module _ (q factor shift : ℕ) (source before : List ℕ) where
   pub multiple-none : AllBelow q before → Multiple q factor shift 0 source before before

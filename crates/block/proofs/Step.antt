@@ -10,13 +10,12 @@ use Rattle.algebra.proofs.Weights.{total-ext}
 use Rattle.field.specs.Symbols.{Symbols}
 use Rattle.code.specs.declared.Setting.{Setting}
 use Rattle.code.specs.Code.{levelDistance}
-use Rattle.code.specs.Transmission.{view}
-use Rattle.code.specs.parts.Cost.{symbolCost, blockCost}
+use Rattle.area.specs.Lists.{view}
+use Rattle.code.specs.parts.Cost.{symbolCost, blockCost, levelCost}
 use Rattle.code.specs.Settings.{codeOf}
 use Rattle.code.specs.parts.Sound.{Sound}
-use Rattle.code.specs.parts.Reading.{levelCost}
 use Rattle.code.proofs.Blocks.{combination-ext}
-use Rattle.block.specs.parts.Area.{at}
+use Rattle.field.specs.parts.Sequences.{at}
 use Rattle.block.specs.parts.Candidate.{syndromesAt, Begun, Candidate}
 use Rattle.block.specs.parts.Step.{Information, Step, near, far}
 use Rattle.block.proofs.Spectra.{found-longer}

@@ -6,10 +6,10 @@ ghost use Rattle.algebra.specs.parts.Values.{falling as fallingOf};
 ghost use Rattle.field.specs.Fields.{Good, opsOf, alpha};
 ghost use Rattle.field.specs.Symbols.{Is};
 ghost use Rattle.field.specs.parts.Products.{ProductsOf};
-ghost use Rattle.code.specs.Transmission.{view};
-ghost use Rattle.code.specs.parts.Reading.{levelCost};
+ghost use Rattle.area.specs.Lists.{view};
+ghost use Rattle.code.specs.parts.Cost.{levelCost};
 ghost use Rattle.tables.specs.parts.Rows.{Ready};
-ghost use Rattle.block.specs.parts.Area.{AllBelow, at};
+ghost use Rattle.field.specs.parts.Sequences.{AllBelow, at};
 ghost use Rattle.block.specs.parts.Information.{lacking, BlockRead, InformationRead};
 use code::Setting;
 use field::Products;
@@ -47,7 +47,7 @@ fn symbol(
     let k = p.k;
     let sum = falling(q, products, k, values, from, point);
     let ending = field::negate(q, sum);
-    let known = tables::product::times_g(p, products, rows, information, from, 0, p.n - j);
+    let known = tables::combine::times_g(p, products, rows, information, from, 0, p.n - j);
     let lack = field::subtract(q, ending, known);
     field::add(q, information[from + (k - j)], lack)
 }
@@ -91,7 +91,7 @@ pub fn read(
 {
     let k = p.k;
     let back = field::inverse(p.q, products, 2);
-    field::clear(information);
+    area::clear(information);
     let mut b: usize = 0;
     while b < blocks {
         read_block(p, products, rows, values, b * k, back, information);
@@ -115,7 +115,7 @@ pub fn cost(
     let mut cost: usize = 0;
     let mut i: usize = 0;
     while i < n {
-        let symbol = tables::product::combination(p, products, rows, information, l, i);
+        let symbol = tables::combine::combination(p, products, rows, information, l, i);
         let received = block[i];
         i += 1;
         if received == symbol {

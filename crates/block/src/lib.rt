@@ -14,7 +14,7 @@ ghost use Rattle.field.specs.Symbols.{Symbols};
 ghost use Rattle.field.specs.parts.Products.{ProductsOf};
 ghost use Rattle.code.specs.parts.Sound.{Sound};
 ghost use Rattle.tables.specs.parts.Rows.{Ready};
-ghost use Rattle.block.specs.parts.Area.{BlockAreas};
+ghost use Rattle.block.specs.parts.BlockAreas.{BlockAreas};
 ghost use Rattle.block.specs.parts.Candidate.{Begun, Candidate};
 ghost use Rattle.block.specs.parts.Step.{Step};
 use code::Setting;

@@ -5,7 +5,7 @@ ghost use lib.ListN.{length};
 ghost use Rattle.field.specs.Fields.{Good, opsOf};
 ghost use Rattle.field.specs.Symbols.{Is};
 ghost use Rattle.field.specs.parts.Products.{ProductsOf};
-ghost use Rattle.block.specs.parts.Area.{AllBelow, at};
+ghost use Rattle.field.specs.parts.Sequences.{AllBelow, at};
 ghost use Rattle.block.specs.parts.Locator.{tail as tailOf};
 ghost use Rattle.block.specs.parts.LocatorAreas.{Unit, Multiple, LocatorPair, LocatorFound};
 use field::Products;
@@ -121,7 +121,7 @@ pub fn unit(series: &mut [u8])
     requires { ⌜ 0 < length (now series) ⌝ }
     ensures { λ _. ⌜ Unit (now (series .exit)) ⌝ }
 {
-    field::clear(series);
+    area::clear(series);
     series[0] = 1;
 }
 

@@ -5,7 +5,7 @@ ghost use Rattle.algebra.specs.Sum.{power};
 ghost use Rattle.field.specs.Fields.{Good, opsOf, alpha};
 ghost use Rattle.field.specs.Symbols.{Is, Symbols};
 ghost use Rattle.field.specs.parts.Products.{ProductsOf};
-ghost use Rattle.block.specs.parts.Area.{AllBelow};
+ghost use Rattle.field.specs.parts.Sequences.{AllBelow};
 ghost use Rattle.block.specs.parts.Spectrum.{SpectrumOf, Continued};
 use field::Products;
 

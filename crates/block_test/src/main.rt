@@ -3,13 +3,13 @@
 // Writes for each setting and level: how many blocks, how many of them near, in how many the two agree.
 ghost use mathlib.Core.Path.{_≡_};
 ghost use Prim.Native.Nat.{_≤_, _<_};
-ghost use lib.Dec.{T};
+ghost use lib.Dec.{T as Passes};
 ghost use lib.ListN.{length};
 ghost use Rattle.field.specs.Fields.{Good};
 ghost use Rattle.field.specs.Symbols.{Symbols};
 ghost use Rattle.code.specs.Settings.{isSetting, settingOf};
 ghost use Rattle.tables.specs.parts.Rows.{Ready, longestBlock};
-ghost use Rattle.block.specs.parts.Area.{BlockAreas};
+ghost use Rattle.block.specs.parts.BlockAreas.{BlockAreas};
 use code::Setting;
 use field::Products;
 use libc::STDOUT_FILENO;
@@ -47,7 +47,7 @@ fn near(
     let mut cost: usize = 0;
     let mut i: usize = 0;
     while i < n {
-        let symbol = tables::product::combination(p, products, rows, information, l, i);
+        let symbol = tables::combine::combination(p, products, rows, information, l, i);
         let same = received[i] == symbol;
         i += 1;
         if same {
@@ -238,9 +238,9 @@ fn compare(
 
 // One level of a setting: q^((l+1)k) information words, q^n blocks.
 fn level(number: u64, l: usize, distance: usize, count: usize, stride: usize, end: usize)
-    requires { ⌜ T (isSetting number) × (l ≤ settingOf number .m) × (0 < stride) × (stride ≤ 4194304) × (end ≤ 4194304) ⌝ }
+    requires { ⌜ Passes (isSetting number) × (l ≤ settingOf number .m) × (0 < stride) × (stride ≤ 4194304) × (end ≤ 4194304) ⌝ }
 {
-    let p = tables::setting(number);
+    let p = code::setting_of(number);
     let products = field::products(p.q);
     let mut rows = [0u8; tables::MOST_ROWS];
     tables::rows(number, &mut rows);

@@ -22,14 +22,15 @@ use Rattle.field.proofs.Symbols.{symbol-below}
 use Rattle.code.specs.declared.Setting.{Setting}
 use Rattle.code.specs.Code.{Code}
 use Rattle.code.specs.Generator.{rowSymbol, timesG}
-use Rattle.code.specs.Transmission.{view, sentSymbol}
+use Rattle.area.specs.Lists.{view}
+use Rattle.code.specs.Transmission.{sentSymbol}
 use Rattle.code.specs.Level.{combination}
 use Rattle.code.specs.parts.Recovery.{ending}
 use Rattle.code.specs.Settings.{codeOf}
 use Rattle.code.specs.Windows.{transmission, Message}
 use Rattle.code.proofs.Blocks.{codeOver, combination-ext}
 use Rattle.code.proofs.Naturality.{mapped, rowSymbol-natural, timesG-natural, sentSymbol-natural, combination-natural, ending-natural}
-use Rattle.code.proofs.Lists.{length-tabulate, getD-tabulate, view-tabulate}
+use Rattle.area.proofs.Lists.{length-tabulate, getD-tabulate, view-tabulate}
 use Rattle.code.specs.parts.Sound.{Sound}
 
 pub transmission-long : (p : Setting) (x : List ℕ) → length (transmission p x) ≡ (length x / p .k + p .m) * p .n

@@ -19,11 +19,11 @@ use Rattle.algebra.proofs.Below.{Element, number, number-injective}
 use Rattle.field.specs.Fields.{opsOf}
 use Rattle.code.specs.declared.Setting.{Setting}
 use Rattle.code.specs.Code.{distancesTo, limit}
-use Rattle.code.specs.Transmission.{view, sentSymbol}
-use Rattle.code.specs.parts.Cost.{symbolCost, costTo}
+use Rattle.area.specs.Lists.{view}
+use Rattle.code.specs.Transmission.{sentSymbol}
+use Rattle.code.specs.parts.Cost.{symbolCost, costTo, messageCost, NearWindow}
 use Rattle.code.specs.parts.Sound.{Sound}
 use Rattle.code.specs.Windows.{transmission, windowLength, windowDistance, Message, Fits}
-use Rattle.code.specs.parts.Reading.{messageCost, NearWindow}
 use Rattle.code.proofs.CodeBelow.{fieldOf, overField, lifted, number-sub, sent-number, message-below, transmission-view}
 
 module _ (q : ℕ) where

@@ -11,7 +11,7 @@ use Rattle.code.specs.Code.{distancesTo}
 use Rattle.code.specs.Settings.{settingOf}
 use Rattle.code.specs.parts.Sound.{Sound}
 use Rattle.code.specs.Demand3.{FirstDifferingBlock, AtMostOneFits, IndependentOfLaterBlocks, Demand3}
-use Rattle.code.proofs.Lists.{equal-part, part-equal}
+use Rattle.area.proofs.Lists.{equal-part, part-equal}
 use Rattle.code.proofs.Cost.{fits-cost, fits-near}
 use Rattle.code.proofs.Messages.{block-determined, messages-agree, alike-window}
 use Rattle.code.proofs.Settings.{soundOf}

@@ -6,7 +6,6 @@ pub mod Certainty
 pub mod Differences
 pub mod Window
 pub mod Naturality
-pub mod Lists
 pub mod Settings
 pub mod CodeBelow
 pub mod Cost
@@ -18,3 +17,4 @@ pub mod Messages
 pub mod Demand3
 pub mod Search
 pub mod AlteredBound
+pub mod Distances

@@ -16,10 +16,12 @@ use Rattle.algebra.proofs.Below.{Element, number, number-injective, element, nu
 use Rattle.field.specs.Fields.{opsOf}
 use Rattle.code.specs.declared.Setting.{Setting}
 use Rattle.code.specs.Generator.{rowSymbol, timesG}
-use Rattle.code.specs.Transmission.{view, earlier, sentSymbol}
+use Rattle.area.specs.Lists.{view}
+use Rattle.code.specs.Transmission.{earlier, sentSymbol}
 use Rattle.code.specs.Settings.{codeOf}
 use Rattle.code.specs.parts.Sound.{Sound}
-use Rattle.code.specs.parts.Reading.{only, IsResidual}
+use Rattle.code.specs.parts.Information.{only}
+use Rattle.code.specs.parts.Residual.{IsResidual}
 use Rattle.code.proofs.Blocks.{timesG-ext}
 use Rattle.code.proofs.Differences.{sent-sub, sent-zeros}
 use Rattle.code.proofs.Window.{contribution, single, sent-single}

@@ -15,13 +15,15 @@ use Rattle.algebra.proofs.Below.{Element, number, number-injective, element, nu
 use Rattle.field.specs.Fields.{opsOf}
 use Rattle.field.proofs.Symbols.{symbol-below}
 use Rattle.code.specs.declared.Setting.{Setting}
-use Rattle.code.specs.Transmission.{view, sentSymbol}
+use Rattle.area.specs.Lists.{view}
+use Rattle.code.specs.Transmission.{sentSymbol}
 use Rattle.code.specs.Level.{combination}
-use Rattle.code.specs.parts.Cost.{symbolCost, costTo, blockCost, rebuiltCost}
+use Rattle.code.specs.parts.Cost.{symbolCost, costTo, blockCost, rebuiltCost, windowCost, zeroCost, messageCost}
 use Rattle.code.specs.Settings.{codeOf}
 use Rattle.code.specs.parts.Sound.{Sound}
 use Rattle.code.specs.Windows.{windowLength, Message}
-use Rattle.code.specs.parts.Reading.{BlocksBelow, windowCost, zeroCost, messageCost, IsResidual}
+use Rattle.code.specs.parts.Information.{BlocksBelow}
+use Rattle.code.specs.parts.Residual.{IsResidual}
 use Rattle.code.proofs.Blocks.{combination-ext}
 use Rattle.code.proofs.Differences.{sent-sub, sent-ahead}
 use Rattle.code.proofs.CodeBelow.{laws, positive, fieldOf, rootOf, overField, keeps, number-zero, number-sub, lifted, number-lifted, sent-number, combination-number, message-below, sent-below}

@@ -6,7 +6,7 @@ use mathlib.Core.List.{List, [], _∷_}
 use Prim.Native.Nat.{ℕ, zero, suc, _+_, _-_, _*_, _≤_, _<_}
 use native.Mathlib.Omega.{arith}
 use native.Mathlib.Nat.{not-suc-le-zero, le-of-suc-le-suc, mul-le-mul, mul-le-mul-right}
-use lib.Dec.{T, leb, leb→le}
+use lib.Dec.{T as Passes, leb, leb→le}
 use lib.ListN.{length, getD}
 use Rattle.algebra.proofs.Tests.{and-left, and-right}
 use Rattle.field.specs.Fields.{Good, five-elements, eight-elements}
@@ -26,7 +26,7 @@ each-at (next p rest) zero d h = p
 each-at (next p rest) (suc i) d h = each-at rest i d (le-of-suc-le-suc h)
 
 -- A setting's number is in the list's range.
-pub setting-range : (s : ℕ) → T (isSetting s) → (1 ≤ s) × (s ≤ length settings)
+pub setting-range : (s : ℕ) → Passes (isSetting s) → (1 ≤ s) × (s ≤ length settings)
 setting-range s t = (
   leb→le 1 s (and-left (leb 1 s) (leb s (length settings)) t),
   leb→le s (length settings) (and-right (leb 1 s) (leb s (length settings)) t),
@@ -41,7 +41,7 @@ sounds =
     (next (sound 8 2 2 eight-elements (omega arith) (omega arith))
     (next (sound 8 3 1 eight-elements (omega arith) (omega arith)) none))
 
-pub soundOf : (s : ℕ) → T (isSetting s) → Sound (settingOf s)
+pub soundOf : (s : ℕ) → Passes (isSetting s) → Sound (settingOf s)
 soundOf s t = each-at sounds (s - 1) (setting 0 0 0) (omega (arith, setting-range s t))
 
 -- A block has symbols.
@@ -78,7 +78,7 @@ sizes p S =
       memory-most = omega (arith, S .room, mul-le-mul all (S .information));
     }
 
-pub sizesOf : (s : ℕ) → T (isSetting s) → Sizes (settingOf s)
+pub sizesOf : (s : ℕ) → Passes (isSetting s) → Sizes (settingOf s)
 sizesOf s t = sizes (settingOf s) (soundOf s t)
 
 -- A setting's figure is at most the largest.
@@ -87,5 +87,5 @@ largest-at figure [] i d h = absurd (not-suc-le-zero h)
 largest-at figure (p ∷ rest) zero d h = omega arith
 largest-at figure (p ∷ rest) (suc i) d h = let later = largest-at figure rest i d (le-of-suc-le-suc h) in omega arith
 
-pub largestOf : (figure : Setting → ℕ) (s : ℕ) → T (isSetting s) → figure (settingOf s) ≤ largest figure settings
+pub largestOf : (figure : Setting → ℕ) (s : ℕ) → Passes (isSetting s) → figure (settingOf s) ≤ largest figure settings
 largestOf figure s t = largest-at figure settings (s - 1) (setting 0 0 0) (omega (arith, setting-range s t))

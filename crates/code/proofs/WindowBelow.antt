@@ -11,13 +11,13 @@ use Rattle.algebra.proofs.Weights.{total-ext, total-blocks}
 use Rattle.algebra.proofs.Below.{number, number-injective, number-element}
 use Rattle.code.specs.declared.Setting.{Setting}
 use Rattle.code.specs.Code.{levelDistance, distancesTo}
-use Rattle.code.specs.Transmission.{view}
+use Rattle.area.specs.Lists.{view}
 use Rattle.code.specs.Level.{combination}
-use Rattle.code.specs.parts.Cost.{symbolCost, blockCost, rebuiltCost}
+use Rattle.code.specs.parts.Cost.{symbolCost, blockCost, rebuiltCost, levelCost, windowCost, zeroCost}
 use Rattle.code.specs.Settings.{codeOf}
 use Rattle.code.specs.parts.Sound.{Sound}
 use Rattle.code.specs.Windows.{windowLength}
-use Rattle.code.specs.parts.Reading.{BlocksBelow, levelCost, windowCost, zeroCost}
+use Rattle.code.specs.parts.Information.{BlocksBelow}
 use Rattle.code.proofs.Blocks.{combination-ext}
 use Rattle.code.proofs.Differences.{combination-zeros}
 use Rattle.code.proofs.Window.{turn-certain, turn-refused}

@@ -4,7 +4,7 @@
 use mathlib.Core.Path.{_≡_}
 use mathlib.Core.List.{List}
 use Prim.Native.Nat.{ℕ, _+_, _*_, _<_}
-use lib.Dec.{T as Holds}
+use lib.Dec.{T as Passes}
 use lib.ListN.{length, take, drop}
 use Rattle.code.specs.declared.Setting.{Setting}
 use Rattle.code.specs.Settings.{isSetting, settingOf}
@@ -30,4 +30,4 @@ IndependentOfLaterBlocks p = (T : ℕ) (v w x y : List ℕ) (j : ℕ) → Fits p
 
 -- Of the settings in use.
 abbrev pub Demand3 : Type 0
-Demand3 = (s : ℕ) → Holds (isSetting s) → FirstDifferingBlock (settingOf s) × AtMostOneFits (settingOf s) × IndependentOfLaterBlocks (settingOf s)
+Demand3 = (s : ℕ) → Passes (isSetting s) → FirstDifferingBlock (settingOf s) × AtMostOneFits (settingOf s) × IndependentOfLaterBlocks (settingOf s)

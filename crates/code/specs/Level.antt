@@ -4,7 +4,7 @@ use mathlib.Core.Path.{_≡_}
 use mathlib.Core.Bool.{not}
 use mathlib.Core.List.{List}
 use Prim.Native.Nat.{ℕ, suc, _+_, _-_, _*_, _≤_, _<_}
-use lib.Dec.{T, eqb}
+use lib.Dec.{T as Passes, eqb}
 use lib.ListN.{length, getD}
 use Rattle.algebra.specs.Sum.{sum, power}
 use Rattle.algebra.specs.Polynomial.{value}
@@ -39,5 +39,5 @@ pub record LevelCode (p : Setting) (l : ℕ) (block : List ℕ) : Type 0 where
 
 -- Of every setting, level and block of n symbols (`level-blocks`, proofs/LevelBlocks).
 abbrev pub LevelBlocks : Type 0
-LevelBlocks = (s : ℕ) → T (isSetting s) → (l : ℕ) → l ≤ settingOf s .m
+LevelBlocks = (s : ℕ) → Passes (isSetting s) → (l : ℕ) → l ≤ settingOf s .m
     → (block : List ℕ) → length block ≡ settingOf s .n → Symbols (settingOf s .q) block → LevelCode (settingOf s) l block

@@ -9,7 +9,7 @@ use lib.ListN.{length, getD}
 use Rattle.field.specs.Fields.{opsOf, alpha}
 use Rattle.code.specs.declared.Setting.{Setting}
 use Rattle.code.specs.Code.{Code, levelDistance, distancesTo, designDistance, limit}
-use Rattle.code.specs.Transmission.{tabulate}
+use Rattle.area.specs.Lists.{tabulate}
 
 -- "A block has n = q - 1 symbols. An information block has k. The memory is m."
 abbrev pub setting : ℕ → ℕ → ℕ → Setting

@@ -1,5 +1,5 @@
 -- The transmission of a message (01, "The transmission"; transmission: the codeword, message: the information word).
--- Holds: `view`, a list as blocks; `earlier`, information block s - j; `sentSymbol`, symbol i of sent block s; `tabulate`.
+-- Holds: `earlier`, information block s - j; `sentSymbol`, symbol i of sent block s.
 use mathlib.Core.List.{List, [], _∷_}
 use Prim.Native.Nat.{ℕ, zero, suc, _+_, _-_, _*_}
 use lib.Dec.{leb}
@@ -9,10 +9,6 @@ use Rattle.algebra.specs.Sum.{sum}
 use Rattle.code.specs.Code.{Code}
 use Rattle.code.specs.Generator.{timesG}
 
--- Symbol i of block s of a list of blocks of w symbols, 0 past its end.
-abbrev pub view : ℕ → List ℕ → ℕ → ℕ → ℕ
-view w l s i = getD l (s * w + i) 0
-
 -- Information block s - j. Blocks before the first are zero.
 abbrev pub earlier : {F : Type 0} → Ops F → (ℕ → ℕ → F) → ℕ → ℕ → ℕ → F
 earlier o u s j r = pick (leb j s) (u (s - j) r) (o .zero)
@@ -20,8 +16,3 @@ earlier o u s j r = pick (leb j s) (u (s - j) r) (o .zero)
 -- "Sent block s is the sum over j of (information block s-j) × G_j": its symbol i, for the information blocks u.
 unfoldable pub sentSymbol : {F : Type 0} → Code F → (ℕ → ℕ → F) → ℕ → ℕ → F
 sentSymbol c u s i = sum (c .ops) (suc (c .m)) (λ j. timesG c (earlier (c .ops) u s j) j i)
-
--- f 0, .., f (n-1)
-unfoldable pub tabulate {ℓ} : {A : Type ℓ} → ℕ → (ℕ → A) → List A
-tabulate zero f = []
-tabulate (suc n) f = f 0 ∷ tabulate n (λ i. f (suc i))

@@ -8,7 +8,8 @@ use Rattle.algebra.specs.Weight.{distance}
 use Rattle.field.specs.Symbols.{Symbols}
 use Rattle.code.specs.declared.Setting.{Setting}
 use Rattle.code.specs.Code.{limit}
-use Rattle.code.specs.Transmission.{view, sentSymbol, tabulate}
+use Rattle.area.specs.Lists.{view, tabulate}
+use Rattle.code.specs.Transmission.{sentSymbol}
 use Rattle.code.specs.Settings.{codeOf}
 
 -- The transmission (the codeword) of a message (the information word): T+m blocks, "the m closing blocks" (the tail that returns the encoder to

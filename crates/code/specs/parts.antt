@@ -2,4 +2,5 @@
 pub mod Sound
 pub mod Cost
 pub mod Recovery
-pub mod Reading
+pub mod Information
+pub mod Residual

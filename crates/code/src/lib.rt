@@ -1,4 +1,10 @@
-// The code of document 01 in specs/, and what is true of it in proofs/. The only declaration is the type of a setting.
+// The code of document 01 in specs/, and what is true of it in proofs/; the settings at run time.
+ghost use mathlib.Core.Path.{_≡_};
+ghost use Prim.Native.Nat.{_≤_};
+ghost use lib.Dec.{T as Passes};
+ghost use Rattle.code.specs.Code.{distancesTo};
+ghost use Rattle.code.specs.Settings.{isSetting, settingOf};
+ghost use Rattle.code.specs.parts.Sound.{Sound};
 
 // A setting (the code's parameters): q elements, blocks of n = q - 1 symbols, information blocks of k, memory m.
 pub struct Setting {
@@ -6,4 +12,61 @@ pub struct Setting {
     pub n: usize,
     pub k: usize,
     pub m: usize,
+}
+
+// Question 1: "Is the setting 1, 2 or 3?"
+pub fn is_setting(number: u64) -> bool
+    ensures { λ r. ⌜ r ≡ isSetting number ⌝ }
+{
+    if number < 1 {
+        return false;
+    }
+    number <= 3
+}
+
+// The parameters of a setting. Told apart by `<`: by `==` the compiler finds that k is the number itself, and decodes up to a tenth slower (docs/PERFORMANCE.md).
+pub fn setting_of(number: u64) -> Setting
+    requires { ⌜ Passes (isSetting number) ⌝ }
+    ensures { λ r. ⌜ r ≡ settingOf number ⌝ }
+{
+    if number < 2 {
+        return Setting {
+            q: 5,
+            n: 4,
+            k: 1,
+            m: 2,
+        };
+    }
+    if number < 3 {
+        return Setting {
+            q: 8,
+            n: 7,
+            k: 2,
+            m: 2,
+        };
+    }
+    Setting {
+        q: 8,
+        n: 7,
+        k: 3,
+        m: 1,
+    }
+}
+
+// d_0 + .. + d_l, the sum of the level codes' distances.
+pub fn distances_to(p: Setting, l: usize) -> usize
+    requires { ⌜ Sound p × (l ≤ p .m) ⌝ }
+    ensures { λ r. ⌜ r ≡ distancesTo (p .n) (p .k) l ⌝ }
+{
+    let n = p.n;
+    let k = p.k;
+    let mut zeros = n - k;
+    let mut sum = zeros + 1;
+    let mut i: usize = 0;
+    while i < l {
+        zeros -= k;
+        sum += zeros + 1;
+        i += 1;
+    }
+    sum
 }

@@ -23,7 +23,7 @@ pub fn window(setting: u64, reception: &[u8], j: u64) -> &[u8]
     if answer.number != 0 {
         return &reception[..0];
     }
-    let p = tables::setting(setting);
+    let p = code::setting_of(setting);
     let n = p.n;
     let m = p.m;
     let from = (j as usize) * n;

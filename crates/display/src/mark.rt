@@ -45,7 +45,7 @@ pub fn marks(setting: u64, reception: &[u8], transmission: &[u8], j: u64) -> Mar
             set: 0,
         };
     }
-    let p = tables::setting(setting);
+    let p = code::setting_of(setting);
     let n = p.n;
     let m = p.m;
     let from = (j as usize) * n;

@@ -1,17 +1,24 @@
 -- Lists of symbols: parts, joins and stores keep every element below q.
 -- Holds: `symbol-below`, `symbols-take`, `symbols-drop`, `symbols-part`, `symbols-append`,
--- `symbols-none`, `symbols-more`, `symbols-set`, `symbols-zeros`.
+-- `symbols-none`, `symbols-more`, `symbols-set`, `symbols-zeros`, `put-symbols` (another part in its place);
+-- of sequences: `below-set`, `all-symbols`, `zeros-below`.
 use mathlib.Core.Path.{_≡_, refl, sym, ap, _∙_, subst}
 use mathlib.Core.Bool.{Bool, true, false}
 use mathlib.Core.List.{List, [], _∷_, _++_}
 use Prim.Native.Nat.{ℕ, zero, suc, _+_, _-_, _<_, _≤_, min}
 use native.Mathlib.Nat.{le-of-suc-le-suc, not-suc-le-zero}
 use native.Mathlib.Omega.{arith}
+use native.Mathlib.Decide.{ℕ-discrete, decLt}
 use lib.Dec.{eqb, ltb}
 use lib.ListN.{length, getD, take, drop, set, replicate, length-append, length-take, length-drop, length-set, length-replicate, getD-replicate, List·getD-eq-default, List·getD-append}
-use lib.Seq.{getD-take, getD-drop, getD-append-add, getD-set-same, getD-set-other}
+use lib.Seq.{getD-take, getD-drop, getD-append-add, getD-set-same, getD-set-other, set-out}
 use borrow.Author.Tests.{ltb-true, ltb-false, eqb-true, eqb-false}
+use borrow.Rule.Slice.PartMut.{putMid}
+use Rattle.area.proofs.Lists.{getD-zeros}
+use Rattle.field.specs.Fields.{Good}
 use Rattle.field.specs.Symbols.{Symbols}
+use Rattle.field.specs.parts.Sequences.{AllBelow}
+use Rattle.field.proofs.Sums.{zero-below}
 
 module _ (q : ℕ) where
   below-of : {a b : ℕ} → a ≡ b → b < q → a < q
@@ -92,3 +99,28 @@ module _ (q : ℕ) where
     where
       at : (i : ℕ) → i < length (replicate {A = ℕ} n 0) → getD (replicate n 0) i 0 < q
       at i h = below-of (getD-replicate n i 0 0 (subst (λ (k : ℕ). i < k) (length-replicate n 0) h)) positive
+
+-- The whole with another part ys in the place of the k elements from a on.
+pub put-symbols : (a k : ℕ) (xs ys : List ℕ) (q : ℕ) → Symbols q xs → Symbols q ys → Symbols q (putMid a k xs ys)
+put-symbols a k xs ys q X Y =
+    symbols-append q (take a xs) (ys ++ drop k (drop a xs)) (symbols-take q a xs X)
+    (symbols-append q ys (drop k (drop a xs)) Y (symbols-drop q k (drop a xs) (symbols-drop q a xs X)))
+
+-- The symbols of an area after a store are below q.
+pub below-set : (q : ℕ) (l : List ℕ) (i v : ℕ) → AllBelow q l → v < q → AllBelow q (set l i v)
+below-set q l i v h b j = at (ℕ-discrete j i) (decLt i (length l))
+  where
+    at : Dec (j ≡ i) → Dec (i < length l) → getD (set l i v) j 0 < q
+    at (yes e) (yes s) = subst (λ (t : ℕ). t < q) (sym (ap (λ (t : ℕ). getD (set l i v) t 0) e ∙ getD-set-same l i v 0 s)) b
+    at (yes e) (no d) =
+        let past : length l < suc i = omega arith in
+        subst (λ (t : List ℕ). getD t j 0 < q) (sym (set-out l i v (omega arith))) (h j)
+    at (no d) s = subst (λ (t : ℕ). t < q) (sym (getD-set-other l i j v 0 d)) (h j)
+
+-- Symbols, all of them below q.
+pub all-symbols : {q : ℕ} {l : List ℕ} → AllBelow q l → Symbols q l
+all-symbols a = record { below = λ i h. a i }
+
+-- Zeros are below q.
+pub zeros-below : (q : ℕ) → Good q → (w : ℕ) → AllBelow q (replicate w 0)
+zeros-below q good w i = subst (λ (t : ℕ). t < q) (sym (getD-zeros w i)) (zero-below q good)

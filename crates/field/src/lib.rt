@@ -125,14 +125,3 @@ pub fn value(q: usize, products: &Products, c: &[u8], x: u8) -> u8
     let rest = value(q, products, &c[1..], x);
     add_product(q, products, first, x, rest)
 }
-
-// Zeros in every place.
-pub fn clear(area: &mut [u8])
-    ensures { λ _. ⌜ now (area .exit) ≡ replicate (length (now (area .entry))) 0 ⌝ }
-{
-    let mut i: usize = 0;
-    while i < area.len() {
-        area[i] = 0;
-        i += 1;
-    }
-}

@@ -16,10 +16,11 @@ use Rattle.field.specs.Symbols.{Symbols}
 use Rattle.field.proofs.Symbols.{symbol-below}
 use Rattle.code.specs.declared.Setting.{Setting}
 use Rattle.code.specs.Code.{distancesTo}
-use Rattle.code.specs.Transmission.{view}
+use Rattle.area.specs.Lists.{view}
 use Rattle.code.specs.parts.Sound.{Sound}
 use Rattle.code.specs.Windows.{transmission, windowLength, altered, Message}
-use Rattle.code.specs.parts.Reading.{zeroCost, messageCost, NearWindow, IsResidual}
+use Rattle.code.specs.parts.Cost.{zeroCost, messageCost, NearWindow}
+use Rattle.code.specs.parts.Residual.{IsResidual}
 use Rattle.code.proofs.Messages.{place-in-blocks}
 use Rattle.code.proofs.Settings.{block-positive}
 use Rattle.code.proofs.CodeBelow.{positive, transmission-view}

@@ -16,21 +16,21 @@ use borrow.Rule.Slice.PartMut.{putMid}
 use Rattle.algebra.specs.Ops.{sub, pick}
 use Rattle.field.specs.Fields.{opsOf}
 use Rattle.field.specs.Symbols.{Symbols}
-use Rattle.field.proofs.Symbols.{symbol-below, symbols-set}
+use Rattle.field.proofs.Symbols.{symbol-below, symbols-set, put-symbols}
 use Rattle.code.specs.declared.Setting.{Setting}
 use Rattle.code.specs.Generator.{rowSymbol, timesG}
-use Rattle.code.specs.Transmission.{view}
+use Rattle.area.specs.Lists.{view}
 use Rattle.code.specs.Settings.{codeOf}
 use Rattle.code.specs.parts.Sound.{Sound}
 use Rattle.code.specs.Windows.{windowLength}
-use Rattle.code.specs.parts.Reading.{only}
+use Rattle.code.specs.parts.Information.{only}
 use Rattle.code.proofs.CodeBelow.{laws, positive, rowSymbol-below}
 use Rattle.code.proofs.Settings.{block-positive}
-use Rattle.code.proofs.Lists.{stored}
+use Rattle.area.proofs.Lists.{stored}
 use Rattle.code.proofs.Residuals.{window-view, add-opposite}
 use Rattle.code.proofs.ResidualSteps.{timesG-only, lessened, residual-step}
 use Rattle.tables.specs.parts.RowsAdded.{plusRow, RowsAdded}
-use Rattle.tables.proofs.Parts.{put-length, put-before, put-inside, put-after, put-symbols}
+use Rattle.area.proofs.Parts.{put-length, put-before, put-inside, put-after}
 use Rattle.frame.specs.parts.Frame.{FrameAreas, Revised, Adjusted, Added}
 
 -- Window j of the residual.
@@ -174,7 +174,7 @@ module _ (p : Setting) (S : Sound p) (T j r v : ℕ) (message residual : List �
             message-long = length-set message (j * p .k + r) w ∙ A .message-long;
             message-symbols = h-symbols;
             residual-long = put-length (j * p .n) (windowLength p) residual window' residual-room window-long ∙ A .residual-long;
-            residual-symbols = put-symbols (j * p .n) (windowLength p) residual window' residual-room window-long (p .q) (A .residual-symbols) (L .symbols);
+            residual-symbols = put-symbols (j * p .n) (windowLength p) residual window' (p .q) (A .residual-symbols) (L .symbols);
           };
           before = λ a l. getD-set-other message (j * p .k + r) a w 0 (omega arith);
           is-residual = λ reception R is-residual. residual-step p S T reception message residual h residual' (symbol-below (p .q) reception R (positive p S)) message-below

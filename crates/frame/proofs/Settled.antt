@@ -1,12 +1,12 @@
 -- The windows in turn: residual, zero window and the chain of refusals, put together on bytes.
 -- Holds: `settled-start`, `near-of-fits`, `settled-none`, `settled-revised`, `settled-found`.
 use mathlib.Core.Path.{_≡_, sym, ap, subst, _∙_}
-use mathlib.Core.List.{List}
+use mathlib.Core.List.{List, _++_}
 use Prim.Native.Nat.{ℕ, _+_, _-_, _*_, _≤_, _<_}
 use native.Mathlib.Nat.{mul-le-mul-right}
 use native.Mathlib.Omega.{arith}
 use native.Mathlib.Decide.{decLt}
-use lib.ListN.{length, getD, replicate, length-replicate}
+use lib.ListN.{length, getD, replicate, length-replicate, take, drop}
 use Rattle.algebra.specs.Ops.{sub}
 use Rattle.field.specs.Fields.{opsOf}
 use Rattle.field.specs.Symbols.{Symbols}
@@ -14,8 +14,8 @@ use Rattle.field.proofs.Symbols.{symbol-below, symbols-zeros}
 use Rattle.code.specs.declared.Setting.{Setting}
 use Rattle.code.specs.parts.Sound.{Sound}
 use Rattle.code.specs.Windows.{Fits}
-use Rattle.code.specs.parts.Reading.{BlocksBelow}
-use Rattle.code.proofs.Lists.{getD-zeros}
+use Rattle.code.specs.parts.Information.{BlocksBelow}
+use Rattle.area.proofs.Lists.{getD-zeros, copied-whole}
 use Rattle.code.proofs.CodeBelow.{positive}
 use Rattle.code.proofs.Cost.{fits-near}
 use Rattle.code.proofs.Residuals.{ahead, ahead-below, add-back, residual-window}
@@ -101,3 +101,10 @@ module _ (p : Setting) (S : Sound p) (T : ℕ) (reception : List ℕ) (R : Symbo
               ∙ ap (opsOf (p .q) .add (getD message (j * p .k + r) 0)) (sym (ahead-first x r) ∙ first (ahead p x message j) (fits-below x F) (near-of-fits l x F) r u)
               ∙ sym (D .symbol r l u));
         }
+
+pub begin : (p : Setting) → Sound p → (T : ℕ) (reception area cleared message after : List ℕ) → Symbols (p .q) reception → length reception ≡ (T + p .m) * p .n
+    → length message ≡ T * p .k → cleared ≡ replicate (length message) 0 → length area ≡ length reception
+    → after ≡ take (length reception) reception ++ drop (length reception) area → Settled p T reception 0 cleared after
+begin p S T reception area cleared message after R long room empty same copied =
+    subst (λ (t : List ℕ). Settled p T reception 0 cleared t) (sym (copied-whole reception area after same copied))
+    (settled-start p S T reception R long cleared (empty ∙ ap (λ (t : ℕ). replicate t 0) room))

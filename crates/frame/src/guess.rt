@@ -32,7 +32,7 @@ fn adjust(
     let sum = field::add(q, message[place], v);
     message[place] = sum;
     let less = field::negate(q, v);
-    tables::product::add_rows(p, products, rows, r, less, &mut residual[start..end]);
+    tables::combine::add_rows(p, products, rows, r, less, &mut residual[start..end]);
 }
 
 // Adds an information block to block i of the message, if it has such a block.
@@ -148,7 +148,7 @@ fn is_light(p: Setting, i: usize, residual: &[u8]) -> bool
     let start = i * p.n;
     let end = start + p.n;
     let distance = p.n - p.k + 1;
-    super::area::cost(&residual[start..end]) <= distance
+    super::window::zero_cost(&residual[start..end]) <= distance
 }
 
 // Guesses block i of the message again, if it has such a block and its residual is too heavy: from the first symbols, or else from the last ones.

@@ -6,7 +6,7 @@ ghost use Rattle.field.specs.Symbols.{Symbols};
 ghost use Rattle.code.specs.Code.{distancesTo};
 ghost use Rattle.code.specs.parts.Sound.{Sound};
 ghost use Rattle.tables.specs.parts.Rows.{Ready};
-ghost use Rattle.block.specs.parts.Area.{BlockAreas};
+ghost use Rattle.block.specs.parts.BlockAreas.{BlockAreas};
 ghost use Rattle.frame.specs.parts.Frame.{Settled, Advanced, Compared, FrameRead};
 use code::Setting;
 use field::Products;
@@ -32,7 +32,7 @@ fn settle(
 {
     let start = j * p.n;
     let end = start + (p.m + 1) * p.n;
-    if super::area::cost(&residual[start..end]) < bound {
+    if super::window::zero_cost(&residual[start..end]) < bound {
         return true;
     }
     let found = super::window::find_level(
@@ -117,7 +117,7 @@ fn compare_windows(p: Setting, blocks: usize, residual: &[u8], bound: usize) -> 
     let mut j: usize = 0;
     while j < blocks {
         let end = start + size;
-        let cost = super::area::cost(&residual[start..end]);
+        let cost = super::window::zero_cost(&residual[start..end]);
         if bound <= cost {
             return false;
         }
@@ -146,8 +146,8 @@ pub fn read(
     ensures { λ r. ⌜ FrameRead p blocks (now (reception .entry)) (now (message .exit)) (now (residual .exit)) r ⌝ }
 {
     let m = p.m;
-    let bound = super::window::distances_to(p, m);
-    field::clear(message);
+    let bound = code::distances_to(p, m);
+    area::clear(message);
     bytes::copy(reception, residual);
     if !read_windows(
         p,

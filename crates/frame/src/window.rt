@@ -1,35 +1,23 @@
 // One window: the information near it, found by the levels of the code.
 ghost use mathlib.Core.Path.{_≡_};
-ghost use Prim.Native.Nat.{_+_, _*_, _≤_};
+ghost use Prim.Native.Nat.{ℕ, _+_, _*_, _≤_};
 ghost use lib.ListN.{length};
 ghost use Rattle.field.specs.Symbols.{Symbols};
-ghost use Rattle.code.specs.Code.{distancesTo};
-ghost use Rattle.code.specs.Transmission.{view};
-ghost use Rattle.code.specs.parts.Sound.{Sound};
+ghost use Rattle.area.specs.Lists.{view};
 ghost use Rattle.code.specs.Windows.{windowLength};
-ghost use Rattle.code.specs.parts.Reading.{windowCost};
+ghost use Rattle.code.specs.parts.Cost.{windowCost, zeroCost};
 ghost use Rattle.tables.specs.parts.Rows.{Ready};
-ghost use Rattle.block.specs.parts.Area.{AllBelow, BlockAreas};
+ghost use Rattle.field.specs.parts.Sequences.{AllBelow};
+ghost use Rattle.block.specs.parts.BlockAreas.{BlockAreas};
 ghost use Rattle.frame.specs.parts.Window.{LevelTried, LevelSearch};
 use code::Setting;
 use field::Products;
 
-// d_0 + .. + d_l
-pub fn distances_to(p: Setting, l: usize) -> usize
-    requires { ⌜ Sound p × (l ≤ p .m) ⌝ }
-    ensures { λ r. ⌜ r ≡ distancesTo (p .n) (p .k) l ⌝ }
+// What the symbols cost against zeros, whatever the field.
+pub fn zero_cost(symbols: &[u8]) -> usize
+    ensures { λ r. ⌜ ((q : ℕ) → r ≡ zeroCost q (now (symbols .entry))) ⌝ }
 {
-    let n = p.n;
-    let k = p.k;
-    let mut zeros = n - k;
-    let mut sum = zeros + 1;
-    let mut i: usize = 0;
-    while i < l {
-        zeros -= k;
-        sum += zeros + 1;
-        i += 1;
-    }
-    sum
+    2 * area::weight(symbols)
 }
 
 // What blocks 0 .. l of the window cost against the blocks rebuilt from the information.
@@ -90,7 +78,7 @@ fn try_level(
         return false;
     }
     let cost = rebuilt_cost(p, products, rows, information, l, window);
-    let bound = distances_to(p, l);
+    let bound = code::distances_to(p, l);
     if cost < bound {
         return true;
     }

@@ -3,7 +3,7 @@
 use mathlib.Core.Path.{_≡_, sym, ap, ap₂, _∙_}
 use mathlib.Core.List.{List, [], _∷_, _++_}
 use Prim.Native.Nat.{ℕ, _+_, _-_, _*_, _≤_}
-use lib.Dec.{T, eqb, leb, leb→le, eqb→eq}
+use lib.Dec.{T as Passes, eqb, leb, leb→le, eqb→eq}
 use lib.ListN.{length}
 use Rattle.algebra.proofs.Tests.{and-left, and-right}
 use Rattle.code.specs.declared.Setting.{Setting}
@@ -26,7 +26,7 @@ head-of line number blocks e b = record { same = sym (ap₂ (λ (s t : ℕ). fir
 
 -- The setting's number is known to be one.
 pub after-setting : (line : List ℕ) (number blocks : ℕ) (p : Setting) → number ≡ settingIn line → blocks ≡ blocksIn line
-    → T (isSetting number) → p ≡ settingOf number → Left (headQuestions line) (headLater blocks (length line - 4) p)
+    → Passes (isSetting number) → p ≡ settingOf number → Left (headQuestions line) (headLater blocks (length line - 4) p)
 after-setting line number blocks p e b known s =
     record { same = head-of line number blocks e b .same ∙ after-first number p (headLater blocks (length line - 4)) known s .same }
 
@@ -40,7 +40,7 @@ characters-least line asked e =
 pub record HeadYes (line : List ℕ) : Type 0 where
   pub characters : length line ≤ mostCharacters
   pub least : 4 ≤ length line
-  pub setting : T (isSetting (settingIn line))
+  pub setting : Passes (isSetting (settingIn line))
   pub blocks : 1 ≤ blocksIn line
   pub most : blocksIn line ≤ mostBlocks
   pub long : length line - 4 ≡ (blocksIn line + settingOf (settingIn line) .m) * settingOf (settingIn line) .n

@@ -11,7 +11,7 @@ use native.Mathlib.Nat.{mul-le-mul, mul-le-mul-right, le-trans, lt-of-lt-of-le}
 use native.Mathlib.Omega.{arith}
 use native.Mathlib.Decide.{decLe}
 use lib.Arith.{digits-div, digits-mod}
-use lib.Dec.{T, eqb, leb, lit≤, leb→le, eqb→eq}
+use lib.Dec.{T as Passes, eqb, leb, lit≤, leb→le, eqb→eq}
 use lib.ListN.{length, take, drop, length-map, length-drop}
 use lib.Seq.{length-take-le, take-at, take-all}
 use borrow.Author.Tests.{eq-eqb, ne-eqb, le-leb, lt-leb}
@@ -160,8 +160,8 @@ room-is line reception message transmission e =
     let symbols = leb (length (symbolsIn line)) reception in
     let sent = leb (length (symbolsIn line)) transmission in
     let short = leb (messageLength line) message in
-    let all : T (symbols && (sent && short)) = subst T (sym e) tt in
-    let later : T (sent && short) = and-right symbols (sent && short) all in (
+    let all : Passes (symbols && (sent && short)) = subst Passes (sym e) tt in
+    let later : Passes (sent && short) = and-right symbols (sent && short) all in (
       leb→le (length (symbolsIn line)) reception (and-left symbols (sent && short) all),
       leb→le (length (symbolsIn line)) transmission (and-left sent short later),
       leb→le (messageLength line) message (and-right sent short later),

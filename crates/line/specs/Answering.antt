@@ -7,6 +7,7 @@ use mathlib.Core.List.{List, _++_, map}
 use Prim.Native.Nat.{ℕ, _+_, _*_, _≤_}
 use lib.Dec.{eqb, leb}
 use lib.ListN.{length, take, drop}
+use Rattle.area.specs.Lists.{overwritten}
 use Rattle.algebra.specs.Ops.{pick}
 use Rattle.code.specs.Settings.{settingOf}
 use Rattle.question.specs.declared.Answer.{Answer}
@@ -48,7 +49,7 @@ pub data Answers (line text : List ℕ) : Type 0 where
 -- A text at the front of a lent area, r its length. An area too small for it is left as it was, and r is 0.
 pub record Shown (text before : List ℕ) (r : ℕ) (after : List ℕ) : Type 0 where
   pub long : r ≡ pick (leb (length text) (length before)) (length text) 0
-  pub area : after ≡ pick (leb (length text) (length before)) (text ++ drop (length text) before) before
+  pub area : after ≡ pick (leb (length text) (length before)) (overwritten text before) before
 
 -- The output line for a line, in the output area.
 pub record AnswerShown (line before : List ℕ) (r : ℕ) (after : List ℕ) : Type 0 where
@@ -81,7 +82,7 @@ pub record RoomForAll (w : LineAreas) : Type 0 where
 
 -- The line's frame was decoded with the answer a: the reception area holds its symbols and then what it held, the others what decoding leaves in them.
 pub record FrameLeft (line : List ℕ) (w : LineAreas) (a : Answer) (w' : LineAreas) : Type 0 where
-  pub symbols : w' .reception ≡ symbolsIn line ++ drop (length (symbolsIn line)) (w .reception)
+  pub symbols : w' .reception ≡ overwritten (symbolsIn line) (w .reception)
   pub decoded : Decoded (settingIn line) (symbolsIn line) (w .message) (w .transmission) a (w' .message) (w' .transmission)
 
 -- What a call on this line, with these areas lent, returns and leaves in them, whatever they held.

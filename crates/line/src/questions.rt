@@ -43,7 +43,7 @@ pub fn message_length(line: &[u8]) -> usize
 {
     let number = setting_in(line);
     let blocks = blocks_in(line) as usize;
-    let p = tables::setting(number);
+    let p = code::setting_of(number);
     blocks * p.k
 }
 
@@ -70,7 +70,7 @@ fn head_questions(line: &[u8]) -> Answer
     ensures { λ r. ⌜ r ≡ firstNo (headQuestions (now (line .entry))) ⌝ }
 {
     let number = setting_in(line);
-    if !tables::is_setting(number) {
+    if !code::is_setting(number) {
         return question::no(1, 0);
     }
     let blocks = blocks_in(line) as usize;
@@ -80,7 +80,7 @@ fn head_questions(line: &[u8]) -> Answer
     if blocks < 1 {
         return question::no(10, 0);
     }
-    let p = tables::setting(number);
+    let p = code::setting_of(number);
     let n = p.n;
     let m = p.m;
     if line.len() - 4 != (blocks + m) * n {

@@ -9,7 +9,8 @@ use Rattle.field.specs.Modular.{modular}
 use Rattle.field.specs.Binary.{binary, timesBits, timesAlpha}
 use Rattle.code.specs.Code.{distancesTo}
 use Rattle.code.specs.Generator.{points, generatorPolynomial, rowSymbol, timesG}
-use Rattle.code.specs.Transmission.{sentSymbol, tabulate}
+use Rattle.area.specs.Lists.{tabulate}
+use Rattle.code.specs.Transmission.{sentSymbol}
 use Rattle.code.specs.Windows.{transmission}
 use Rattle.code.proofs.Search.{windowFrom, windowTest, windowsTest, fitsTest, finishedFar, noneBegins, noneFits}
 use Rattle.question.specs.Questions.{symbolsTo}

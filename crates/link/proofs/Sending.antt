@@ -13,11 +13,12 @@ use Rattle.field.specs.Fields.{opsOf}
 use Rattle.field.specs.Symbols.{Symbols}
 use Rattle.field.proofs.Symbols.{symbol-below, symbols-zeros}
 use Rattle.code.specs.declared.Setting.{Setting}
-use Rattle.code.specs.Transmission.{view, sentSymbol}
+use Rattle.area.specs.Lists.{view}
+use Rattle.code.specs.Transmission.{sentSymbol}
 use Rattle.code.specs.Settings.{codeOf}
 use Rattle.code.specs.parts.Sound.{Sound}
 use Rattle.code.specs.Windows.{transmission, windowLength, Message}
-use Rattle.code.proofs.Lists.{getD-zeros}
+use Rattle.area.proofs.Lists.{getD-zeros}
 use Rattle.code.proofs.CodeBelow.{laws, positive, message-below, transmission-view, transmission-length, sent-below, transmission-symbols}
 use Rattle.code.proofs.Settings.{block-positive}
 use Rattle.code.proofs.Messages.{place-in-blocks}

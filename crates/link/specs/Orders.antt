@@ -4,6 +4,7 @@ use mathlib.Core.Path.{_≡_}
 use mathlib.Core.List.{List, _++_}
 use Prim.Native.Nat.{ℕ, _≤_}
 use lib.ListN.{length, drop, replicate}
+use Rattle.area.specs.Lists.{overwritten}
 use Rattle.question.specs.declared.Answer.{Answer}
 use Rattle.question.specs.Questions.{answer}
 use Rattle.link.specs.Encoding.{Encoded}
@@ -27,7 +28,7 @@ pub record Order : Type 0 where
 
 -- The area holds these bytes, and past them what it held.
 abbrev pub Overwritten : List ℕ → List ℕ → List ℕ → Type 0
-Overwritten front before after = after ≡ front ++ drop (length front) before
+Overwritten front before after = after ≡ overwritten front before
 
 -- What 01 says of an order is said of every answer r and all memory that the call's promise allows, whatever areas were lent, if they are long enough.
 abbrev pub Promised : Call → Order → Type 0

@@ -1,14 +1,14 @@
 // Decoding: from a reception (the received word) to the message that fits it and its transmission.
 ghost use mathlib.Core.Path.{_≡_};
 ghost use Prim.Native.Nat.{_+_, _*_, _≤_};
-ghost use lib.Dec.{T};
+ghost use lib.Dec.{T as Passes};
 ghost use lib.ListN.{length};
 ghost use Rattle.field.specs.Fields.{Good};
 ghost use Rattle.field.specs.Symbols.{Symbols};
 ghost use Rattle.code.specs.Settings.{isSetting, settingOf};
 ghost use Rattle.question.specs.Questions.{mostBlocks};
 ghost use Rattle.tables.specs.parts.Rows.{Narrow, Ready};
-ghost use Rattle.block.specs.parts.Area.{BlockAreas};
+ghost use Rattle.block.specs.parts.BlockAreas.{BlockAreas};
 ghost use Rattle.link.specs.parts.Restoring.{Restored};
 ghost use Rattle.link.specs.Decoding.{FrameDecoded, Decoded};
 use code::Setting;
@@ -58,11 +58,11 @@ fn decode_lent(
         values,
         information,
     ) {
-        field::clear(message);
-        field::clear(transmission);
+        area::clear(message);
+        area::clear(transmission);
         return question::no(7, 0);
     }
-    let altered = frame::area::weight(transmission);
+    let altered = area::weight(transmission);
     restore(p.q, reception, transmission);
     Answer {
         number: 0,
@@ -80,7 +80,7 @@ fn decode_frame(
     message: &mut [u8],
     transmission: &mut [u8],
 ) -> Answer
-    requires { ⌜ T (isSetting setting) × (p ≡ settingOf setting) × Narrow p × (1 ≤ blocks) × (blocks ≤ mostBlocks) × (length (now reception) ≡ (blocks + p .m) * p .n) × Symbols (p .q) (now reception) × (length (now message) ≡ blocks * p .k) × (length (now transmission) ≡ length (now reception)) ⌝ }
+    requires { ⌜ Passes (isSetting setting) × (p ≡ settingOf setting) × Narrow p × (1 ≤ blocks) × (blocks ≤ mostBlocks) × (length (now reception) ≡ (blocks + p .m) * p .n) × Symbols (p .q) (now reception) × (length (now message) ≡ blocks * p .k) × (length (now transmission) ≡ length (now reception)) ⌝ }
     ensures { λ r. ⌜ FrameDecoded p blocks (now (reception .entry)) r (now (message .exit)) (now (transmission .exit)) ⌝ }
 {
     let products = field::products(p.q);
@@ -120,7 +120,7 @@ pub fn decode(setting: u64, reception: &[u8], message: &mut [u8], transmission: 
     if answer.number != 0 {
         return answer;
     }
-    let p = tables::setting(setting);
+    let p = code::setting_of(setting);
     let n = p.n;
     let k = p.k;
     let m = p.m;

@@ -1,7 +1,7 @@
 // Encoding: from a message (the information word) to its transmission (the codeword).
 ghost use mathlib.Core.Path.{_≡_};
 ghost use Prim.Native.Nat.{_+_, _*_, _≤_, _<_};
-ghost use lib.Dec.{T};
+ghost use lib.Dec.{T as Passes};
 ghost use lib.ListN.{length};
 ghost use Rattle.code.specs.Settings.{isSetting, settingOf};
 ghost use Rattle.code.specs.Windows.{transmission, Message};
@@ -34,7 +34,7 @@ fn send_block(
     let mut r: usize = 0;
     while r < k {
         let symbol = message[first + r];
-        tables::product::add_rows(p, products, rows, r, symbol, &mut area[start..end]);
+        tables::combine::add_rows(p, products, rows, r, symbol, &mut area[start..end]);
         r += 1;
     }
 }
@@ -44,7 +44,7 @@ fn send(p: Setting, products: &Products, rows: &[u8], message: &[u8], blocks: us
     requires { ⌜ Sending p (now products) (now rows) (now message) blocks × (length (now area) ≡ (blocks + p .m) * p .n) ⌝ }
     ensures { λ _. ⌜ now (area .exit) ≡ transmission p (now (message .entry)) ⌝ }
 {
-    field::clear(area);
+    area::clear(area);
     let mut i: usize = 0;
     while i < blocks {
         send_block(p, products, rows, message, blocks, i, area);
@@ -54,7 +54,7 @@ fn send(p: Setting, products: &Products, rows: &[u8], message: &[u8], blocks: us
 
 // The transmission of a message, in an area of just its size; the tables are made here.
 fn encode_frame(setting: u64, p: Setting, message: &[u8], blocks: usize, area: &mut [u8])
-    requires { ⌜ T (isSetting setting) × (p ≡ settingOf setting) × Narrow p × Message p blocks (now message) × (blocks ≤ mostBlocks) × (length (now area) ≡ (blocks + p .m) * p .n) ⌝ }
+    requires { ⌜ Passes (isSetting setting) × (p ≡ settingOf setting) × Narrow p × Message p blocks (now message) × (blocks ≤ mostBlocks) × (length (now area) ≡ (blocks + p .m) * p .n) ⌝ }
     ensures { λ _. ⌜ now (area .exit) ≡ transmission p (now (message .entry)) ⌝ }
 {
     let mut rows = [0u8; tables::MOST_ROWS];
@@ -71,7 +71,7 @@ pub fn encode(setting: u64, message: &[u8], transmission: &mut [u8]) -> Answer
     if answer.number != 0 {
         return answer;
     }
-    let p = tables::setting(setting);
+    let p = code::setting_of(setting);
     let n = p.n;
     let m = p.m;
     let blocks = message.len() / p.k;

@@ -12,7 +12,7 @@ use Prim.Native.Nat.{ℕ, suc, _+_, _-_, _*_, _/_, _%_, _≤_, _<_}
 use native.Mathlib.Nat.{div-add-mod', le-div-iff-mul-le, le-trans, mul-le-mul, mul-le-mul-right}
 use native.Mathlib.Numerals.{add-one}
 use native.Mathlib.Omega.{arith}
-use lib.Dec.{T, eqb, leb, ltb, leb→le, ltb→lt, eqb→eq}
+use lib.Dec.{T as Passes, eqb, leb, ltb, leb→le, ltb→lt, eqb→eq}
 use lib.ListN.{length, getD, drop}
 use lib.Seq.{drop-cons, drop-length}
 use borrow.Author.Tests.{eq-eqb, lt-ltb, le-ltb, ltb-true, not-false}
@@ -27,7 +27,7 @@ use Rattle.code.proofs.Settings.{largestOf, Sizes, sizesOf}
 use Rattle.question.specs.declared.Answer.{Answer}
 use Rattle.question.specs.Questions.{Question, ask, answer, symbolQuestion, transmissionQuestion, firstNo, mostBlocks, mostSymbols, mostInformation, blocksOf, symbolsTo, frameQuestions, decodingQuestions, encodingQuestions, displayQuestions, marksQuestions}
 
-pub true-of : (t : Bool) → T t → t ≡ true
+pub true-of : (t : Bool) → Passes t → t ≡ true
 true-of true h = refl
 
 -- One question: "yes" asks the rest, "no" is the answer.
@@ -45,23 +45,23 @@ numbered (x ∷ rest) = not (eqb (x .number) 0) && numbered rest
 -- Every answer is "yes".
 abbrev pub AllYes : List Question → Type 0
 AllYes [] = Unit
-AllYes (x ∷ rest) = T (x .holds) × AllYes rest
+AllYes (x ∷ rest) = Passes (x .holds) × AllYes rest
 
 -- The number 0 says that every answer was "yes".
-pub all-yes : (l : List Question) → T (numbered l) → firstNo l .number ≡ 0 → AllYes l
+pub all-yes : (l : List Question) → Passes (numbered l) → firstNo l .number ≡ 0 → AllYes l
 all-yes [] n e = tt
 all-yes (x ∷ rest) n e = at (all-yes rest (and-right (not (eqb (x .number) 0)) (numbered rest) n)) (x .holds) e
   where
-    at : (firstNo rest .number ≡ 0 → AllYes rest) → (t : Bool) → pick t (firstNo rest) (answer (x .number) (x .place) 0) .number ≡ 0 → T t × AllYes rest
+    at : (firstNo rest .number ≡ 0 → AllYes rest) → (t : Bool) → pick t (firstNo rest) (answer (x .number) (x .place) 0) .number ≡ 0 → Passes t × AllYes rest
     at more true e = (tt, more e)
-    at more false e = absurd (subst (λ (t : Bool). T (not t)) (eq-eqb (x .number) 0 e) (and-left (not (eqb (x .number) 0)) (numbered rest) n))
+    at more false e = absurd (subst (λ (t : Bool). Passes (not t)) (eq-eqb (x .number) 0 e) (and-left (not (eqb (x .number) 0)) (numbered rest) n))
 
 -- The other way round; place and count are 0 too.
 pub yes-all : (l : List Question) → AllYes l → firstNo l ≡ answer 0 0 0
 yes-all [] t = refl
 yes-all (x ∷ rest) t = at (x .holds) (t .0) (yes-all rest (t .1))
   where
-    at : (b : Bool) → T b → firstNo rest ≡ answer 0 0 0 → pick b (firstNo rest) (answer (x .number) (x .place) 0) ≡ answer 0 0 0
+    at : (b : Bool) → Passes b → firstNo rest ≡ answer 0 0 0 → pick b (firstNo rest) (answer (x .number) (x .place) 0) ≡ answer 0 0 0
     at true t e = e
     at false t e = absurd t
 
@@ -76,7 +76,7 @@ append-no (x ∷ a) b h = at (append-no a b) (x .holds) h
     at more true h = more h
     at more false h = refl
 
-pub append-yes : (a b : List Question) → T (numbered a) → firstNo a .number ≡ 0 → firstNo (a ++ b) ≡ firstNo b
+pub append-yes : (a b : List Question) → Passes (numbered a) → firstNo a .number ≡ 0 → firstNo (a ++ b) ≡ firstNo b
 append-yes [] b n e = refl
 append-yes (x ∷ a) b n e = at (append-yes a b (and-right (not (eqb (x .number) 0)) (numbered a) n)) (x .holds) e
   where
@@ -84,7 +84,7 @@ append-yes (x ∷ a) b n e = at (append-yes a b (and-right (not (eqb (x .number)
         → pick t (firstNo a) (answer (x .number) (x .place) 0) .number ≡ 0
         → pick t (firstNo (a ++ b)) (answer (x .number) (x .place) 0) ≡ firstNo b
     at more true e = more e
-    at more false e = absurd (subst (λ (t : Bool). T (not t)) (eq-eqb (x .number) 0 e) (and-left (not (eqb (x .number) 0)) (numbered a) n))
+    at more false e = absurd (subst (λ (t : Bool). Passes (not t)) (eq-eqb (x .number) 0 e) (and-left (not (eqb (x .number) 0)) (numbered a) n))
 
 -- The questions of each call after those that need no setting, over the setting p that code holds.
 abbrev pub frameLater : ℕ → Setting → List Question
@@ -134,7 +134,7 @@ module _ (a b : List Question) {r : Answer} (asked : r ≡ firstNo a) where
   pub first-says-no : (r .number ≡ 0 → ⊥) → r ≡ firstNo (a ++ b)
   first-says-no h = asked ∙ sym (append-no a b (λ e. h (ap (λ (t : Answer). t .number) asked ∙ e)))
 
-  pub first-left : T (numbered a) → r .number ≡ 0 → Left (a ++ b) b
+  pub first-left : Passes (numbered a) → r .number ≡ 0 → Left (a ++ b) b
   first-left n e = record { same = append-yes a b n (ap (λ (t : Answer). t .number) (sym asked) ∙ e) }
 
 -- Question 1, or 1 to 3, got "yes", and p is the setting: what is left is asked of p.
@@ -142,7 +142,7 @@ setting-left : {all : List Question} (number : ℕ) (p : Setting) (later : Setti
     → Left all (later p)
 setting-left number p later e l = record { same = l .same ∙ ap (λ (t : Setting). firstNo (later t)) (sym e) }
 
-pub after-first : (number : ℕ) (p : Setting) (later : Setting → List Question) → T (isSetting number) → p ≡ settingOf number
+pub after-first : (number : ℕ) (p : Setting) (later : Setting → List Question) → Passes (isSetting number) → p ≡ settingOf number
     → Left (ask 1 (isSetting number) ∷ later (settingOf number)) (later p)
 after-first number p later known e =
     setting-left number p later e (left-yes (left-all (ask 1 (isSetting number) ∷ later (settingOf number))) (true-of (isSetting number) known))
@@ -152,10 +152,10 @@ pub after-frame : (number long : ℕ) (p : Setting) (later : Setting → List Qu
 after-frame number long p later asked zero e = setting-left number p later e (first-left (frameQuestions number long) (later (settingOf number)) asked tt zero)
 
 -- What the test of question 1 says.
-pub setting-known : (number : ℕ) {t : Bool} → t ≡ isSetting number → not t ≡ false → T (isSetting number)
-setting-known number {t} e h = subst T (sym (not-false t h) ∙ e) tt
+pub setting-known : (number : ℕ) {t : Bool} → t ≡ isSetting number → not t ≡ false → Passes (isSetting number)
+setting-known number {t} e h = subst Passes (sym (not-false t h) ∙ e) tt
 
-pub setting-sizes : (number : ℕ) (p : Setting) → T (isSetting number) → p ≡ settingOf number → Sizes p
+pub setting-sizes : (number : ℕ) (p : Setting) → Passes (isSetting number) → p ≡ settingOf number → Sizes p
 setting-sizes number p known e = subst Sizes (sym e) (sizesOf number known)
 
 -- Question 4, as a loop asks it of values that it reads by f: those before place i are below q.
@@ -226,7 +226,7 @@ blocks-of-length n m long positive whole room =
     let all : long / n * n ≡ long = omega (arith, div-add-mod' long n) in
     (omega arith, sym (ap (λ (t : ℕ). t * n) back ∙ all))
 
-frame-of : (p : Setting) (long : ℕ) → Sizes p → T (eqb (long % p .n) 0 && leb (windowLength p) long) → T (leb (blocksOf p long) mostBlocks) → Frame p long
+frame-of : (p : Setting) (long : ℕ) → Sizes p → Passes (eqb (long % p .n) 0 && leb (windowLength p) long) → Passes (leb (blocksOf p long) mostBlocks) → Frame p long
 frame-of p long sizes shape few =
     let whole : long % p .n ≡ 0 = eqb→eq (long % p .n) 0 (and-left (eqb (long % p .n) 0) (leb (windowLength p) long) shape) in
     let room : windowLength p ≤ long = leb→le (windowLength p) long (and-right (eqb (long % p .n) 0) (leb (windowLength p) long) shape) in
@@ -234,7 +234,7 @@ frame-of p long sizes shape few =
     record { sizes = sizes; blocks = found .0; most = leb→le (blocksOf p long) mostBlocks few; long-is = found .1 }
 
 pub record FrameYes (number long : ℕ) : Type 0 where
-  pub setting : T (isSetting number)
+  pub setting : Passes (isSetting number)
   pub frame : Frame (settingOf number) long
 
 pub frame-yes : (number long : ℕ) {r : Answer} → r ≡ firstNo (frameQuestions number long) → r .number ≡ 0 → FrameYes number long
@@ -246,12 +246,12 @@ pub frame-of-setting : {number long : ℕ} {p : Setting} → FrameYes number lon
 frame-of-setting {number} {long} {p} known e = subst (λ (t : Setting). Frame t long) (sym e) (known .frame)
 
 -- The areas that a frame of any setting needs, over the setting p in hand.
-pub message-most : (number : ℕ) (p : Setting) (blocks : ℕ) → T (isSetting number) → p ≡ settingOf number → blocks ≤ mostBlocks → blocks * p .k ≤ mostInformation
+pub message-most : (number : ℕ) (p : Setting) (blocks : ℕ) → Passes (isSetting number) → p ≡ settingOf number → blocks ≤ mostBlocks → blocks * p .k ≤ mostInformation
 message-most number p blocks known e h =
     subst (λ (s : Setting). blocks * s .k ≤ mostInformation) (sym e)
     (le-trans (mul-le-mul-right (settingOf number .k) h) (largestOf (λ p. mostBlocks * p .k) number known))
 
-pub transmission-most : (number : ℕ) (p : Setting) (blocks : ℕ) → T (isSetting number) → p ≡ settingOf number → blocks ≤ mostBlocks → (blocks + p .m) * p .n ≤ mostSymbols
+pub transmission-most : (number : ℕ) (p : Setting) (blocks : ℕ) → Passes (isSetting number) → p ≡ settingOf number → blocks ≤ mostBlocks → (blocks + p .m) * p .n ≤ mostSymbols
 transmission-most number p blocks known e h =
     let top : blocks + settingOf number .m ≤ mostBlocks + settingOf number .m = omega arith in
     subst (λ (s : Setting). (blocks + s .m) * s .n ≤ mostSymbols) (sym e)
@@ -266,7 +266,7 @@ window-small p s = let top : p .m + 1 ≤ 256 = omega (arith, s .memory-most) in
 
 -- What decoding knows when questions 1 to 6 got "yes".
 pub record DecodingYes (number : ℕ) (reception : List ℕ) (messageRoom transmissionRoom : ℕ) : Type 0 where
-  pub setting : T (isSetting number)
+  pub setting : Passes (isSetting number)
   pub blocks : 1 ≤ blocksOf (settingOf number) (length reception)
   pub most : blocksOf (settingOf number) (length reception) ≤ mostBlocks
   pub long : length reception ≡ (blocksOf (settingOf number) (length reception) + settingOf number .m) * settingOf number .n
@@ -292,7 +292,7 @@ decoding-yes number reception messageRoom transmissionRoom e =
 
 -- What encoding knows when its questions got "yes", T being the length divided by k.
 pub record EncodingYes (number : ℕ) (message : List ℕ) (transmissionRoom : ℕ) : Type 0 where
-  pub setting : T (isSetting number)
+  pub setting : Passes (isSetting number)
   pub most : length message / settingOf number .k ≤ mostBlocks
   pub message-of : Message (settingOf number) (length message / settingOf number .k) message
   pub room : (length message / settingOf number .k + settingOf number .m) * settingOf number .n ≤ transmissionRoom
@@ -320,12 +320,12 @@ encoding-yes number message transmissionRoom e =
 
 -- What the display knows when its questions got "yes".
 pub record WindowYes (number long j : ℕ) : Type 0 where
-  pub setting : T (isSetting number)
+  pub setting : Passes (isSetting number)
   pub frame : Frame (settingOf number) long
   pub inside : j < blocksOf (settingOf number) long
 
-window-of : (number long j : ℕ) → T (isSetting number) → T (eqb (long % settingOf number .n) 0 && leb (windowLength (settingOf number)) long)
-    → T (leb (blocksOf (settingOf number) long) mostBlocks) → T (ltb j (blocksOf (settingOf number) long)) → WindowYes number long j
+window-of : (number long j : ℕ) → Passes (isSetting number) → Passes (eqb (long % settingOf number .n) 0 && leb (windowLength (settingOf number)) long)
+    → Passes (leb (blocksOf (settingOf number) long) mostBlocks) → Passes (ltb j (blocksOf (settingOf number) long)) → WindowYes number long j
 window-of number long j known shape few inside = record {
   setting = known;
   frame = frame-of (settingOf number) long (sizesOf number known) shape few;

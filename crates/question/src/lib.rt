@@ -90,10 +90,10 @@ fn first_not_below(q: usize, bytes: &[u8]) -> usize
 pub fn frame_questions(number: u64, long: usize) -> Answer
     ensures { λ r. ⌜ r ≡ firstNo (frameQuestions number long) ⌝ }
 {
-    if !tables::is_setting(number) {
+    if !code::is_setting(number) {
         return no(1, 0);
     }
-    let p = tables::setting(number);
+    let p = code::setting_of(number);
     let n = p.n;
     let m = p.m;
     if long % n != 0 {
@@ -121,7 +121,7 @@ pub fn decoding_questions(
     if frame.number != 0 {
         return frame;
     }
-    let p = tables::setting(number);
+    let p = code::setting_of(number);
     let q = p.q;
     let n = p.n;
     let k = p.k;
@@ -144,10 +144,10 @@ pub fn decoding_questions(
 pub fn encoding_questions(number: u64, message: &[u8], transmission_room: usize) -> Answer
     ensures { λ r. ⌜ r ≡ firstNo (encodingQuestions number (now (message .entry)) «transmission_room») ⌝ }
 {
-    if !tables::is_setting(number) {
+    if !code::is_setting(number) {
         return no(1, 0);
     }
-    let p = tables::setting(number);
+    let p = code::setting_of(number);
     let q = p.q;
     let n = p.n;
     let k = p.k;
@@ -180,7 +180,7 @@ pub fn display_questions(number: u64, long: usize, j: u64) -> Answer
     if frame.number != 0 {
         return frame;
     }
-    let p = tables::setting(number);
+    let p = code::setting_of(number);
     let n = p.n;
     let m = p.m;
     let blocks = (long / n - m) as u64;

@@ -8,7 +8,7 @@ use Rattle.field.specs.Fields.{opsOf, five, eight}
 use Rattle.field.specs.Modular.{modular}
 use Rattle.field.specs.Binary.{binary, timesBits, timesAlpha}
 use Rattle.code.specs.Generator.{points, generatorPolynomial, rowSymbol}
-use Rattle.code.specs.Transmission.{tabulate}
+use Rattle.area.specs.Lists.{tabulate}
 use Rattle.code.specs.Settings.{settingOf}
 use Rattle.tables.specs.parts.Rows.{generatorOf}
 

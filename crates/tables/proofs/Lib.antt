@@ -3,5 +3,4 @@ pub mod Filled
 pub mod Places
 pub mod Lending
 pub mod Examples
-pub mod Parts
 pub mod RowsAdded

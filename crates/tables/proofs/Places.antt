@@ -13,7 +13,7 @@ use Rattle.algebra.proofs.Sums.{sum-ext}
 use Rattle.field.specs.Fields.{opsOf}
 use Rattle.code.specs.declared.Setting.{Setting}
 use Rattle.code.specs.Generator.{timesG}
-use Rattle.code.specs.Transmission.{view}
+use Rattle.area.specs.Lists.{view}
 use Rattle.code.specs.Level.{combination}
 use Rattle.code.specs.Settings.{codeOf}
 use Rattle.code.specs.parts.Sound.{Sound}

@@ -12,17 +12,17 @@ use lib.Seq.{getD-set-other}
 use borrow.Rule.Slice.PartMut.{putMid}
 use Rattle.field.specs.Fields.{opsOf}
 use Rattle.field.specs.Symbols.{Symbols, Is}
-use Rattle.field.proofs.Symbols.{symbols-set}
+use Rattle.field.proofs.Symbols.{symbols-set, put-symbols}
 use Rattle.code.specs.declared.Setting.{Setting}
 use Rattle.code.specs.Generator.{rowSymbol}
-use Rattle.code.specs.Transmission.{view}
+use Rattle.area.specs.Lists.{view}
 use Rattle.code.specs.Settings.{codeOf}
 use Rattle.code.specs.parts.Sound.{Sound}
 use Rattle.code.proofs.CodeBelow.{rowSymbol-below}
-use Rattle.code.proofs.Lists.{stored}
+use Rattle.area.proofs.Lists.{stored}
 use Rattle.tables.specs.parts.Rows.{RowsOf}
 use Rattle.tables.specs.parts.RowsAdded.{plusRow, MultipleAdded, RowAdded, RowsAdded}
-use Rattle.tables.proofs.Parts.{part-length, part-symbol, put-length, put-before, put-inside, put-after, put-symbols}
+use Rattle.area.proofs.Parts.{part-length, part-symbol, put-length, put-before, put-inside, put-after}
 
 module _ (q u : ℕ) (row before : List ℕ) where
   pub multiple-none : Symbols q before → MultipleAdded q u 0 row before before
@@ -81,7 +81,7 @@ module _ (p : Setting) (r u : ℕ) (before : List ℕ) where
   rows-more s start window part e room L M =
       record {
         long = put-length start size window part fits part-long ∙ L .long;
-        symbols = put-symbols start size window part fits part-long (p .q) (L .symbols) (M .symbols);
+        symbols = put-symbols start size window part (p .q) (L .symbols) (M .symbols);
         inside = λ b i l h. at b i l h (ℕ-discrete b s);
         outside = λ a h. put-after start size window part fits part-long a (omega (arith, same)) ∙ L .outside a (omega arith);
       }

@@ -1,13 +1,13 @@
 // The settings at run time, and their tables: made once in a library call and lent down.
 ghost use mathlib.Core.Path.{_≡_};
 ghost use Prim.Native.Nat.{_+_, _≤_, _<_};
-ghost use lib.Dec.{T};
+ghost use lib.Dec.{T as Passes};
 ghost use lib.ListN.{length};
 ghost use lib.Seq.{paste};
 ghost use Rattle.code.specs.Settings.{isSetting, settingOf};
 ghost use Rattle.tables.specs.parts.Rows.{generatorOf, generatorRow, rowsLength, RowsOf};
 
-pub mod product;
+pub mod combine;
 
 use code::Setting;
 
@@ -15,45 +15,6 @@ use code::Setting;
 pub const MOST_ROWS: usize = 42;
 
 pub const LONGEST_BLOCK: usize = 7;
-
-// Question 1: "Is the setting 1, 2 or 3?"
-pub fn is_setting(number: u64) -> bool
-    ensures { λ r. ⌜ r ≡ isSetting number ⌝ }
-{
-    if number < 1 {
-        return false;
-    }
-    number <= 3
-}
-
-// The parameters of a setting. Told apart by `<`: by `==` the compiler finds that k is the number itself, and decodes up to a tenth slower (docs/PERFORMANCE.md).
-pub fn setting(number: u64) -> Setting
-    requires { ⌜ T (isSetting number) ⌝ }
-    ensures { λ r. ⌜ r ≡ settingOf number ⌝ }
-{
-    if number < 2 {
-        return Setting {
-            q: 5,
-            n: 4,
-            k: 1,
-            m: 2,
-        };
-    }
-    if number < 3 {
-        return Setting {
-            q: 8,
-            n: 7,
-            k: 2,
-            m: 2,
-        };
-    }
-    Setting {
-        q: 8,
-        n: 7,
-        k: 3,
-        m: 1,
-    }
-}
 
 // "The rows of a setting are kept power of z by power of z, row by row, as one nested table": m+1 groups of k rows of n symbols.
 const GENERATOR_1: [[[u8; 4]; 1]; 3] = [[[2, 4, 3, 1]], [[2, 3, 2, 3]], [[2, 1, 3, 4]]];
@@ -109,7 +70,7 @@ fn lay_row(row: &[u8], at: usize, area: &mut [u8])
 
 // Lays row r of G_j of a setting out, from a place of the area on: the one place that tells the settings' tables apart.
 fn lay_generator_row(number: u64, j: usize, r: usize, at: usize, area: &mut [u8])
-    requires { ⌜ T (isSetting number) × (j < settingOf number .m + 1) × (r < settingOf number .k) × (at + settingOf number .n ≤ length (now area)) ⌝ }
+    requires { ⌜ Passes (isSetting number) × (j < settingOf number .m + 1) × (r < settingOf number .k) × (at + settingOf number .n ≤ length (now area)) ⌝ }
     ensures { λ _. ⌜ now (area .exit) ≡ paste (now (area .entry)) at (generatorRow (settingOf number) j r) (settingOf number .n) ⌝ }
 {
     if number < 2 {
@@ -125,10 +86,10 @@ fn lay_generator_row(number: u64, j: usize, r: usize, at: usize, area: &mut [u8]
 
 // The loop of `rows`, over all rows of G_0, then of G_1 and so on.
 fn lay_rows(number: u64, area: &mut [u8])
-    requires { ⌜ T (isSetting number) × (rowsLength (settingOf number) ≤ length (now area)) ⌝ }
+    requires { ⌜ Passes (isSetting number) × (rowsLength (settingOf number) ≤ length (now area)) ⌝ }
     ensures { λ _. ⌜ RowsOf (settingOf number) (now (area .exit)) ⌝ }
 {
-    let p = setting(number);
+    let p = code::setting_of(number);
     let k = p.k;
     let n = p.n;
     let count = (p.m + 1) * k;
@@ -142,7 +103,7 @@ fn lay_rows(number: u64, area: &mut [u8])
 // A setting's rows one after the other, at the front of the area. Each call of the loop has its number as a constant, so that the compiler unrolls it to
 // the table's bytes. Told apart by `==`: by `<`, as in `setting`, encoding takes up to 8 % more instructions.
 pub fn rows(number: u64, area: &mut [u8])
-    requires { ⌜ T (isSetting number) × (rowsLength (settingOf number) ≤ length (now area)) ⌝ }
+    requires { ⌜ Passes (isSetting number) × (rowsLength (settingOf number) ≤ length (now area)) ⌝ }
     ensures { λ _. ⌜ RowsOf (settingOf number) (now (area .exit)) ⌝ }
 {
     if number == 1 {

@@ -8,10 +8,10 @@ use Rattle.algebra.specs.parts.Values.{falling}
 use Rattle.field.specs.Fields.{opsOf}
 use Rattle.code.specs.declared.Setting.{Setting}
 use Rattle.code.specs.Generator.{timesG}
-use Rattle.code.specs.Transmission.{view}
+use Rattle.area.specs.Lists.{view}
 use Rattle.code.specs.parts.Recovery.{Recovered}
 use Rattle.code.specs.Settings.{codeOf}
-use Rattle.block.specs.parts.Area.{AllBelow, at}
+use Rattle.field.specs.parts.Sequences.{AllBelow, at}
 
 -- Symbol k - j of the information block at `from`, and what x × G_0 lacks j places before its end.
 abbrev pub lacking : Setting → List ℕ → ℕ → ℕ → List ℕ → ℕ → ℕ

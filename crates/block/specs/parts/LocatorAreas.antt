@@ -4,7 +4,7 @@ use mathlib.Core.Path.{_≡_}
 use mathlib.Core.List.{List}
 use Prim.Native.Nat.{ℕ, _-_, _<_}
 use Rattle.field.specs.Fields.{opsOf}
-use Rattle.block.specs.parts.Area.{AllBelow, at}
+use Rattle.field.specs.parts.Sequences.{AllBelow, at}
 use Rattle.block.specs.parts.Locator.{Subtracted, Located}
 
 -- The series 1, 0, 0, ..

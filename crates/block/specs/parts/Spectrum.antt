@@ -6,7 +6,7 @@ use Prim.Native.Nat.{ℕ, _+_, _<_}
 use Rattle.algebra.specs.Sum.{power}
 use Rattle.algebra.specs.Polynomial.{value}
 use Rattle.field.specs.Fields.{opsOf, alpha}
-use Rattle.block.specs.parts.Area.{AllBelow, at}
+use Rattle.field.specs.parts.Sequences.{AllBelow, at}
 use Rattle.block.specs.parts.Locator.{Extended}
 
 -- 1, and then the first `count` values of the block's spectrum.

@@ -6,9 +6,9 @@ use mathlib.Core.List.{List}
 use Prim.Native.Nat.{ℕ, _≤_, _<_}
 use Rattle.code.specs.declared.Setting.{Setting}
 use Rattle.code.specs.Code.{levelDistance}
-use Rattle.code.specs.Transmission.{view}
-use Rattle.code.specs.parts.Reading.{levelCost}
-use Rattle.block.specs.parts.Area.{at, AllBelow}
+use Rattle.area.specs.Lists.{view}
+use Rattle.code.specs.parts.Cost.{levelCost}
+use Rattle.field.specs.parts.Sequences.{at, AllBelow}
 
 -- x_0 .. x_l are information blocks: k symbols below q each.
 abbrev pub Information : Setting → ℕ → (ℕ → ℕ → ℕ) → Type 0

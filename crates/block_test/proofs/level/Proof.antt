@@ -11,7 +11,7 @@ use Rattle.block_test.proofs.level.Statement.{statement}
 use Rattle.block_test.proofs.level.Tie as tie
 
 products-requires : tie.Need-products-requires
-products-requires c κs = subst Sound (sym (c .setting .ensures)) (soundOf (c .before .args .number) (c .before .pre .0)) .good
+products-requires c κs = subst Sound (sym (c .setting-of .ensures)) (soundOf (c .before .args .number) (c .before .pre .0)) .good
 
 rows-requires : tie.Need-rows-requires
 rows-requires c κs = let entry = c .before .before .before in (entry .pre .0, largestOf rowsLength (entry .args .number) (entry .pre .0))
@@ -21,7 +21,7 @@ compare-requires c κs =
     let entry = c .before .before .before .before .before .before .before .before .before in
     let number = entry .args .number in
     let p = entry .pre in
-    let e = c .before .before .before .before .before .before .before .before .setting .ensures in (
+    let e = c .before .before .before .before .before .before .before .before .setting-of .ensures in (
       readyOf number _ (p .0) e _ _ (c .before .before .before .before .before .before .before .products .ensures) (c .before .before .before .before .before .rows2 .ensures),
       subst (λ (x : Setting). x .n ≤ longestBlock) (sym e) (largestOf (λ x. x .n) number (p .0)),
       subst (λ (x : Setting). entry .args .l ≤ x .m) (sym e) (p .1),

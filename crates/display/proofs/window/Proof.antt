@@ -24,13 +24,13 @@ asked c = ap (λ a. a .number) (sym (c .before .before .display-questions .ensur
 known : (c : tie.Else1) → let a = c .before .before .before .before .args in WindowYes (a .setting) (length (now (a .reception))) (a .j)
 known c = display-yes _ _ _ (asked c)
 
-inside : (c : tie.After-setting) → let a = c .before .before .before .before .before .args in Window (c .setting .result) (length (now (a .reception))) (a .j)
-inside c = window-yes _ _ _ (c .setting .result) (c .setting .ensures) (known (c .before))
+inside : (c : tie.After-setting-of) → let a = c .before .before .before .before .before .args in Window (c .setting-of .result) (length (now (a .reception))) (a .j)
+inside c = window-yes _ _ _ (c .setting-of .result) (c .setting-of .ensures) (known (c .before))
 
 returns-2 : tie.Need-returns-2
 returns-2 c =
     let a = c .before .before .before .before .before .before .args in
-    window-shown (a .setting) (now (a .reception)) (a .j) (c .before .setting .result) (c .before .setting .ensures) (asked (c .before .before))
+    window-shown (a .setting) (now (a .reception)) (a .j) (c .before .setting-of .result) (c .before .setting-of .ensures) (asked (c .before .before))
 
 pub window-spec : {M : Type 1} → statement M
 window-spec =

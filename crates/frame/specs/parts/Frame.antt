@@ -10,7 +10,8 @@ use Rattle.field.specs.Symbols.{Symbols}
 use Rattle.code.specs.declared.Setting.{Setting}
 use Rattle.code.specs.Code.{distancesTo}
 use Rattle.code.specs.Windows.{windowLength, Fits}
-use Rattle.code.specs.parts.Reading.{zeroCost, IsResidual}
+use Rattle.code.specs.parts.Cost.{zeroCost}
+use Rattle.code.specs.parts.Residual.{IsResidual}
 
 -- The areas of a frame: a guessed message of T blocks, and the residual of a reception for it.
 pub record FrameAreas (p : Setting) (T : ℕ) (message residual : List ℕ) : Type 0 where

@@ -7,9 +7,10 @@ use Prim.Native.Nat.{ℕ, _+_, _≤_, _<_}
 use lib.ListN.{getD}
 use Rattle.code.specs.declared.Setting.{Setting}
 use Rattle.code.specs.Code.{levelDistance, distancesTo}
-use Rattle.code.specs.Transmission.{view}
-use Rattle.code.specs.parts.Reading.{BlocksBelow, levelCost, windowCost}
-use Rattle.block.specs.parts.Area.{AllBelow}
+use Rattle.area.specs.Lists.{view}
+use Rattle.code.specs.parts.Information.{BlocksBelow}
+use Rattle.code.specs.parts.Cost.{levelCost, windowCost}
+use Rattle.field.specs.parts.Sequences.{AllBelow}
 
 -- Blocks 0 .. l of the window are near what y rebuilds: "in at most half of (d_0 + .. + d_l - 1), rounded down", symbols they differ, without the rounding.
 abbrev pub Near : Setting → List ℕ → ℕ → (ℕ → ℕ → ℕ) → Type 0

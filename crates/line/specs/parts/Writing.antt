@@ -3,13 +3,14 @@ use mathlib.Core.Path.{_≡_}
 use mathlib.Core.List.{List, _++_}
 use Prim.Native.Nat.{ℕ, _≤_}
 use lib.ListN.{length, drop}
+use Rattle.area.specs.Lists.{overwritten}
 use Rattle.field.specs.Symbols.{Symbols}
 use Rattle.question.specs.declared.Answer.{Answer}
 use Rattle.line.specs.Answering.{messageLength, messageIn}
 
 -- A text at the front of an area, and then what the area held before.
 pub record Placed (text before after : List ℕ) : Type 0 where
-  pub is : after ≡ text ++ drop (length text) before
+  pub is : after ≡ overwritten text before
   pub room : length text ≤ length before
 
 -- A part written from this place on: behind whatever text ends there.

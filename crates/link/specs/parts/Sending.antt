@@ -6,7 +6,7 @@ use lib.ListN.{getD}
 use Rattle.field.specs.parts.Products.{Products}
 use Rattle.code.specs.declared.Setting.{Setting}
 use Rattle.code.specs.Windows.{transmission, Message}
-use Rattle.code.specs.parts.Reading.{IsResidual}
+use Rattle.code.specs.parts.Residual.{IsResidual}
 use Rattle.tables.specs.parts.Rows.{Ready}
 use Rattle.frame.specs.parts.Frame.{FrameAreas}
 use Rattle.question.specs.Questions.{mostBlocks}

@@ -21,21 +21,21 @@ returns c =
 asked : (c : tie.Else1) → FrameYes (c .before .before .before .before .args .number) (length (now (c .before .before .before .before .args .reception)))
 asked c = frame-yes _ _ (c .before .before .frame-questions .ensures) (c .if1 .left)
 
-frame : (c : tie.After-setting) → Frame (c .setting .result) (length (now (c .before .before .before .before .before .args .reception)))
-frame c = frame-of-setting (asked (c .before)) (c .setting .ensures)
+frame : (c : tie.After-setting-of) → Frame (c .setting-of .result) (length (now (c .before .before .before .before .before .args .reception)))
+frame c = frame-of-setting (asked (c .before)) (c .setting-of .ensures)
 
 -- What is left after questions 1 to 3 and some more, over the setting in hand.
-abbrev After : tie.After-setting → ℕ → Type 0
+abbrev After : tie.After-setting-of → ℕ → Type 0
 After c more =
     let a = c .before .before .before .before .before .args in
     Left (decodingQuestions (a .number) (now (a .reception)) (a .message-room) (a .transmission-room))
-    (drop more (decodingLater (now (a .reception)) (a .message-room) (a .transmission-room) (c .setting .result)))
+    (drop more (decodingLater (now (a .reception)) (a .message-room) (a .transmission-room) (c .setting-of .result)))
 
-three : (c : tie.After-setting) → After c 0
+three : (c : tie.After-setting-of) → After c 0
 three c =
     let a = c .before .before .before .before .before .args in
-    after-frame (a .number) (length (now (a .reception))) (c .setting .result) (decodingLater (now (a .reception)) (a .message-room) (a .transmission-room))
-    (c .before .before .before .frame-questions .ensures) (c .before .if1 .left) (c .setting .ensures)
+    after-frame (a .number) (length (now (a .reception))) (c .setting-of .result) (decodingLater (now (a .reception)) (a .message-room) (a .transmission-room))
+    (c .before .before .before .frame-questions .ensures) (c .before .if1 .left) (c .setting-of .ensures)
 
 returns-2 : tie.Need-returns-2
 returns-2 c =
@@ -49,7 +49,7 @@ mul-if3 : tie.Need-mul-if3
 mul-if3 c =
     let p = c .before .before in
     let number = p .before .before .before .before .before .args .number in
-    omega (arith, message-most number (p .setting .result) _ (asked (p .before) .setting) (p .setting .ensures) (frame p .most))
+    omega (arith, message-most number (p .setting-of .result) _ (asked (p .before) .setting) (p .setting-of .ensures) (frame p .most))
 
 returns-3 : tie.Need-returns-3
 returns-3 c = says-no (four (c .before .before)) (lt-leb _ _ (c .before .if3 .taken)) (c .no2 .ensures)
@@ -61,7 +61,7 @@ mul-if4 : tie.Need-mul-if4
 mul-if4 c =
     let p = c .before .before .before in
     let number = p .before .before .before .before .before .args .number in
-    omega (arith, transmission-most number (p .setting .result) _ (asked (p .before) .setting) (p .setting .ensures) (frame p .most))
+    omega (arith, transmission-most number (p .setting-of .result) _ (asked (p .before) .setting) (p .setting-of .ensures) (frame p .most))
 
 returns-4 : tie.Need-returns-4
 returns-4 c = says-no (five (c .before .before)) (lt-leb _ _ (c .before .if4 .taken)) (c .no3 .ensures)

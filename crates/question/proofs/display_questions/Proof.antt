@@ -16,17 +16,17 @@ returns c =
 asked : (c : tie.Else1) → FrameYes (c .before .before .before .args .number) (c .before .before .before .args .long)
 asked c = frame-yes _ _ (c .before .before .frame-questions .ensures) (c .if1 .left)
 
-frame : (c : tie.After-setting) → Frame (c .setting .result) (c .before .before .before .before .args .long)
-frame c = frame-of-setting (asked (c .before)) (c .setting .ensures)
+frame : (c : tie.After-setting-of) → Frame (c .setting-of .result) (c .before .before .before .before .args .long)
+frame c = frame-of-setting (asked (c .before)) (c .setting-of .ensures)
 
 -- What is left of the questions, over the setting in hand.
-three : (c : tie.After-setting)
+three : (c : tie.After-setting-of)
     → let a = c .before .before .before .before .args in
-    Left (displayQuestions (a .number) (a .long) (a .j)) (displayLater (a .long) (a .j) (c .setting .result))
+    Left (displayQuestions (a .number) (a .long) (a .j)) (displayLater (a .long) (a .j) (c .setting-of .result))
 three c =
     let a = c .before .before .before .before .args in
-    after-frame (a .number) (a .long) (c .setting .result) (displayLater (a .long) (a .j))
-    (c .before .before .before .frame-questions .ensures) (c .before .if1 .left) (c .setting .ensures)
+    after-frame (a .number) (a .long) (c .setting-of .result) (displayLater (a .long) (a .j))
+    (c .before .before .before .frame-questions .ensures) (c .before .if1 .left) (c .setting-of .ensures)
 
 pub display-questions-spec : {M : Type 1} → statement M
 display-questions-spec =

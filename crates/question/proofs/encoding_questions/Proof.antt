@@ -4,7 +4,7 @@ use mathlib.Core.List.{List}
 use Prim.Native.Nat.{ℕ}
 use native.Mathlib.Omega.{arith}
 use denote.Ref.{now}
-use lib.Dec.{T}
+use lib.Dec.{T as Passes}
 use lib.ListN.{drop}
 use borrow.Author.Tests.{eq-eqb, ne-eqb, le-leb, lt-leb, not-true}
 use Rattle.code.specs.Settings.{isSetting}
@@ -22,22 +22,22 @@ returns c =
     let unknown = sym (c .before .before .is-setting .ensures) ∙ not-true _ (c .before .if1 .taken) in
     says-no (left-all (questions (c .before .before .before .before))) unknown (c .no .ensures)
 
-known : (c : tie.Else1) → T (isSetting (c .before .before .before .args .number))
+known : (c : tie.Else1) → Passes (isSetting (c .before .before .before .args .number))
 known c = setting-known (c .before .before .before .args .number) (c .before .is-setting .ensures) (c .if1 .left)
 
-sizes : (c : tie.After-setting) → Sizes (c .setting .result)
-sizes c = setting-sizes (c .before .before .before .before .args .number) (c .setting .result) (known (c .before)) (c .setting .ensures)
+sizes : (c : tie.After-setting-of) → Sizes (c .setting-of .result)
+sizes c = setting-sizes (c .before .before .before .before .args .number) (c .setting-of .result) (known (c .before)) (c .setting-of .ensures)
 
 -- What is left after question 1 and some more, over the setting in hand.
-abbrev After : tie.After-setting → ℕ → Type 0
+abbrev After : tie.After-setting-of → ℕ → Type 0
 After c more =
     let entry = c .before .before .before .before in
-    Left (questions entry) (drop more (encodingLater (now (entry .args .message)) (entry .args .transmission-room) (c .setting .result)))
+    Left (questions entry) (drop more (encodingLater (now (entry .args .message)) (entry .args .transmission-room) (c .setting-of .result)))
 
-one : (c : tie.After-setting) → After c 0
+one : (c : tie.After-setting-of) → After c 0
 one c =
     let a = c .before .before .before .before .args in
-    after-first (a .number) (c .setting .result) (encodingLater (now (a .message)) (a .transmission-room)) (known (c .before)) (c .setting .ensures)
+    after-first (a .number) (c .setting-of .result) (encodingLater (now (a .message)) (a .transmission-room)) (known (c .before)) (c .setting-of .ensures)
 
 returns-2 : tie.Need-returns-2
 returns-2 c = says-no (one (c .before .before)) (simp (ne-eqb _ _ (c .before .if2 .taken))) (c .no2 .ensures)
@@ -69,7 +69,7 @@ mul-if6 : tie.Need-mul-if6
 mul-if6 c =
     let p = c .before .before .before .before .before in
     let number = p .before .before .before .before .args .number in
-    omega (arith, transmission-most number (p .setting .result) _ (known (p .before)) (p .setting .ensures) (c .before .before .if4 .left))
+    omega (arith, transmission-most number (p .setting-of .result) _ (known (p .before)) (p .setting-of .ensures) (c .before .before .if4 .left))
 
 returns-6 : tie.Need-returns-6
 returns-6 c = says-no (four (c .before .before)) (lt-leb _ _ (c .before .if6 .taken)) (c .no6 .ensures)

@@ -4,7 +4,7 @@ use mathlib.Core.List.{List}
 use Prim.Native.Nat.{ℕ, _+_, _/_, _≤_}
 use native.Mathlib.Nat.{le-div-iff-mul-le}
 use native.Mathlib.Omega.{arith}
-use lib.Dec.{T}
+use lib.Dec.{T as Passes}
 use lib.ListN.{drop}
 use borrow.Author.Tests.{eq-eqb, ne-eqb, le-leb, lt-leb, not-true}
 use Rattle.code.specs.Settings.{isSetting}
@@ -22,20 +22,20 @@ returns c =
     let unknown = sym (c .before .before .is-setting .ensures) ∙ not-true _ (c .before .if1 .taken) in
     says-no (left-all (questions (c .before .before .before))) unknown (c .no .ensures)
 
-known : (c : tie.Else1) → T (isSetting (c .before .before .args .number))
+known : (c : tie.Else1) → Passes (isSetting (c .before .before .args .number))
 known c = setting-known (c .before .before .args .number) (c .before .is-setting .ensures) (c .if1 .left)
 
-sizes : (c : tie.After-setting) → Sizes (c .setting .result)
-sizes c = setting-sizes (c .before .before .before .args .number) (c .setting .result) (known (c .before)) (c .setting .ensures)
+sizes : (c : tie.After-setting-of) → Sizes (c .setting-of .result)
+sizes c = setting-sizes (c .before .before .before .args .number) (c .setting-of .result) (known (c .before)) (c .setting-of .ensures)
 
 -- What is left after question 1 and some more, over the setting in hand.
-abbrev After : tie.After-setting → ℕ → Type 0
-After c more = Left (questions (c .before .before .before)) (drop more (frameLater (c .before .before .before .args .long) (c .setting .result)))
+abbrev After : tie.After-setting-of → ℕ → Type 0
+After c more = Left (questions (c .before .before .before)) (drop more (frameLater (c .before .before .before .args .long) (c .setting-of .result)))
 
-one : (c : tie.After-setting) → After c 0
+one : (c : tie.After-setting-of) → After c 0
 one c =
     let a = c .before .before .before .args in
-    after-first (a .number) (c .setting .result) (frameLater (a .long)) (known (c .before)) (c .setting .ensures)
+    after-first (a .number) (c .setting-of .result) (frameLater (a .long)) (known (c .before)) (c .setting-of .ensures)
 
 returns-2 : tie.Need-returns-2
 returns-2 c = says-no (one (c .before .before)) (simp (ne-eqb _ _ (c .before .if2 .taken))) (c .no2 .ensures)
@@ -48,7 +48,7 @@ two c = left-yes (one (c .before .before)) (simp (eq-eqb _ _ (c .before .if2 .le
 
 sub-if4 : tie.Need-sub-if4
 sub-if4 c =
-    let enough : c .before .before .setting .result .m + 1 ≤ c .before .before .before .before .before .args .long / c .before .before .setting .result .n =
+    let enough : c .before .before .setting-of .result .m + 1 ≤ c .before .before .before .before .before .args .long / c .before .before .setting-of .result .n =
     le-div-iff-mul-le (sizes (c .before .before) .symbols) .1 (c .if3 .left) in
     omega arith
 
@@ -66,7 +66,7 @@ frame-questions-spec =
     (λ c κs. known c) (λ c. sizes c .symbols)
     (λ c κs. tt) returns-2
     (λ c. omega (arith, sizes (c .before) .memory-most))
-    (λ c. omega (arith, window-small (c .before .setting .result) (sizes (c .before))))
+    (λ c. omega (arith, window-small (c .before .setting-of .result) (sizes (c .before))))
     (λ c κs. tt) returns-3
     (λ c. sizes (c .before .before) .symbols)
     sub-if4 (λ c κs. tt) returns-4

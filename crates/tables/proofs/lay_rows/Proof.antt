@@ -20,18 +20,18 @@ Inv-loop number area₀ k n count a₀ area a = (a ≤ count) × (length area �
 abbrev μ-loop : tie.MeasureT-loop
 μ-loop number area₀ k n count a₀ area a = count - a
 
-setting-requires : tie.Need-setting-requires Inv-loop μ-loop
-setting-requires c κs = c .before .pre .0
+setting-of-requires : tie.Need-setting-of-requires Inv-loop μ-loop
+setting-of-requires c κs = c .before .pre .0
 
-sound : (c : tie.After-setting Inv-loop μ-loop) → Sound (c .setting .result)
-sound c = subst Sound (sym (c .setting .ensures)) (soundOf (c .before .before .args .number) (c .before .before .pre .0))
+sound : (c : tie.After-setting-of Inv-loop μ-loop) → Sound (c .setting-of .result)
+sound c = subst Sound (sym (c .setting-of .ensures)) (soundOf (c .before .before .args .number) (c .before .before .pre .0))
 
 -- The setting in hand has few rows.
-few : (c : tie.After-setting Inv-loop μ-loop) → (c .setting .result .m + 1) * c .setting .result .k ≤ 255
-few c = omega (arith, sound c .room, sizes (c .setting .result) (sound c) .symbols-most)
+few : (c : tie.After-setting-of Inv-loop μ-loop) → (c .setting-of .result .m + 1) * c .setting-of .result .k ≤ 255
+few c = omega (arith, sound c .room, sizes (c .setting-of .result) (sound c) .symbols-most)
 
 add-count : tie.Need-add-count Inv-loop μ-loop
-add-count c = omega (arith, sizes (c .before .setting .result) (sound (c .before)) .memory-most)
+add-count c = omega (arith, sizes (c .before .setting-of .result) (sound (c .before)) .memory-most)
 
 mul-count : tie.Need-mul-count Inv-loop μ-loop
 mul-count c = omega (arith, few (c .before))
@@ -54,20 +54,20 @@ within c =
     let entry = c .before .before .before .before .before in
     let s = entry .args .number in
     row-within (settingOf s) (soundOf s (entry .pre .0)) (c .before .loop .a) (c .before .loop .area)
-    (subst (λ (x : Setting). c .before .loop .a < (x .m + 1) * x .k) (c .before .before .before .setting .ensures) (c .loop-test .taken))
+    (subst (λ (x : Setting). c .before .loop .a < (x .m + 1) * x .k) (c .before .before .before .setting-of .ensures) (c .loop-test .taken))
     (omega (arith, entry .pre .1, c .before .loop .inv .1))
 
 -- The same, with the figures of the setting in hand where the code has them.
 requires-of : (c : tie.In-loop Inv-loop μ-loop)
     → let p : Setting = settingOf (c .before .before .before .before .before .args .number) in
-    let x : Setting = c .before .before .before .setting .result in
+    let x : Setting = c .before .before .before .setting-of .result in
     let a : ℕ = c .before .loop .a in
     (a / x .k < p .m + 1) × (a % x .k < p .k) × (a * x .n + p .n ≤ length (c .before .loop .area))
 requires-of c =
     let p : Setting = settingOf (c .before .before .before .before .before .args .number) in
     let a : ℕ = c .before .loop .a in
     subst (λ (x : Setting). (a / x .k < p .m + 1) × (a % x .k < p .k) × (a * x .n + p .n ≤ length (c .before .loop .area)))
-    (sym (c .before .before .before .setting .ensures)) (within c)
+    (sym (c .before .before .before .setting-of .ensures)) (within c)
 
 mul-lay-generator-row : tie.Need-mul-lay-generator-row Inv-loop μ-loop
 mul-lay-generator-row c = omega (arith, requires-of c .2)
@@ -91,7 +91,7 @@ loop-again c =
     let after = c .before .before .lay-generator-row .last .1 .1 .1 .1 .0 in
     let laid : after ≡ paste (l .area) (l .a * p .n) (generatorRow p (l .a / p .k) (l .a % p .k)) (p .n) =
     subst (λ (x : Setting). after ≡ paste (l .area) (l .a * x .n) (generatorRow p (l .a / x .k) (l .a % x .k)) (p .n))
-    (turn .before .before .before .setting .ensures) (c .before .before .lay-generator-row .ensures) in (
+    (turn .before .before .before .setting-of .ensures) (c .before .before .lay-generator-row .ensures) in (
       omega arith,
       filled-long p (l .a) (l .area) after (l .inv .2) (within turn) laid ∙ l .inv .1,
       filled-more p (l .a) (l .area) after (l .inv .2) (within turn) laid,
@@ -102,10 +102,10 @@ returns c =
     let entry = c .before .before .before .before .before in
     let p : Setting = settingOf (entry .args .number) in
     let l = c .before .loop in
-    let x : Setting = c .before .before .before .setting .result in
+    let x : Setting = c .before .before .before .setting-of .result in
     let full : l .a ≡ (x .m + 1) * x .k = omega arith in
     rows-of p (l .area)
-    (subst (λ (t : ℕ). Filled p t (l .area)) (full ∙ ap (λ (y : Setting). (y .m + 1) * y .k) (c .before .before .before .setting .ensures)) (l .inv .2))
+    (subst (λ (t : ℕ). Filled p t (l .area)) (full ∙ ap (λ (y : Setting). (y .m + 1) * y .k) (c .before .before .before .setting-of .ensures)) (l .inv .2))
     (omega (arith, entry .pre .1, l .inv .1))
 
 pub lay-rows-spec : {M : Type 1} → statement M
@@ -114,7 +114,7 @@ lay-rows-spec =
     (tie.spec
     Inv-loop
     μ-loop
-    setting-requires
+    setting-of-requires
     add-count
     mul-count
     loop-holds

@@ -6,14 +6,15 @@ use native.Mathlib.Omega.{arith}
 use denote.Ref.{now}
 use Rattle.algebra.specs.Weight.{total}
 use Rattle.code.specs.declared.Setting.{Setting}
-use Rattle.code.specs.Transmission.{view}
+use Rattle.area.specs.Lists.{view}
 use Rattle.code.specs.Level.{combination}
 use Rattle.code.specs.parts.Cost.{symbolCost, blockCost}
 use Rattle.code.specs.Settings.{codeOf}
 use Rattle.code.proofs.Settings.{sizes}
 use Rattle.code.proofs.Cost.{cost-same, cost-differ}
-use Rattle.block.specs.parts.Area.{at}
-use Rattle.block.proofs.Accumulated.{total-none, total-same, total-more, all-symbols}
+use Rattle.field.specs.parts.Sequences.{at}
+use Rattle.algebra.proofs.Weights.{total-none, total-same, total-more}
+use Rattle.field.proofs.Symbols.{all-symbols}
 use Rattle.block.proofs.information.cost.Statement.{statement}
 use Rattle.block.proofs.information.cost.Tie as tie
 

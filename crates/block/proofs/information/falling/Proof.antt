@@ -5,7 +5,7 @@ use native.Mathlib.Omega.{arith}
 use Rattle.algebra.specs.parts.Values.{falling}
 use Rattle.field.specs.Fields.{opsOf}
 use Rattle.field.specs.Symbols.{Is}
-use Rattle.block.specs.parts.Area.{at}
+use Rattle.field.specs.parts.Sequences.{at}
 use Rattle.block.proofs.InformationRead.{falling-none, falling-more}
 use Rattle.block.proofs.information.falling.Statement.{statement}
 use Rattle.block.proofs.information.falling.Tie as tie

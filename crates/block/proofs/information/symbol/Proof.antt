@@ -2,7 +2,7 @@
 use Prim.Native.Nat.{_+_, _-_}
 use native.Mathlib.Omega.{arith}
 use Rattle.code.proofs.Settings.{information-fits}
-use Rattle.block.proofs.Accumulated.{all-symbols}
+use Rattle.field.proofs.Symbols.{all-symbols}
 use Rattle.block.proofs.InformationRead.{is-lacking}
 use borrow.Author.Needs.{needs}
 use Rattle.block.proofs.information.symbol.Statement.{statement}

@@ -4,7 +4,7 @@ use mathlib.Core.Path.{_≡_, sym, ap, _∙_}
 use borrow.Author.Needs.{needs}
 use denote.Ref.{now}
 use lib.ListN.{length}
-use Rattle.code.proofs.Lists.{copied-whole}
+use Rattle.area.proofs.Lists.{copied-whole}
 use Rattle.block.proofs.locator.exchange.Statement.{statement}
 use Rattle.block.proofs.locator.exchange.Tie as tie
 

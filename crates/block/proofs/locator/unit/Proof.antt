@@ -5,7 +5,7 @@ use Prim.Native.Nat.{ℕ, _<_}
 use native.Mathlib.Omega.{arith}
 use lib.ListN.{set, replicate, length-replicate}
 use lib.Seq.{getD-set-same, getD-set-other}
-use Rattle.code.proofs.Lists.{getD-zeros}
+use Rattle.area.proofs.Lists.{getD-zeros}
 use Rattle.block.specs.parts.LocatorAreas.{Unit}
 use borrow.Author.Needs.{needs}
 use Rattle.block.proofs.locator.unit.Statement.{statement}

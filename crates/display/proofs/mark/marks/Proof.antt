@@ -23,16 +23,16 @@ known c =
     marks-yes (a .setting) (length (now (a .reception))) (length (now (a .transmission))) (a .j)
     (ap (λ a. a .number) (sym (c .before .before .marks-questions .ensures)) ∙ c .if1 .left)
 
-inside : (c : tie.After-setting)
-    → let a = c .before .before .before .before .before .before .args in Window (c .setting .result) (length (now (a .reception))) (a .j)
-inside c = window-yes _ _ _ (c .setting .result) (c .setting .ensures) (known (c .before) .0)
+inside : (c : tie.After-setting-of)
+    → let a = c .before .before .before .before .before .before .args in Window (c .setting-of .result) (length (now (a .reception))) (a .j)
+inside c = window-yes _ _ _ (c .setting-of .result) (c .setting-of .ensures) (known (c .before) .0)
 
 returns-2 : tie.Need-returns-2
 returns-2 c =
     let a = c .before .before .before .before .before .before .before .args in
     let asked = c .before .before .before .before .marks-questions in
     marked-found (a .setting) (now (a .reception)) (now (a .transmission)) (a .j) (asked .result) (asked .ensures)
-    (c .before .setting .result) (c .differences .result) (c .before .before .if1 .left) (c .before .setting .ensures) (c .differences .ensures)
+    (c .before .setting-of .result) (c .differences .result) (c .before .before .if1 .left) (c .before .setting-of .ensures) (c .differences .ensures)
 
 pub marks-spec : {M : Type 1} → statement M
 marks-spec =

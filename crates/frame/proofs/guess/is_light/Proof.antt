@@ -15,17 +15,17 @@ sub-distance c = search needs
 add-distance : tie.Need-add-distance
 add-distance c = search needs
 
-sub-cost : tie.Need-sub-cost
-sub-cost c = search needs
+sub-zero-cost : tie.Need-sub-zero-cost
+sub-zero-cost c = search needs
 
-part-cost-start : tie.Need-part-cost-start
-part-cost-start c = search needs
+part-zero-cost-start : tie.Need-part-zero-cost-start
+part-zero-cost-start c = search needs
 
-part-cost-end : tie.Need-part-cost-end
-part-cost-end c = search needs
+part-zero-cost-end : tie.Need-part-zero-cost-end
+part-zero-cost-end c = search needs
 
-cost-requires : tie.Need-cost-requires
-cost-requires c κs = search needs
+zero-cost-requires : tie.Need-zero-cost-requires
+zero-cost-requires c κs = search needs
 
 returns : tie.Need-returns
 returns c = search needs
@@ -38,8 +38,8 @@ is-light-spec =
     add-end
     sub-distance
     add-distance
-    sub-cost
-    part-cost-start
-    part-cost-end
-    cost-requires
+    sub-zero-cost
+    part-zero-cost-start
+    part-zero-cost-end
+    zero-cost-requires
     returns)

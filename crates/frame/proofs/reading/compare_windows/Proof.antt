@@ -9,8 +9,8 @@ use denote.Ref.{now}
 use lib.ListN.{length, take, drop}
 use Rattle.code.proofs.Settings.{sizes}
 use Rattle.code.specs.Windows.{windowLength}
-use Rattle.code.specs.parts.Reading.{zeroCost}
-use Rattle.tables.proofs.Parts.{part-size}
+use Rattle.code.specs.parts.Cost.{zeroCost}
+use Rattle.area.proofs.Parts.{part-size}
 use Rattle.frame.specs.parts.Frame.{all-near, one-far}
 use Rattle.frame.proofs.reading.compare_windows.Statement.{statement}
 use Rattle.frame.proofs.reading.compare_windows.Tie as tie
@@ -52,23 +52,23 @@ loop-holds c = (omega arith, omega arith, λ q i l. absurd (omega arith))
 add-end : tie.Need-add-end Inv-loop μ-loop
 add-end c = omega (arith, window-room c)
 
-sub-cost : tie.Need-sub-cost Inv-loop μ-loop
-sub-cost c = omega arith
+sub-zero-cost : tie.Need-sub-zero-cost Inv-loop μ-loop
+sub-zero-cost c = omega arith
 
-part-cost-start : tie.Need-part-cost-start Inv-loop μ-loop
-part-cost-start c = omega arith
+part-zero-cost-start : tie.Need-part-zero-cost-start Inv-loop μ-loop
+part-zero-cost-start c = omega arith
 
-part-cost-end : tie.Need-part-cost-end Inv-loop μ-loop
-part-cost-end c = window-room c
+part-zero-cost-end : tie.Need-part-zero-cost-end Inv-loop μ-loop
+part-zero-cost-end c = window-room c
 
-cost-requires : tie.Need-cost-requires Inv-loop μ-loop
-cost-requires c κs = tt
+zero-cost-requires : tie.Need-zero-cost-requires Inv-loop μ-loop
+zero-cost-requires c κs = tt
 
 -- The cost that was counted is the window's.
-counted : (q : ℕ) (c : tie.After-cost Inv-loop μ-loop) → c .cost .result ≡ costAt q (c .before .before .before .before .before .before .args .p .n) (windowLength (c .before .before .before .before .before .before .args .p)) (now (c .before .before .before .before .before .before .args .residual)) (c .before .before .before .loop .j)
+counted : (q : ℕ) (c : tie.After-zero-cost Inv-loop μ-loop) → c .zero-cost .result ≡ costAt q (c .before .before .before .before .before .before .args .p .n) (windowLength (c .before .before .before .before .before .before .args .p)) (now (c .before .before .before .before .before .before .args .residual)) (c .before .before .before .loop .j)
 counted q c =
     let a = c .before .before .before .before .before .before .args in
-    c .cost .ensures q
+    c .zero-cost .ensures q
     ∙ ap (λ (t : ℕ). zeroCost q (take t (drop (c .before .before .before .loop .start) (now (a .residual))))) (part-size (windowLength (a .p)) (c .before .before .before .loop .start) (now (a .residual)))
     ∙ ap (λ (t : ℕ). zeroCost q (take (windowLength (a .p)) (drop t (now (a .residual))))) (c .before .before .before .loop .inv .1)
 
@@ -114,10 +114,10 @@ compare-windows-spec =
     mul-size
     loop-holds
     add-end
-    sub-cost
-    part-cost-start
-    part-cost-end
-    cost-requires
+    sub-zero-cost
+    part-zero-cost-start
+    part-zero-cost-end
+    zero-cost-requires
     returns
     add-start
     add-j

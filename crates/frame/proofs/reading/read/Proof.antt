@@ -2,7 +2,7 @@
 use native.Mathlib.Omega.{arith}
 use denote.Ref.{now}
 use Rattle.frame.specs.parts.Frame.{none}
-use Rattle.frame.proofs.Begin.{begin}
+use Rattle.frame.proofs.Settled.{begin}
 use Rattle.frame.proofs.Advance.{advance-more, stopped-none}
 use Rattle.frame.proofs.Ends.{frame-compared}
 use borrow.Author.Needs.{needs}

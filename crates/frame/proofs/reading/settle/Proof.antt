@@ -6,9 +6,9 @@ use lib.ListN.{length}
 use Rattle.field.proofs.Symbols.{symbols-part}
 use Rattle.code.specs.Windows.{windowLength}
 use Rattle.code.proofs.Settings.{sizes}
-use Rattle.tables.proofs.Parts.{part-length}
+use Rattle.area.proofs.Parts.{part-length}
 use Rattle.frame.proofs.Guesses.{window-room}
-use Rattle.frame.proofs.Turn.{search-below, search-few}
+use Rattle.frame.proofs.Advance.{search-below, search-few}
 use Rattle.frame.proofs.Advance.{advance-clean, advance-none, advance-found}
 use borrow.Author.Needs.{needs}
 use Rattle.frame.proofs.reading.settle.Statement.{statement}
@@ -32,23 +32,23 @@ mul-end c = omega (arith, room (c .before .before .before .before .before .befor
 add-end-2 : tie.Need-add-end-2
 add-end-2 c = omega (arith, room (c .before .before .before .before .before .before .before .before .before .before .before))
 
-sub-cost : tie.Need-sub-cost
-sub-cost c = search needs
+sub-zero-cost : tie.Need-sub-zero-cost
+sub-zero-cost c = search needs
 
-part-cost-start : tie.Need-part-cost-start
-part-cost-start c = search needs
+part-zero-cost-start : tie.Need-part-zero-cost-start
+part-zero-cost-start c = search needs
 
-part-cost-end : tie.Need-part-cost-end
-part-cost-end c = omega (arith, room (c .before .before .before .before .before .before .before .before .before .before .before .before))
+part-zero-cost-end : tie.Need-part-zero-cost-end
+part-zero-cost-end c = omega (arith, room (c .before .before .before .before .before .before .before .before .before .before .before .before))
 
-cost-requires : tie.Need-cost-requires
-cost-requires c κs = search needs
+zero-cost-requires : tie.Need-zero-cost-requires
+zero-cost-requires c κs = search needs
 
 returns : tie.Need-returns
 returns c =
     let entry = c .before .before .before .before .before .before .before .before .before .before .before .before .before .before .before in
     let a = entry .args in
-    advance-clean (entry .pre .0 .sound) (entry .pre .3) (entry .pre .2) (entry .pre .5) (entry .pre .4) (part-length (windowLength (a .p)) (a .j * a .p .n) (now (a .residual)) (room entry)) (c .before .cost .ensures (a .p .q)) (omega (arith, c .if1 .taken, entry .pre .1))
+    advance-clean (entry .pre .0 .sound) (entry .pre .3) (entry .pre .2) (entry .pre .5) (entry .pre .4) (part-length (windowLength (a .p)) (a .j * a .p .n) (now (a .residual)) (room entry)) (c .before .zero-cost .ensures (a .p .q)) (omega (arith, c .if1 .taken, entry .pre .1))
 
 sub-find-level : tie.Need-sub-find-level
 sub-find-level c = search needs
@@ -100,10 +100,10 @@ settle-spec =
     add-end
     mul-end
     add-end-2
-    sub-cost
-    part-cost-start
-    part-cost-end
-    cost-requires
+    sub-zero-cost
+    part-zero-cost-start
+    part-zero-cost-end
+    zero-cost-requires
     (λ c. omega arith)
     returns
     sub-find-level

@@ -6,7 +6,7 @@ use denote.Ref.{now}
 use lib.ListN.{length}
 use Rattle.field.proofs.Symbols.{symbols-part}
 use Rattle.code.proofs.Settings.{level-fits}
-use Rattle.tables.proofs.Parts.{part-length}
+use Rattle.area.proofs.Parts.{part-length}
 use Rattle.frame.proofs.LevelTried.{step-below, tried-far, tried-refused, tried-serves}
 use borrow.Author.Needs.{needs}
 use Rattle.frame.proofs.window.try_level.Statement.{statement}

@@ -5,7 +5,7 @@ use native.Mathlib.Omega.{arith}
 use borrow.Author.Needs.{needs}
 use borrow.Author.Tests.{le-leb, lt-leb, eq-eqb, ne-eqb, not-true}
 use denote.Ref.{now}
-use lib.Dec.{T}
+use lib.Dec.{T as Passes}
 use lib.ListN.{length, drop}
 use Rattle.code.specs.declared.Setting.{Setting}
 use Rattle.code.specs.Settings.{isSetting, settingOf}
@@ -23,7 +23,7 @@ returns c =
     says-no (head-of line (read .setting-in .result) (blocksIn line) (read .setting-in .ensures) refl)
     (sym (c .before .before .is-setting .ensures) ∙ not-true _ (c .before .if1 .taken)) (c .no .ensures)
 
-known : (c : tie.Else1) → T (isSetting (c .before .before .setting-in .result))
+known : (c : tie.Else1) → Passes (isSetting (c .before .before .setting-in .result))
 known c = setting-known (c .before .before .setting-in .result) (c .before .is-setting .ensures) (c .if1 .left)
 
 -- What is left after question 1 and some more, over any p that is the setting.
@@ -48,28 +48,28 @@ three c p e = left-yes (one (c .before) p e) (le-leb _ _ (c .if2 .left))
 returns-3 : tie.Need-returns-3
 returns-3 c = says-no (three (c .before .before) _ refl) (simp (lt-leb _ _ (c .before .if3 .taken))) (c .no3 .ensures)
 
-sizes : (c : tie.After-setting) → Sizes (c .setting .result)
+sizes : (c : tie.After-setting-of) → Sizes (c .setting-of .result)
 sizes c =
     let asked = c .before .before .before .before in
-    setting-sizes (asked .before .before .setting-in .result) (c .setting .result) (known asked) (c .setting .ensures)
+    setting-sizes (asked .before .before .setting-in .result) (c .setting-of .result) (known asked) (c .setting-of .ensures)
 
 mul-if4 : tie.Need-mul-if4
 mul-if4 c =
     let asked = c .before .before .before .before in
     let few = c .before .before .if2 .left in
-    omega (arith, transmission-most (asked .before .before .setting-in .result) (c .setting .result) _ (known asked) (c .setting .ensures) few)
+    omega (arith, transmission-most (asked .before .before .setting-in .result) (c .setting-of .result) _ (known asked) (c .setting-of .ensures) few)
 
 returns-4 : tie.Need-returns-4
 returns-4 c =
     let set = c .before .before in
-    says-no (three (set .before .before) (set .setting .result) (set .setting .ensures))
+    says-no (three (set .before .before) (set .setting-of .result) (set .setting-of .ensures))
     (simp (le-leb _ _ (set .before .if3 .left), ne-eqb _ _ (c .before .if4 .taken))) (c .no4 .ensures)
 
 returns-5 : tie.Need-returns-5
 returns-5 c =
     let set = c .before .before in
     says-yes
-    (left-yes (three (set .before .before) (set .setting .result) (set .setting .ensures))
+    (left-yes (three (set .before .before) (set .setting-of .result) (set .setting-of .ensures))
     (simp (le-leb _ _ (set .before .if3 .left), eq-eqb _ _ (c .before .if4 .left)))) (c .yes .ensures)
 
 pub head-questions-spec : {M : Type 1} → statement M

@@ -3,7 +3,7 @@ use mathlib.Core.Path.{sym, ap, ap₂, subst, _∙_}
 use Prim.Native.Nat.{ℕ, _*_, _≤_}
 use native.Mathlib.Omega.{arith}
 use denote.Ref.{now}
-use lib.Dec.{T}
+use lib.Dec.{T as Passes}
 use Rattle.code.specs.declared.Setting.{Setting}
 use Rattle.code.specs.Settings.{isSetting, settingOf}
 use Rattle.question.specs.Questions.{mostInformation}
@@ -21,15 +21,15 @@ setting-in-requires c κs = known (c .before) .least
 blocks-in-requires : tie.Need-blocks-in-requires
 blocks-in-requires c κs = known (c .before .before) .least
 
-is-setting : (c : tie.After-blocks-in) → T (isSetting (c .before .setting-in .result))
-is-setting c = subst (λ (t : ℕ). T (isSetting t)) (sym (c .before .setting-in .ensures)) (known (c .before .before .before) .setting)
+is-setting : (c : tie.After-blocks-in) → Passes (isSetting (c .before .setting-in .result))
+is-setting c = subst (λ (t : ℕ). Passes (isSetting t)) (sym (c .before .setting-in .ensures)) (known (c .before .before .before) .setting)
 
-setting-requires : tie.Need-setting-requires
-setting-requires c κs = is-setting c
+setting-of-requires : tie.Need-setting-of-requires
+setting-of-requires c κs = is-setting c
 
-few : (c : tie.After-setting) → c .before .blocks-in .result * c .setting .result .k ≤ mostInformation
+few : (c : tie.After-setting-of) → c .before .blocks-in .result * c .setting-of .result .k ≤ mostInformation
 few c =
-    message-most (c .before .before .setting-in .result) (c .setting .result) (c .before .blocks-in .result) (is-setting (c .before)) (c .setting .ensures)
+    message-most (c .before .before .setting-in .result) (c .setting-of .result) (c .before .blocks-in .result) (is-setting (c .before)) (c .setting-of .ensures)
     (omega (arith, c .before .blocks-in .ensures, known (c .before .before .before .before) .most))
 
 mul-result : tie.Need-mul-result
@@ -37,9 +37,9 @@ mul-result c = omega (arith, few (c .before))
 
 returns : tie.Need-returns
 returns c = (
-  ap₂ (λ (t : ℕ) (p : Setting). t * p .k) (c .before .before .blocks-in .ensures) (c .before .setting .ensures ∙ ap settingOf (c .before .before .before .setting-in .ensures)),
+  ap₂ (λ (t : ℕ) (p : Setting). t * p .k) (c .before .before .blocks-in .ensures) (c .before .setting-of .ensures ∙ ap settingOf (c .before .before .before .setting-in .ensures)),
   few (c .before),
 )
 
 pub message-length-spec : {M : Type 1} → statement M
-message-length-spec = tie.close (tie.spec setting-in-requires blocks-in-requires setting-requires mul-result returns)
+message-length-spec = tie.close (tie.spec setting-in-requires blocks-in-requires setting-of-requires mul-result returns)

@@ -25,15 +25,15 @@ asked : (c : tie.Else1)
     → firstNo (decodingQuestions (c .before .before .before .before .before .before .args .setting) (now (c .before .before .before .before .before .before .args .reception)) (length (now (c .before .before .before .before .before .before .args .message))) (length (now (c .before .before .before .before .before .before .args .transmission)))) .number ≡ 0
 asked c = ap (λ a. a .number) (sym (c .before .before .decoding-questions .ensures)) ∙ c .if1 .left
 
-setting-requires : tie.Need-setting-requires
-setting-requires c κs =
+setting-of-requires : tie.Need-setting-of-requires
+setting-of-requires c κs =
     let a = c .before .before .before .before .before .before .args in
     decoding-yes (a .setting) (now (a .reception)) (length (now (a .message))) (length (now (a .transmission))) (asked c) .setting
 
-known : (c : tie.After-setting) → Receiving (c .setting .result) (now (c .before .before .before .before .before .before .before .args .reception)) (length (now (c .before .before .before .before .before .before .before .args .message))) (length (now (c .before .before .before .before .before .before .before .args .transmission)))
+known : (c : tie.After-setting-of) → Receiving (c .setting-of .result) (now (c .before .before .before .before .before .before .before .args .reception)) (length (now (c .before .before .before .before .before .before .before .args .message))) (length (now (c .before .before .before .before .before .before .before .args .transmission)))
 known c =
     let a = c .before .before .before .before .before .before .before .args in
-    receiving (a .setting) (now (a .reception)) (now (a .message)) (now (a .transmission)) (c .setting .result) (c .setting .ensures) (asked (c .before))
+    receiving (a .setting) (now (a .reception)) (now (a .message)) (now (a .transmission)) (c .setting-of .result) (c .setting-of .ensures) (asked (c .before))
 
 div-blocks : tie.Need-div-blocks
 div-blocks c = known c .sizes .symbols
@@ -68,8 +68,8 @@ decode-frame-requires c κs =
     let k = known (c .before .before) in
     let is-setting = decoding-yes (a .setting) (now (a .reception)) (length (now (a .message))) (length (now (a .transmission))) (asked (c .before .before .before)) .setting in (
       is-setting,
-      c .before .before .setting .ensures,
-      narrowOf (a .setting) (c .before .before .setting .result) is-setting (c .before .before .setting .ensures),
+      c .before .before .setting-of .ensures,
+      narrowOf (a .setting) (c .before .before .setting-of .result) is-setting (c .before .before .setting-of .ensures),
       k .blocks,
       k .most,
       k .long,
@@ -81,7 +81,7 @@ decode-frame-requires c κs =
 returns-2 : tie.Need-returns-2
 returns-2 c =
     let a = c .before .before .before .before .before .before .before .before .before .before .before .before .before .before .args in
-    decoded-asked (a .setting) (now (a .reception)) (now (a .message)) (now (a .transmission)) (c .before .before .before .before .before .before .before .setting .result) (c .before .before .before .before .before .before .before .setting .ensures) (asked (c .before .before .before .before .before .before .before .before)) (c .before .before .before .before .decode-frame .ensures)
+    decoded-asked (a .setting) (now (a .reception)) (now (a .message)) (now (a .transmission)) (c .before .before .before .before .before .before .before .setting-of .result) (c .before .before .before .before .before .before .before .setting-of .ensures) (asked (c .before .before .before .before .before .before .before .before)) (c .before .before .before .before .decode-frame .ensures)
 
 pub decode-spec : {M : Type 1} → statement M
 decode-spec =
@@ -89,7 +89,7 @@ decode-spec =
     (tie.spec
     decoding-questions-requires
     returns
-    setting-requires
+    setting-of-requires
     div-blocks
     sub-blocks
     mul-short

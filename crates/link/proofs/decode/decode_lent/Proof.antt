@@ -4,8 +4,8 @@ use Prim.Native.Nat.{ℕ}
 use native.Mathlib.Omega.{arith}
 use lib.ListN.{length, replicate}
 use Rattle.code.proofs.Settings.{sizes}
-use Rattle.block.specs.parts.Area.{at}
-use Rattle.frame.proofs.RebuiltCost.{few}
+use Rattle.field.specs.parts.Sequences.{at}
+use Rattle.algebra.proofs.Weights.{distance-le}
 use Rattle.question.proofs.Questions.{transmission-small}
 use Rattle.link.proofs.Decoding.{residual-symbols, residual-long, frame-decoded-none, frame-decoded-found}
 use borrow.Author.Needs.{needs}
@@ -52,7 +52,7 @@ cast-t37 c =
     let read = c .before .before .before .before .before .before .before .before .before .before .before .before .before .before .before .before .before .before .before .read in
     omega (
       arith,
-      few (length (read .last .1 .1 .1 .1 .1 .1 .0)) (at (read .last .1 .1 .1 .1 .1 .1 .0)) (λ _. 0) (c .before .before .before .before .weight .ensures),
+      distance-le (length (read .last .1 .1 .1 .1 .1 .1 .0)) (at (read .last .1 .1 .1 .1 .1 .1 .0)) (λ _. 0) (c .before .before .before .before .weight .ensures),
       read .kept .1 .1 .1 .1 .1 .1 .0,
       entry .pre .6,
       entry .pre .3,

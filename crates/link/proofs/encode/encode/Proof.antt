@@ -23,16 +23,16 @@ known c =
     encoding-yes (entry .args .setting) (now (entry .args .message)) (length (now (entry .args .transmission))) (ap (λ a. a .number) (sym (c .before .before .encoding-questions .ensures)) ∙ c .if1 .left)
 
 -- Of the setting in hand.
-information : (c : tie.After-setting) → 1 ≤ c .setting .result .k
-information c = subst (λ (p : Setting). 1 ≤ p .k) (sym (c .setting .ensures)) (sizesOf (c .before .before .before .before .before .before .args .setting) (known (c .before) .setting) .information)
+information : (c : tie.After-setting-of) → 1 ≤ c .setting-of .result .k
+information c = subst (λ (p : Setting). 1 ≤ p .k) (sym (c .setting-of .ensures)) (sizesOf (c .before .before .before .before .before .before .args .setting) (known (c .before) .setting) .information)
 
-room : (c : tie.After-setting) → (length (now (c .before .before .before .before .before .before .args .message)) / c .setting .result .k + c .setting .result .m) * c .setting .result .n ≤ length (now (c .before .before .before .before .before .before .args .transmission))
+room : (c : tie.After-setting-of) → (length (now (c .before .before .before .before .before .before .args .message)) / c .setting-of .result .k + c .setting-of .result .m) * c .setting-of .result .n ≤ length (now (c .before .before .before .before .before .before .args .transmission))
 room c =
-    subst (λ (p : Setting). (length (now (c .before .before .before .before .before .before .args .message)) / p .k + p .m) * p .n ≤ length (now (c .before .before .before .before .before .before .args .transmission))) (sym (c .setting .ensures)) (known (c .before) .room)
+    subst (λ (p : Setting). (length (now (c .before .before .before .before .before .before .args .message)) / p .k + p .m) * p .n ≤ length (now (c .before .before .before .before .before .before .args .transmission))) (sym (c .setting-of .ensures)) (known (c .before) .room)
 
-few : (c : tie.After-setting) → length (now (c .before .before .before .before .before .before .args .message)) / c .setting .result .k + c .setting .result .m ≤ mostBlocks + 255
+few : (c : tie.After-setting-of) → length (now (c .before .before .before .before .before .before .args .message)) / c .setting-of .result .k + c .setting-of .result .m ≤ mostBlocks + 255
 few c =
-    subst (λ (p : Setting). length (now (c .before .before .before .before .before .before .args .message)) / p .k + p .m ≤ mostBlocks + 255) (sym (c .setting .ensures))
+    subst (λ (p : Setting). length (now (c .before .before .before .before .before .before .args .message)) / p .k + p .m ≤ mostBlocks + 255) (sym (c .setting-of .ensures))
     (omega (arith, known (c .before) .most, sizesOf (c .before .before .before .before .before .before .args .setting) (known (c .before) .setting) .memory-most))
 
 encoding-questions-requires : tie.Need-encoding-questions-requires
@@ -41,8 +41,8 @@ encoding-questions-requires c κs = search needs
 returns : tie.Need-returns
 returns c = let entry = c .before .before .before .before .before in encoded-refused (entry .args .setting) (now (entry .args .message)) (now (entry .args .transmission)) (c .before .before .encoding-questions .result) (c .before .before .encoding-questions .ensures) (c .if1 .taken)
 
-setting-requires : tie.Need-setting-requires
-setting-requires c κs = known c .setting
+setting-of-requires : tie.Need-setting-of-requires
+setting-of-requires c κs = known c .setting
 
 div-blocks : tie.Need-div-blocks
 div-blocks c = information (c .before)
@@ -64,10 +64,10 @@ encode-frame-requires c κs =
     let at = c .before .before in
     let a = at .before .before .before .before .before .before .args in
     let yes = known (at .before) in
-    let is = at .setting .ensures in (
+    let is = at .setting-of .ensures in (
       yes .setting,
       is,
-      narrowOf (a .setting) (at .setting .result) (yes .setting) is,
+      narrowOf (a .setting) (at .setting-of .result) (yes .setting) is,
       subst (λ (p : Setting). Message p (length (now (a .message)) / p .k) (now (a .message))) (sym is) (yes .message-of),
       subst (λ (p : Setting). length (now (a .message)) / p .k ≤ mostBlocks) (sym is) (yes .most),
       length-take-le _ _ (room at),
@@ -78,7 +78,7 @@ returns-2 c =
     let at = c .before .before .before .before .before in
     let a = at .before .before .before .before .before .before .args in
     let asked = at .before .before .before .encoding-questions in
-    encoded-sent (a .setting) (now (a .message)) (now (a .transmission)) (asked .result) (at .setting .result) (asked .ensures) (at .before .if1 .left) (at .setting .ensures) (c .before .before .encode-frame .ensures)
+    encoded-sent (a .setting) (now (a .message)) (now (a .transmission)) (asked .result) (at .setting-of .result) (asked .ensures) (at .before .if1 .left) (at .setting-of .ensures) (c .before .before .encode-frame .ensures)
 
 pub encode-spec : {M : Type 1} → statement M
 encode-spec =
@@ -86,7 +86,7 @@ encode-spec =
     (tie.spec
     encoding-questions-requires
     returns
-    setting-requires
+    setting-of-requires
     div-blocks
     add-long
     mul-long

@@ -9,7 +9,7 @@ use Rattle.code.proofs.Settings.{sizes}
 use Rattle.field.proofs.Symbols.{symbols-part}
 use Rattle.code.specs.Windows.{windowLength}
 use Rattle.code.proofs.CodeBelow.{message-below}
-use Rattle.tables.proofs.Parts.{part-length}
+use Rattle.area.proofs.Parts.{part-length}
 use Rattle.frame.proofs.Guesses.{window-room}
 use Rattle.link.specs.parts.Sending.{SentTo}
 use Rattle.link.proofs.Sending.{sent-more}

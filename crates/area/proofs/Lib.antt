@@ -1,0 +1,3 @@
+-- Lists and parts of them.
+pub mod Lists
+pub mod Parts

@@ -1,0 +1,64 @@
+-- Lists as blocks: tabulated lists, symbols of a list, equal parts.
+-- Holds: `length-tabulate`, `getD-tabulate`, `view-tabulate`, `getD-zeros`, `equal-part`, `part-equal`, `copied-whole`; `stored` (a loop that fills places).
+use mathlib.Core.Path.{_≡_, refl, sym, ap, ap₂, _∙_}
+use mathlib.Core.List.{List, _++_, append-nil}
+use Prim.Native.Nat.{ℕ, zero, suc, _+_, _*_, _/_, _%_, _≤_, _<_}
+use native.Mathlib.Omega.{arith}
+use native.Mathlib.Decide.{decLt, ℕ-discrete}
+use lib.Arith.{digits-div, digits-mod, digits-lt}
+use lib.ListN.{length, getD, take, drop, set, replicate, drop-of-length-le, length-take, length-replicate, getD-replicate, List·getD-eq-default}
+use lib.Seq.{ext-getD, getD-take, take-length, getD-set-same, getD-set-other}
+use Rattle.area.specs.Lists.{view, tabulate}
+
+pub length-tabulate : {A : Type 0} (n : ℕ) (f : ℕ → A) → length (tabulate n f) ≡ n
+unfolding tabulate
+length-tabulate zero f = refl
+length-tabulate (suc n) f = ap suc (length-tabulate n (λ i. f (suc i)))
+
+pub getD-tabulate : {A : Type 0} (n : ℕ) (f : ℕ → A) (i : ℕ) (d : A) → i < n → getD (tabulate n f) i d ≡ f i
+unfolding tabulate
+getD-tabulate zero f i d l = absurd (omega arith)
+getD-tabulate (suc n) f zero d l = refl
+getD-tabulate (suc n) f (suc i) d l = getD-tabulate n (λ i. f (suc i)) i d (omega arith)
+
+-- Symbol i of block s of a tabulated frame.
+pub view-tabulate : (blocks w : ℕ) (f : ℕ → ℕ → ℕ) (s i : ℕ) → s < blocks → i < w
+    → view w (tabulate (blocks * w) (λ a. f (a / w) (a % w))) s i ≡ f s i
+view-tabulate blocks w f s i l h =
+    getD-tabulate (blocks * w) (λ a. f (a / w) (a % w)) (s * w + i) 0 (digits-lt l h)
+    ∙ ap (λ (t : ℕ). f t ((s * w + i) % w)) (digits-div s h) ∙ ap (f s) (digits-mod s h)
+
+-- Zeros hold zero at any place, and past their end.
+pub getD-zeros : (n i : ℕ) → _≡_ {A = ℕ} (getD (replicate n 0) i 0) 0
+getD-zeros n i = at (decLt i n)
+  where
+    at : Dec (i < n) → _≡_ {A = ℕ} (getD (replicate n 0) i 0) 0
+    at (yes l) = getD-replicate n i 0 0 l
+    at (no d) = List·getD-eq-default (replicate n 0) 0 (omega (arith, length-replicate {A = ℕ} n 0))
+
+-- Lists with equal beginnings have equal symbols there..
+pub equal-part : (a b : List ℕ) (n : ℕ) → take n a ≡ take n b → (i : ℕ) → i < n → getD a i 0 ≡ getD b i 0
+equal-part a b n e i l = sym (getD-take n a i 0 l) ∙ (ap (λ (t : List ℕ). getD t i 0) e ∙ getD-take n b i 0 l)
+
+-- .. and the other way round.
+pub part-equal : (a b : List ℕ) (n : ℕ) → n ≤ length a → n ≤ length b → ((i : ℕ) → i < n → getD a i 0 ≡ getD b i 0) → take n a ≡ take n b
+part-equal a b n la lb h =
+    let long-a : length (take n a) ≡ n = omega (arith, length-take n a) in
+    let long-b : length (take n b) ≡ n = omega (arith, length-take n b) in
+    ext-getD 0 (take n a) (take n b) (long-a ∙ sym long-b)
+    (λ i l. let below : i < n = omega arith in getD-take n a i 0 below ∙ (h i below ∙ sym (getD-take n b i 0 below)))
+
+-- A copy into an area of the same length is the whole source.
+pub copied-whole : (source area after : List ℕ) → length area ≡ length source → after ≡ take (length source) source ++ drop (length source) area → after ≡ source
+copied-whole source area after same e =
+    let short : length area ≤ length source = omega arith in
+    e ∙ (ap₂ _++_ (take-length source) (drop-of-length-le area short) ∙ append-nil source)
+
+-- A loop fills places one after the other: place a is to hold f a, it does for a < i, and f i is stored in place i.
+pub stored : (l : List ℕ) (place f : ℕ → ℕ) (i v : ℕ) → place i < length l → v ≡ f i → ((a : ℕ) → a < i → place a ≡ place i → ⊥)
+    → ((a : ℕ) → a < i → getD l (place a) 0 ≡ f a) → (a : ℕ) → a < i + 1 → getD (set l (place i) v) (place a) 0 ≡ f a
+stored l place f i v room e apart filled a h = at (ℕ-discrete a i)
+  where
+    at : Dec (a ≡ i) → getD (set l (place i) v) (place a) 0 ≡ f a
+    at (yes s) = ap (λ (t : ℕ). getD (set l (place i) v) (place t) 0) s ∙ getD-set-same l (place i) v 0 room ∙ e ∙ ap f (sym s)
+    at (no d) = let below : a < i = omega arith in getD-set-other l (place i) (place a) v 0 (apart a below) ∙ filled a below

@@ -1,0 +1,2 @@
+-- Lists as areas hold them.
+pub mod Lists
