@@ -10,12 +10,13 @@ use Rattle.algebra.specs.Ops.{Ops, sub}
 use Rattle.algebra.specs.Weight.{weight}
 use Rattle.algebra.proofs.Weights.{total-ext, total-most}
 use Rattle.algebra.proofs.Below.{FieldBelow, Element, number}
+use Rattle.area.specs.Lists.{view}
 use Rattle.field.specs.Fields.{opsOf}
 use Rattle.field.specs.Symbols.{Symbols}
+use Rattle.field.specs.parts.Sequences.{at}
 use Rattle.code.specs.declared.Setting.{Setting}
 use Rattle.code.specs.Code.{Code, levelDistance}
 use Rattle.code.specs.Generator.{timesG}
-use Rattle.area.specs.Lists.{view}
 use Rattle.code.specs.Level.{combination}
 use Rattle.code.specs.parts.Recovery.{ending, Recovered}
 use Rattle.code.specs.parts.Cost.{symbolCost, blockCost, levelCost}
@@ -26,7 +27,6 @@ use Rattle.code.proofs.Cost.{cost-same, byteCost, bytes-apart}
 use Rattle.code.proofs.Recovery.{recovered-step}
 use Rattle.code.proofs.CodeBelow.{laws, fieldOf, rootOf, orderAt, overField, lifted, timesG-number, combination-number, ending-number, received, received-number, value-number}
 use Rattle.code.proofs.Settings.{level-fits, information-fits}
-use Rattle.field.specs.parts.Sequences.{at}
 use Rattle.block.specs.parts.Locator.{Located, Extended}
 use Rattle.block.specs.parts.LocatorAreas.{LocatorFound}
 use Rattle.block.specs.parts.Spectrum.{SpectrumOf, Continued}

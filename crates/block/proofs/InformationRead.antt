@@ -12,20 +12,20 @@ use lib.Seq.{getD-set-same, getD-set-other}
 use Rattle.algebra.specs.Ops.{sub}
 use Rattle.algebra.specs.Sum.{power}
 use Rattle.algebra.specs.parts.Values.{falling}
+use Rattle.area.specs.Lists.{view}
 use Rattle.field.specs.Fields.{Good, opsOf, alpha}
 use Rattle.field.specs.Symbols.{Is}
+use Rattle.field.specs.parts.Sequences.{AllBelow, at}
 use Rattle.field.proofs.Laws.{lawsOf}
+use Rattle.field.proofs.Sums.{zero-below}
+use Rattle.field.proofs.Symbols.{zeros-below, below-set}
 use Rattle.code.specs.declared.Setting.{Setting}
 use Rattle.code.specs.Generator.{timesG}
-use Rattle.area.specs.Lists.{view}
 use Rattle.code.specs.parts.Recovery.{ending, Recovered}
 use Rattle.code.specs.Settings.{codeOf}
 use Rattle.code.specs.parts.Sound.{Sound}
 use Rattle.code.proofs.Blocks.{timesG-ext}
-use Rattle.field.specs.parts.Sequences.{AllBelow, at}
 use Rattle.block.specs.parts.Information.{lacking, BlockRead, InformationRead}
-use Rattle.field.proofs.Sums.{zero-below}
-use Rattle.field.proofs.Symbols.{zeros-below, below-set}
 use Rattle.block.proofs.CandidateBelow.{recovered-more}
 
 module _ (q : ℕ) (good : Good q) where

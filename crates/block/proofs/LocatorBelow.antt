@@ -128,14 +128,14 @@ module _ (q : ℕ) (o : Ops ℕ) (B : FieldBelow q o) where
     product : Element q
     product = K .ops .mul (convolution (K .ops) (up σ) (up c) (suc s)) (el scale)
 
-    failure-down : number (convolution (K .ops) (up σ) (up c) (suc s)) ≡ discrepancy
-    failure-down =
+    discrepancy-down : number (convolution (K .ops) (up σ) (up c) (suc s)) ≡ discrepancy
+    discrepancy-down =
         convolution-down σ c bσ bc (suc s)
         ∙ convolution-is-tail c σ τ scale bc bσ bτ bs h (suc s) (omega (arith, h .grown, h .placed)) ∙ sym fails
 
     factor-up : el factor ≡ product
     unfolding product
-    factor-up = raise _ _ (down factor bf) (mul-down _ _ failure-down (down scale bs)) multiplied
+    factor-up = raise _ _ (down factor bf) (mul-down _ _ discrepancy-down (down scale bs)) multiplied
 
     difference-down : (x y z : Element q) {a b d : ℕ} → number x ≡ a → number y ≡ b → number z ≡ d → number (sub (K .ops) x (K .ops .mul y z)) ≡ sub o a (o .mul b d)
     difference-down x y z hx hy hz = add-down _ _ hx (neg-down _ (mul-down y z hy hz))
@@ -163,4 +163,4 @@ module _ (q : ℕ) (o : Ops ℕ) (B : FieldBelow q o) where
         (located-grown K (up c) s L p (el scale) (up σ) (up τ) (located-up c σ τ scale bc bσ bτ bs h) shift count (up σ') at-place enough subtracted-up
         (el (o .inv discrepancy)) l
         (mul-comm K (el (o .inv discrepancy)) (convolution (K .ops) (up σ) (up c) (suc s))
-        ∙ raise _ _ (mul-down _ _ failure-down (down (o .inv discrepancy) (B .inv-below discrepancy bd))) one-down (B .inverse discrepancy bd nonzero ∙ sym (B .one-is))))
+        ∙ raise _ _ (mul-down _ _ discrepancy-down (down (o .inv discrepancy) (B .inv-below discrepancy bd))) one-down (B .inverse discrepancy bd nonzero ∙ sym (B .one-is))))

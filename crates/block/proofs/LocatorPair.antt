@@ -7,11 +7,11 @@ use native.Mathlib.Omega.{arith}
 use Rattle.algebra.proofs.Below.{FieldBelow}
 use Rattle.field.specs.Fields.{Good, opsOf}
 use Rattle.field.specs.Symbols.{Is}
-use Rattle.field.proofs.Laws.{lawsOf}
 use Rattle.field.specs.parts.Sequences.{AllBelow, at}
+use Rattle.field.proofs.Laws.{lawsOf}
+use Rattle.field.proofs.Sums.{zero-below}
 use Rattle.block.specs.parts.Locator.{tail, Located}
 use Rattle.block.specs.parts.LocatorAreas.{Unit, Multiple, LocatorPair}
-use Rattle.field.proofs.Sums.{zero-below}
 use Rattle.block.proofs.LocatorBelow.{start-below, kept-below, corrected-below, grown-below}
 
 module _ (q : ℕ) (good : Good q) where
@@ -34,8 +34,8 @@ module _ (q : ℕ) (good : Good q) where
 
   module _ {series locator former : List ℕ} {s next L p scale rest discrepancy : ℕ} (step : suc s ≡ next) (hs : AllBelow q series) (h : LocatorPair q series s L p scale locator former)
       (sums : Is q rest (tail (opsOf q) L (at locator) (at series) next)) (fails : Is q discrepancy (opsOf q .add (at series next) rest)) where
-    failure-is : discrepancy ≡ opsOf q .add (at series (suc s)) (tail (opsOf q) L (at locator) (at series) (suc s))
-    failure-is =
+    discrepancy-is : discrepancy ≡ opsOf q .add (at series (suc s)) (tail (opsOf q) L (at locator) (at series) (suc s))
+    discrepancy-is =
         fails .same
         ∙ ap₂ (λ (t u : ℕ). opsOf q .add (at series t) u) (sym step)
         (sums .same ∙ ap (tail (opsOf q) L (at locator) (at series)) (sym step))
@@ -49,7 +49,7 @@ module _ (q : ℕ) (good : Good q) where
           located =
               subst (λ (t : ℕ). Located (opsOf q) (at series) t L p scale (at locator) (at former)) step
               (kept-below q (opsOf q) B (at series) (at locator) (at former) scale hs (h .locator-below) (h .former-below) (h .scale-below)
-              (h .located) (sym failure-is ∙ e ∙ sym (B .zero-is)));
+              (h .located) (sym discrepancy-is ∙ e ∙ sym (B .zero-is)));
         }
 
     module _ {factor : ℕ} {locator' : List ℕ} (multiplied : Is q factor (opsOf q .mul discrepancy scale))
@@ -70,7 +70,7 @@ module _ (q : ℕ) (good : Good q) where
                 subst (λ (t : ℕ). Located (opsOf q) (at series) t L p scale (at locator') (at former)) step
                 (corrected-below q (opsOf q) B (at series) (at locator) (at former) (at locator') scale discrepancy factor (next - p) (p - L + 1)
                 hs (h .locator-below) (h .former-below) (M .below) (h .scale-below) (fails .below) (multiplied .below)
-                (h .located) failure-is (multiplied .same) at-place enough (M .subtracted) (omega (arith, step)));
+                (h .located) discrepancy-is (multiplied .same) at-place enough (M .subtracted) (omega (arith, step)));
           }
 
       pub pair-lengthened : {scale' : ℕ} → L + L < next → (discrepancy ≡ 0 → ⊥) → Is q scale' (opsOf q .inv discrepancy)
@@ -85,5 +85,5 @@ module _ (q : ℕ) (good : Good q) where
                 (subst (λ (t : ℕ). Located (opsOf q) (at series) t (t - L) t (opsOf q .inv discrepancy) (at locator') (at locator)) step
                 (grown-below q (opsOf q) B (at series) (at locator) (at former) (at locator') scale discrepancy factor (next - p) (p - L + 1)
                 hs (h .locator-below) (h .former-below) (M .below) (h .scale-below) (fails .below) (multiplied .below)
-                (h .located) failure-is (multiplied .same) at-place enough (M .subtracted) (omega (arith, step)) nonzero));
+                (h .located) discrepancy-is (multiplied .same) at-place enough (M .subtracted) (omega (arith, step)) nonzero));
           }

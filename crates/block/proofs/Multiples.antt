@@ -7,12 +7,12 @@ use native.Mathlib.Omega.{arith}
 use lib.ListN.{length, getD, set}
 use lib.Seq.{getD-set-other}
 use Rattle.algebra.specs.Ops.{sub}
+use Rattle.area.proofs.Lists.{stored}
 use Rattle.field.specs.Fields.{opsOf}
 use Rattle.field.specs.Symbols.{Is}
-use Rattle.area.proofs.Lists.{stored}
 use Rattle.field.specs.parts.Sequences.{AllBelow, at}
-use Rattle.block.specs.parts.LocatorAreas.{Multiple}
 use Rattle.field.proofs.Symbols.{below-set}
+use Rattle.block.specs.parts.LocatorAreas.{Multiple}
 
 module _ (q factor shift : ℕ) (source before : List ℕ) where
   pub multiple-none : AllBelow q before → Multiple q factor shift 0 source before before

@@ -11,15 +11,15 @@ use Rattle.algebra.specs.Ops.{Ops}
 use Rattle.algebra.specs.Sum.{power}
 use Rattle.algebra.specs.Polynomial.{value}
 use Rattle.algebra.proofs.Sums.{sum-ext}
+use Rattle.area.proofs.Lists.{stored}
 use Rattle.field.specs.Fields.{Good, opsOf, alpha}
 use Rattle.field.specs.Symbols.{Is}
-use Rattle.field.proofs.Laws.{lawsOf}
-use Rattle.area.proofs.Lists.{stored}
 use Rattle.field.specs.parts.Sequences.{AllBelow, at}
+use Rattle.field.proofs.Laws.{lawsOf}
+use Rattle.field.proofs.Symbols.{below-set}
 use Rattle.block.specs.parts.Locator.{tail}
 use Rattle.block.specs.parts.LocatorAreas.{Unit, LocatorFound}
 use Rattle.block.specs.parts.Spectrum.{SpectrumOf, Continued}
-use Rattle.field.proofs.Symbols.{below-set}
 use Rattle.block.proofs.LocatorStep.{located-ext}
 use Rattle.block.proofs.LocatorPair.{unit-below}
 

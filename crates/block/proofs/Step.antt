@@ -7,15 +7,15 @@ use Prim.Native.Nat.{ℕ, _*_, _≤_, _<_}
 use native.Mathlib.Omega.{arith}
 use lib.ListN.{length}
 use Rattle.algebra.proofs.Weights.{total-ext}
+use Rattle.area.specs.Lists.{view}
 use Rattle.field.specs.Symbols.{Symbols}
+use Rattle.field.specs.parts.Sequences.{at}
 use Rattle.code.specs.declared.Setting.{Setting}
 use Rattle.code.specs.Code.{levelDistance}
-use Rattle.area.specs.Lists.{view}
 use Rattle.code.specs.parts.Cost.{symbolCost, blockCost, levelCost}
 use Rattle.code.specs.Settings.{codeOf}
 use Rattle.code.specs.parts.Sound.{Sound}
 use Rattle.code.proofs.Blocks.{combination-ext}
-use Rattle.field.specs.parts.Sequences.{at}
 use Rattle.block.specs.parts.Candidate.{syndromesAt, Begun, Candidate}
 use Rattle.block.specs.parts.Step.{Information, Step, near, far}
 use Rattle.block.proofs.Spectra.{found-longer}

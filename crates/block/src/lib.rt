@@ -1,6 +1,6 @@
 // The block step: from a received block the information of the code block within the limit, or that there is none (01, "Reading a reception").
 // A block's spectrum is its values at α^0, α^1, ... That of a level-l code block is zero at the first n - (l+1)k places, so there the received block shows
-// the spectrum of the error. The locator that annihilates what is known of it continues it by a recurrence, rightly if the error is light; what the
+// the spectrum of the error: these are the syndromes. The locator that annihilates what is known of it continues it by a recurrence, rightly if the error is light; what the
 // received block has besides is the code block's spectrum, and the information is read off it. The block is rebuilt from the rows and
 // compared, so a good answer rests on nothing else.
 pub mod information;
@@ -26,7 +26,7 @@ struct Start {
     point: u8,
 }
 
-// The locator of the first values of the block's spectrum, those that level l's code blocks have zero.
+// The locator of the block's syndromes at level l.
 fn begin(
     p: Setting,
     products: &Products,
@@ -41,10 +41,10 @@ fn begin(
     ensures { λ r. ⌜ Begun p l (now (block .entry)) (now (series .exit)) (now (locator .exit)) (now (former .exit)) (r .degree) (r .point) ⌝ }
 {
     let q = p.q;
-    let zeros = p.n - (l + 1) * p.k;
+    let syndromes = p.n - (l + 1) * p.k;
     locator::unit(series);
-    let point = spectrum::add_values(q, products, block, 0, zeros, 1, series);
-    let degree = locator::locate(q, products, series, zeros + 1, locator, former, spare);
+    let point = spectrum::add_values(q, products, block, 0, syndromes, 1, series);
+    let degree = locator::locate(q, products, series, syndromes + 1, locator, former, spare);
     Start {
         degree: degree,
         point: point,
@@ -71,14 +71,14 @@ fn read_candidate(
     let n = p.n;
     let blocks = l + 1;
     let count = blocks * p.k;
-    let zeros = n - count;
-    spectrum::add_values(q, products, block, zeros, n, start.point, series);
+    let syndromes = n - count;
+    spectrum::add_values(q, products, block, syndromes, n, start.point, series);
     spectrum::extend(
         q,
         products,
         start.degree,
         locator,
-        zeros,
+        syndromes,
         count,
         series,
         values,

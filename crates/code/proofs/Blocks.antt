@@ -77,9 +77,9 @@ module _ {F : Type 0} (K : Field F) (α : F) (n k m : ℕ) where
   unfolding generatorPolynomial
   generatorPolynomial-zero s l = value-at-root K (in-points (K .ops) α (n - k) s l)
 
-  pub length-base : length (generatorPolynomial c) ≡ suc (n - k)
+  pub length-generatorPolynomial : length (generatorPolynomial c) ≡ suc (n - k)
   unfolding generatorPolynomial
-  length-base = length-fromRoots (K .ops) (points (K .ops) α (n - k)) ∙ ap suc (length-points (K .ops) α (n - k))
+  length-generatorPolynomial = length-fromRoots (K .ops) (points (K .ops) α (n - k)) ∙ ap suc (length-points (K .ops) α (n - k))
 
   -- The value of row r of G_j: that of x^r × f at the twisted point.
   valueOf-row : (j r : ℕ) (y : F) → r < k → k ≤ n
@@ -97,7 +97,7 @@ module _ {F : Type 0} (K : Field F) (α : F) (n k m : ℕ) where
       row = replicate r 𝟘 ++ generatorPolynomial c
 
       length-row : length row ≡ r + suc (n - k)
-      length-row = length-append (replicate r 𝟘) (generatorPolynomial c) ∙ ap₂ _+_ (length-replicate r 𝟘) length-base
+      length-row = length-append (replicate r 𝟘) (generatorPolynomial c) ∙ ap₂ _+_ (length-replicate r 𝟘) length-generatorPolynomial
 
   row-step : (x p v : F) → x ⊗ (p ⊗ v) ≡ v ⊗ (x ⊗ p)
   row-step x p v = simp ring

@@ -1,4 +1,4 @@
--- The bridge for the code: what a setting's definitions give on numbers below q is what the abstract code gives on elements.
+-- The bridge for the code (see algebra/proofs/Below): what a setting's definitions give on numbers below q is what the abstract code gives on elements.
 -- Holds: `transmission-long`; `fieldOf`, `rootOf`, `orderAt`, `overField`, `number-zero`, `number-sub`, `root-number`, `mapped-code`, `lifted`; `sent-number`, `timesG-number`, `combination-number`, `ending-number`, `received`, `received-number`, `value-number`, `rowSymbol-number`, `rowSymbol-below`; `transmission-view`, `transmission-length`, `sent-below`, `transmission-symbols`.
 use mathlib.Core.Path.{_≡_, sym, ap, ap₂, subst, fun-ext, _∙_}
 use mathlib.Core.List.{List}
@@ -15,6 +15,8 @@ use Rattle.algebra.proofs.HasOrder.{HasOrder}
 use Rattle.algebra.proofs.Polynomials.{valueOf-ext, value-is-valueOf}
 use Rattle.algebra.proofs.Naturality.{Homomorphism, power-natural, valueOf-natural}
 use Rattle.algebra.proofs.Below.{Element, number, element, number-element, fieldBelow, number-keeps, orderBelow, FieldBelow, positive as below-positive}
+use Rattle.area.specs.Lists.{view}
+use Rattle.area.proofs.Lists.{length-tabulate, getD-tabulate, view-tabulate}
 use Rattle.field.specs.Fields.{opsOf, alpha}
 use Rattle.field.specs.Symbols.{Symbols}
 use Rattle.field.proofs.Laws.{lawsOf, orderOf}
@@ -22,16 +24,14 @@ use Rattle.field.proofs.Symbols.{symbol-below}
 use Rattle.code.specs.declared.Setting.{Setting}
 use Rattle.code.specs.Code.{Code}
 use Rattle.code.specs.Generator.{rowSymbol, timesG}
-use Rattle.area.specs.Lists.{view}
 use Rattle.code.specs.Transmission.{sentSymbol}
 use Rattle.code.specs.Level.{combination}
 use Rattle.code.specs.parts.Recovery.{ending}
 use Rattle.code.specs.Settings.{codeOf}
 use Rattle.code.specs.Windows.{transmission, Message}
+use Rattle.code.specs.parts.Sound.{Sound}
 use Rattle.code.proofs.Blocks.{codeOver, combination-ext}
 use Rattle.code.proofs.Naturality.{mapped, rowSymbol-natural, timesG-natural, sentSymbol-natural, combination-natural, ending-natural}
-use Rattle.area.proofs.Lists.{length-tabulate, getD-tabulate, view-tabulate}
-use Rattle.code.specs.parts.Sound.{Sound}
 
 pub transmission-long : (p : Setting) (x : List ℕ) → length (transmission p x) ≡ (length x / p .k + p .m) * p .n
 unfolding transmission

@@ -16,10 +16,10 @@ use Rattle.algebra.specs.Weight.{total, distance}
 use Rattle.algebra.proofs.Laws.{add-cancel, add-comm}
 use Rattle.algebra.proofs.Weights.{total-ext, total-scale, total-blocks, countOf-le}
 use Rattle.algebra.proofs.Below.{Element, number, number-injective}
+use Rattle.area.specs.Lists.{view}
 use Rattle.field.specs.Fields.{opsOf}
 use Rattle.code.specs.declared.Setting.{Setting}
 use Rattle.code.specs.Code.{distancesTo, limit}
-use Rattle.area.specs.Lists.{view}
 use Rattle.code.specs.Transmission.{sentSymbol}
 use Rattle.code.specs.parts.Cost.{symbolCost, costTo, messageCost, NearWindow}
 use Rattle.code.specs.parts.Sound.{Sound}

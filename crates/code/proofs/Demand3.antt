@@ -6,12 +6,12 @@ use native.Mathlib.Nat.{mul-le-mul-right}
 use native.Mathlib.Omega.{arith}
 use lib.ListN.{length, take, drop, length-take, length-drop}
 use lib.Seq.{ext-getD, getD-take, getD-drop}
+use Rattle.area.proofs.Lists.{equal-part, part-equal}
 use Rattle.code.specs.declared.Setting.{Setting}
 use Rattle.code.specs.Code.{distancesTo}
 use Rattle.code.specs.Settings.{settingOf}
 use Rattle.code.specs.parts.Sound.{Sound}
 use Rattle.code.specs.Demand3.{FirstDifferingBlock, AtMostOneFits, IndependentOfLaterBlocks, Demand3}
-use Rattle.area.proofs.Lists.{equal-part, part-equal}
 use Rattle.code.proofs.Cost.{fits-cost, fits-near}
 use Rattle.code.proofs.Messages.{block-determined, messages-agree, alike-window}
 use Rattle.code.proofs.Settings.{soundOf}

@@ -9,16 +9,16 @@ use lib.Arith.{digits-lt}
 use lib.ListN.{getD, take}
 use Rattle.algebra.proofs.Below.{number}
 use Rattle.algebra.proofs.Weights.{total-ext}
+use Rattle.area.specs.Lists.{view}
+use Rattle.area.proofs.Lists.{equal-part}
 use Rattle.code.specs.declared.Setting.{Setting}
 use Rattle.code.specs.Code.{distancesTo}
-use Rattle.area.specs.Lists.{view}
 use Rattle.code.specs.Transmission.{sentSymbol}
 use Rattle.code.specs.parts.Cost.{symbolCost, costTo, messageCost, NearWindow}
 use Rattle.code.specs.Windows.{Message}
-use Rattle.code.proofs.Certainty.{block-certain, agree-through}
-use Rattle.area.proofs.Lists.{equal-part}
 use Rattle.code.specs.Settings.{codeOf}
 use Rattle.code.specs.parts.Sound.{Sound}
+use Rattle.code.proofs.Certainty.{block-certain, agree-through}
 use Rattle.code.proofs.CodeBelow.{fieldOf, rootOf, orderAt, overField, lifted, lifted-same, number-lifted, message-below}
 use Rattle.code.proofs.Cost.{byteCost, bytes-apart, message-cost}
 

@@ -25,7 +25,7 @@ use Rattle.algebra.proofs.Synthesis.{power-back, synthesis, synthesis-low, synt
 use Rattle.code.specs.Code.{Code}
 use Rattle.code.specs.Generator.{points, generatorPolynomial, rowSymbol, timesG}
 use Rattle.code.specs.parts.Recovery.{ending, Recovered}
-use Rattle.code.proofs.Blocks.{codeOver, length-points, length-base, generatorPolynomial-nonzero, part, part-low, valueOf-timesG}
+use Rattle.code.proofs.Blocks.{codeOver, length-points, length-generatorPolynomial, generatorPolynomial-nonzero, part, part-low, valueOf-timesG}
 
 module _ {F : Type 0} (K : Field F) (α : F) (n k m : ℕ) where
   infixl 60 _⊕_
@@ -57,7 +57,7 @@ module _ {F : Type 0} (K : Field F) (α : F) (n k m : ℕ) where
   row-zero : (r j : ℕ) → r + suc j < k → k ≤ n → rowSymbol c 0 r (n - suc j) ≡ 𝟘
   row-zero r j l fits =
       let place : n - suc j ≡ r + (n - suc j - r) = omega arith in
-      ap (rowSymbol c 0 r) place ∙ row-at r (n - suc j - r) ∙ List·getD-eq-default (generatorPolynomial c) 𝟘 (omega (arith, length-base K α n k m))
+      ap (rowSymbol c 0 r) place ∙ row-at r (n - suc j - r) ∙ List·getD-eq-default (generatorPolynomial c) 𝟘 (omega (arith, length-generatorPolynomial K α n k m))
 
   sub-back : (a b : F) → a ⊕ (b ⊕ ⊖ a) ≡ b
   sub-back a b = add-left-comm K a b (⊖ a) ∙ ap (λ (t : F). b ⊕ t) (add-neg K a) ∙ add-zero K b

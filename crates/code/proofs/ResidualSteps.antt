@@ -13,10 +13,10 @@ use Rattle.algebra.specs.Ops.{sub, pick}
 use Rattle.algebra.proofs.Laws.{sub-self, eq-of-sub, add-of-sub, sub-add, sub-sub, neg-zero, add-zero, add-comm, add-assoc, add-neg, zero-mul}
 use Rattle.algebra.proofs.Sums.{sum-ext, sum-single}
 use Rattle.algebra.proofs.Below.{Element, number, number-injective, element, number-element}
+use Rattle.area.specs.Lists.{view}
 use Rattle.field.specs.Fields.{opsOf}
 use Rattle.code.specs.declared.Setting.{Setting}
 use Rattle.code.specs.Generator.{rowSymbol, timesG}
-use Rattle.area.specs.Lists.{view}
 use Rattle.code.specs.Transmission.{earlier, sentSymbol}
 use Rattle.code.specs.Settings.{codeOf}
 use Rattle.code.specs.parts.Sound.{Sound}

@@ -12,10 +12,10 @@ use Rattle.algebra.specs.Ops.{sub}
 use Rattle.algebra.proofs.Laws.{sub-self, add-of-sub, neg-unique, neg-mul}
 use Rattle.algebra.proofs.Weights.{total-ext}
 use Rattle.algebra.proofs.Below.{Element, number, number-injective, element, number-element}
+use Rattle.area.specs.Lists.{view}
 use Rattle.field.specs.Fields.{opsOf}
 use Rattle.field.proofs.Symbols.{symbol-below}
 use Rattle.code.specs.declared.Setting.{Setting}
-use Rattle.area.specs.Lists.{view}
 use Rattle.code.specs.Transmission.{sentSymbol}
 use Rattle.code.specs.Level.{combination}
 use Rattle.code.specs.parts.Cost.{symbolCost, costTo, blockCost, rebuiltCost, windowCost, zeroCost, messageCost}

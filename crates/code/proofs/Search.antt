@@ -19,16 +19,16 @@ use Rattle.algebra.specs.Weight.{distance}
 use Rattle.algebra.proofs.Sums.{sum-ext}
 use Rattle.algebra.proofs.Tests.{and-left, and-right, all, all-at}
 use Rattle.algebra.proofs.Weights.{countOf-ext}
+use Rattle.area.specs.Lists.{view}
+use Rattle.area.proofs.Lists.{getD-tabulate}
 use Rattle.field.proofs.Symbols.{symbol-below}
 use Rattle.code.specs.declared.Setting.{Setting}
 use Rattle.code.specs.Code.{Code, limit}
 use Rattle.code.specs.Generator.{rowSymbol, timesG}
-use Rattle.area.specs.Lists.{view}
 use Rattle.code.specs.Transmission.{earlier, sentSymbol}
 use Rattle.code.specs.Settings.{codeOf}
 use Rattle.code.specs.parts.Sound.{Sound}
 use Rattle.code.specs.Windows.{transmission, windowLength, windowDistance, Message, Fits}
-use Rattle.area.proofs.Lists.{getD-tabulate}
 use Rattle.code.proofs.CodeBelow.{positive, message-blocks}
 use Rattle.code.proofs.Settings.{block-positive}
 

@@ -1,4 +1,4 @@
--- One turn of reading, at a window by itself, over any field and any n, k, m with (m+1)k ≤ n (01, "Reading a reception"; 000, Theorem 3.4).
+-- One window by itself, over any field and any n, k, m with (m+1)k ≤ n (01, "Reading a reception"; 000, Theorem 3.4).
 -- The window's blocks are w 0 .. w m, of received symbols of any type R; a message block sequence y contributes the combinations of y_0 .. y_l to
 -- block l (`rebuiltCost`).
 -- Holds: `sent-single` (what one information block contributes to a frame); `turn-certain` (two near sequences begin alike), `turn-refused`.

@@ -1,4 +1,4 @@
--- One turn of reading on bytes: the facts of `Turns`, for a setting's window given as a list of bytes of any value.
+-- One window on bytes: the facts of `Window`, for a setting's window given as a list of bytes of any value.
 -- Holds: `zero-cost` (a window's cost against zeros is that of the zero information); `first-certain`, `level-refused`, `level-drops`, `level-ends`.
 use mathlib.Core.Path.{_≡_, sym, ap, _∙_}
 use mathlib.Core.List.{List}
@@ -9,9 +9,9 @@ use lib.ListN.{length, getD}
 use Rattle.algebra.specs.Weight.{total}
 use Rattle.algebra.proofs.Weights.{total-ext, total-blocks}
 use Rattle.algebra.proofs.Below.{number, number-injective, number-element}
+use Rattle.area.specs.Lists.{view}
 use Rattle.code.specs.declared.Setting.{Setting}
 use Rattle.code.specs.Code.{levelDistance, distancesTo}
-use Rattle.area.specs.Lists.{view}
 use Rattle.code.specs.Level.{combination}
 use Rattle.code.specs.parts.Cost.{symbolCost, blockCost, rebuiltCost, levelCost, windowCost, zeroCost}
 use Rattle.code.specs.Settings.{codeOf}

@@ -6,10 +6,10 @@ use mathlib.Core.List.{List, [], _∷_, _++_, map}
 use Prim.Native.Nat.{ℕ, _+_, _-_, max}
 use lib.Dec.{leb}
 use lib.ListN.{length, getD}
+use Rattle.area.specs.Lists.{tabulate}
 use Rattle.field.specs.Fields.{opsOf, alpha}
 use Rattle.code.specs.declared.Setting.{Setting}
 use Rattle.code.specs.Code.{Code, levelDistance, distancesTo, designDistance, limit}
-use Rattle.area.specs.Lists.{tabulate}
 
 -- "A block has n = q - 1 symbols. An information block has k. The memory is m."
 abbrev pub setting : ℕ → ℕ → ℕ → Setting

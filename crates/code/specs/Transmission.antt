@@ -1,9 +1,7 @@
 -- The transmission of a message (01, "The transmission"; transmission: the codeword, message: the information word).
 -- Holds: `earlier`, information block s - j; `sentSymbol`, symbol i of sent block s.
-use mathlib.Core.List.{List, [], _∷_}
-use Prim.Native.Nat.{ℕ, zero, suc, _+_, _-_, _*_}
+use Prim.Native.Nat.{ℕ, zero, suc, _-_}
 use lib.Dec.{leb}
-use lib.ListN.{getD}
 use Rattle.algebra.specs.Ops.{Ops, pick}
 use Rattle.algebra.specs.Sum.{sum}
 use Rattle.code.specs.Code.{Code}

@@ -5,10 +5,10 @@ use mathlib.Core.List.{List}
 use Prim.Native.Nat.{ℕ, _+_, _*_, _/_, _%_, _≤_, _<_}
 use lib.ListN.{length, getD}
 use Rattle.algebra.specs.Weight.{distance}
+use Rattle.area.specs.Lists.{view, tabulate}
 use Rattle.field.specs.Symbols.{Symbols}
 use Rattle.code.specs.declared.Setting.{Setting}
 use Rattle.code.specs.Code.{limit}
-use Rattle.area.specs.Lists.{view, tabulate}
 use Rattle.code.specs.Transmission.{sentSymbol}
 use Rattle.code.specs.Settings.{codeOf}
 

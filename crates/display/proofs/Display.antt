@@ -17,9 +17,9 @@ use Rattle.code.specs.Windows.{windowLength, windowDistance}
 use Rattle.code.proofs.Settings.{Sizes, largestOf}
 use Rattle.question.specs.declared.Answer.{Answer}
 use Rattle.question.specs.Questions.{firstNo, blocksOf, displayQuestions, marksQuestions}
+use Rattle.question.proofs.Questions.{WindowYes}
 use Rattle.display.specs.Display.{windowOf}
 use Rattle.display.specs.Marks.{marksOf, Marked}
-use Rattle.question.proofs.Questions.{WindowYes}
 use Rattle.display.proofs.Bits.{ones-bits}
 
 -- The longest window of any setting.

@@ -11,8 +11,8 @@ use Rattle.algebra.specs.Ops.{pick}
 use Rattle.code.specs.declared.Setting.{Setting}
 use Rattle.code.specs.Settings.{settingOf}
 use Rattle.code.specs.Windows.{windowLength, windowDistance}
-use Rattle.display.specs.declared.Marks.{Marks}
 use Rattle.question.specs.Questions.{firstNo, marksQuestions}
+use Rattle.display.specs.declared.Marks.{Marks}
 
 -- The number with a bit for each of n tests, the first lowest.
 unfoldable pub bits : ℕ → (ℕ → Bool) → ℕ

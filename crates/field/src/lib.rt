@@ -1,8 +1,6 @@
 // The fields of 01 with q elements, q chosen at run time: five or eight. A symbol is a `u8` below q.
 // Products are read from the field's table, which the outermost call makes once and lends down.
-ghost use mathlib.Core.Path.{_≡_};
 ghost use Prim.Native.Nat.{_<_};
-ghost use lib.ListN.{length, replicate};
 ghost use Rattle.algebra.specs.Ops.{sub};
 ghost use Rattle.algebra.specs.Polynomial as polynomial;
 ghost use Rattle.field.specs.Fields.{Good, opsOf};

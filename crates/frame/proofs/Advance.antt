@@ -1,5 +1,5 @@
--- One turn at the frame: from what window j says to the progress of the frame.
--- Holds: `advance-none`, `advance-clean`, `advance-found`; `advance-more`, `advance-stopped`, `stopped-none`.
+-- One turn at the frame: from what window j says to how far the guess is settled.
+-- Holds: `window-clean` (a window near zeros); `search-below`, `search-few`; `advance-none`, `advance-clean`, `advance-found`; `advance-more`, `advance-stopped`, `stopped-none`.
 use mathlib.Core.Path.{_≡_, refl, sym, ap, subst}
 use mathlib.Core.Bool.{Bool, true, false, not}
 use mathlib.Core.List.{List}
@@ -8,19 +8,19 @@ use native.Mathlib.Omega.{arith}
 use lib.ListN.{length, getD, take, drop}
 use Rattle.algebra.proofs.Tests.{false-not-true}
 use Rattle.field.specs.Symbols.{Symbols}
+use Rattle.field.specs.parts.Sequences.{AllBelow}
 use Rattle.code.specs.declared.Setting.{Setting}
 use Rattle.code.specs.Code.{distancesTo}
 use Rattle.code.specs.parts.Sound.{Sound}
 use Rattle.code.specs.Windows.{windowLength}
 use Rattle.code.specs.parts.Cost.{zeroCost, windowCost}
+use Rattle.code.specs.parts.Information.{BlocksBelow}
+use Rattle.code.proofs.CodeBelow.{positive}
+use Rattle.code.proofs.WindowBelow.{zero-cost, first-certain}
 use Rattle.frame.specs.parts.Window.{Near, LevelSearch, served, none-serves}
 use Rattle.frame.specs.parts.Frame.{Settled, Added, NoneFits, Advanced, advanced, stopped}
 use Rattle.frame.proofs.Guesses.{windowAt, added-zero}
 use Rattle.frame.proofs.Settled.{settled-found, settled-none}
-use Rattle.code.specs.parts.Information.{BlocksBelow}
-use Rattle.code.proofs.CodeBelow.{positive}
-use Rattle.code.proofs.WindowBelow.{zero-cost, first-certain}
-use Rattle.field.specs.parts.Sequences.{AllBelow}
 
 -- A window that costs little against zeros is near the zero information: the first information block of every near y is zero.
 pub window-clean : (p : Setting) → Sound p → (window : List ℕ) → length window ≡ windowLength p → zeroCost (p .q) window < distancesTo (p .n) (p .k) (p .m)
@@ -73,14 +73,14 @@ module _ {p : Setting} (S : Sound p) {T : ℕ} {reception : List ℕ} (R : Symbo
 module _ {p : Setting} {T : ℕ} {reception : List ℕ} {j : ℕ} {message residual : List ℕ} where
   -- A turn that did not stop has advanced..
   pub advance-more : {r : Bool} → Advanced p T reception j message residual r → not r ≡ false → Settled p T reception j message residual
-  advance-more (advanced progress) h = progress
+  advance-more (advanced settled) h = settled
   advance-more (stopped far) h = absurd (false-not-true (sym h))
 
   -- .. and one that stopped shows that no message fits, whatever the areas hold.
   pub advance-stopped : {r : Bool} {i : ℕ} {message' residual' : List ℕ} → Advanced p T reception j message residual r → not r ≡ true → Advanced p T reception i message' residual' false
-  advance-stopped (advanced progress) h = absurd (false-not-true h)
+  advance-stopped (advanced settled) h = absurd (false-not-true h)
   advance-stopped (stopped far) h = stopped far
 
   pub stopped-none : {r : Bool} → Advanced p T reception j message residual r → not r ≡ true → NoneFits p T reception
-  stopped-none (advanced progress) h = absurd (false-not-true h)
+  stopped-none (advanced settled) h = absurd (false-not-true h)
   stopped-none (stopped far) h = far

@@ -11,12 +11,12 @@ use lib.Seq.{ext-getD}
 use Rattle.algebra.specs.Ops.{sub}
 use Rattle.algebra.specs.Weight.{countOf}
 use Rattle.algebra.proofs.Weights.{countOf-ext}
+use Rattle.area.specs.Lists.{view}
 use Rattle.field.specs.Fields.{opsOf}
 use Rattle.field.specs.Symbols.{Symbols}
 use Rattle.field.proofs.Symbols.{symbol-below}
 use Rattle.code.specs.declared.Setting.{Setting}
 use Rattle.code.specs.Code.{distancesTo}
-use Rattle.area.specs.Lists.{view}
 use Rattle.code.specs.parts.Sound.{Sound}
 use Rattle.code.specs.Windows.{transmission, windowLength, altered, Message}
 use Rattle.code.specs.parts.Cost.{zeroCost, messageCost, NearWindow}

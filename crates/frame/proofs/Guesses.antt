@@ -14,23 +14,23 @@ use lib.Seq.{length-take-le, getD-set-same, getD-set-other}
 use borrow.Author.Tests.{le-leb, lt-leb, eq-eqb, ne-eqb}
 use borrow.Rule.Slice.PartMut.{putMid}
 use Rattle.algebra.specs.Ops.{sub, pick}
+use Rattle.area.specs.Lists.{view}
+use Rattle.area.proofs.Lists.{stored}
+use Rattle.area.proofs.Parts.{put-length, put-before, put-inside, put-after}
 use Rattle.field.specs.Fields.{opsOf}
 use Rattle.field.specs.Symbols.{Symbols}
 use Rattle.field.proofs.Symbols.{symbol-below, symbols-set, put-symbols}
 use Rattle.code.specs.declared.Setting.{Setting}
 use Rattle.code.specs.Generator.{rowSymbol, timesG}
-use Rattle.area.specs.Lists.{view}
 use Rattle.code.specs.Settings.{codeOf}
 use Rattle.code.specs.parts.Sound.{Sound}
 use Rattle.code.specs.Windows.{windowLength}
 use Rattle.code.specs.parts.Information.{only}
 use Rattle.code.proofs.CodeBelow.{laws, positive, rowSymbol-below}
 use Rattle.code.proofs.Settings.{block-positive}
-use Rattle.area.proofs.Lists.{stored}
 use Rattle.code.proofs.Residuals.{window-view, add-opposite}
 use Rattle.code.proofs.ResidualSteps.{timesG-only, lessened, residual-step}
 use Rattle.tables.specs.parts.RowsAdded.{plusRow, RowsAdded}
-use Rattle.area.proofs.Parts.{put-length, put-before, put-inside, put-after}
 use Rattle.frame.specs.parts.Frame.{FrameAreas, Revised, Adjusted, Added}
 
 -- Window j of the residual.

@@ -6,13 +6,13 @@ use mathlib.Core.List.{List}
 use Prim.Native.Nat.{ℕ, _+_, _-_, _*_, _≤_, _<_}
 use lib.ListN.{take, drop}
 use Rattle.algebra.proofs.Tests.{false-not-true}
+use Rattle.area.specs.Lists.{view}
+use Rattle.field.specs.parts.Sequences.{AllBelow}
 use Rattle.code.specs.declared.Setting.{Setting}
 use Rattle.code.specs.Code.{distancesTo}
-use Rattle.area.specs.Lists.{view}
 use Rattle.code.specs.parts.Sound.{Sound}
 use Rattle.code.specs.parts.Cost.{windowCost}
 use Rattle.code.proofs.WindowBelow.{level-refused}
-use Rattle.field.specs.parts.Sequences.{AllBelow}
 use Rattle.block.specs.parts.Step.{Step, near, far}
 use Rattle.frame.specs.parts.Window.{LevelTried, serves, fails}
 use Rattle.frame.proofs.RebuiltCost.{part-cost}

@@ -8,8 +8,8 @@ use native.Mathlib.Numerals.{add-one}
 use native.Mathlib.Omega.{arith}
 use lib.ListN.{getD}
 use Rattle.algebra.proofs.Tests.{false-not-true}
-use Rattle.code.specs.declared.Setting.{Setting}
 use Rattle.area.specs.Lists.{view}
+use Rattle.code.specs.declared.Setting.{Setting}
 use Rattle.code.specs.parts.Sound.{Sound}
 use Rattle.code.specs.parts.Information.{BlocksBelow}
 use Rattle.code.proofs.WindowBelow.{first-certain, level-drops, level-ends}

@@ -1,22 +1,20 @@
 -- What rebuilt blocks of a window cost, as a loop adds it up. Holds: `rebuilt-term`, `rebuilt-all`; `part-cost`, `block-most`.
-use mathlib.Core.Path.{_≡_, refl, sym, ap, subst, _∙_}
-use mathlib.Core.Bool.{not}
+use mathlib.Core.Path.{_≡_, ap, _∙_}
 use mathlib.Core.List.{List}
 use Prim.Native.Nat.{ℕ, _+_, _-_, _*_, _≤_}
 use native.Mathlib.Numerals.{add-one}
 use native.Mathlib.Omega.{arith}
-use lib.Dec.{eqb}
 use lib.ListN.{getD, take, drop}
-use Rattle.algebra.specs.Weight.{total, distance}
-use Rattle.algebra.proofs.Weights.{total-ext, countOf-le}
-use Rattle.code.specs.declared.Setting.{Setting}
+use Rattle.algebra.specs.Weight.{total}
+use Rattle.algebra.proofs.Weights.{total-ext}
 use Rattle.area.specs.Lists.{view}
+use Rattle.area.proofs.Parts.{part-symbol}
+use Rattle.field.specs.parts.Sequences.{at}
+use Rattle.code.specs.declared.Setting.{Setting}
 use Rattle.code.specs.Level.{combination}
 use Rattle.code.specs.parts.Cost.{symbolCost, blockCost, rebuiltCost, levelCost, windowCost}
 use Rattle.code.specs.Settings.{codeOf}
 use Rattle.code.proofs.Cost.{cost-most}
-use Rattle.area.proofs.Parts.{part-symbol}
-use Rattle.field.specs.parts.Sequences.{at}
 
 -- What block s of a window costs, and the sum of blocks 0 .. l.
 abbrev pub rebuilt-term : Setting → List ℕ → (ℕ → ℕ → ℕ) → ℕ → ℕ

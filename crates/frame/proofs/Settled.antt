@@ -1,5 +1,5 @@
 -- The windows in turn: residual, zero window and the chain of refusals, put together on bytes.
--- Holds: `settled-start`, `near-of-fits`, `settled-none`, `settled-revised`, `settled-found`.
+-- Holds: `settled-start`, `near-of-fits`, `settled-none`, `settled-revised`, `settled-found`; `begin` (an empty message, and the reception itself as its residual).
 use mathlib.Core.Path.{_≡_, sym, ap, subst, _∙_}
 use mathlib.Core.List.{List, _++_}
 use Prim.Native.Nat.{ℕ, _+_, _-_, _*_, _≤_, _<_}
@@ -8,6 +8,7 @@ use native.Mathlib.Omega.{arith}
 use native.Mathlib.Decide.{decLt}
 use lib.ListN.{length, getD, replicate, length-replicate, take, drop}
 use Rattle.algebra.specs.Ops.{sub}
+use Rattle.area.proofs.Lists.{getD-zeros, copied-whole}
 use Rattle.field.specs.Fields.{opsOf}
 use Rattle.field.specs.Symbols.{Symbols}
 use Rattle.field.proofs.Symbols.{symbol-below, symbols-zeros}
@@ -15,7 +16,6 @@ use Rattle.code.specs.declared.Setting.{Setting}
 use Rattle.code.specs.parts.Sound.{Sound}
 use Rattle.code.specs.Windows.{Fits}
 use Rattle.code.specs.parts.Information.{BlocksBelow}
-use Rattle.area.proofs.Lists.{getD-zeros, copied-whole}
 use Rattle.code.proofs.CodeBelow.{positive}
 use Rattle.code.proofs.Cost.{fits-near}
 use Rattle.code.proofs.Residuals.{ahead, ahead-below, add-back, residual-window}

@@ -82,7 +82,17 @@ pub fn add_found(
     ensures { λ _. ⌜ Added p blocks j (λ r. getD (now (information .entry)) r 0) (now (message .entry)) (now (residual .entry)) (now (message .exit)) (now (residual .exit)) ⌝ }
 {
     let k = p.k;
-    add_block(p, products, rows, blocks, j, information, 0, message, residual);
+    add_block(
+        p,
+        products,
+        rows,
+        blocks,
+        j,
+        information,
+        0,
+        message,
+        residual,
+    );
     let mut a: usize = 1;
     while a < found {
         add_block(
@@ -171,12 +181,34 @@ fn guess_block(
     if is_light(p, i, residual) {
         return;
     }
-    guess_from(p, products, rows, scale, 0, false, blocks, i, message, residual);
+    guess_from(
+        p,
+        products,
+        rows,
+        scale,
+        0,
+        false,
+        blocks,
+        i,
+        message,
+        residual,
+    );
     if is_light(p, i, residual) {
         return;
     }
     let last = p.n - p.k;
-    guess_from(p, products, rows, 1, last, true, blocks, i, message, residual);
+    guess_from(
+        p,
+        products,
+        rows,
+        1,
+        last,
+        true,
+        blocks,
+        i,
+        message,
+        residual,
+    );
 }
 
 // Guesses the blocks of window j.

@@ -2,12 +2,12 @@
 ghost use mathlib.Core.Path.{_≡_};
 ghost use Prim.Native.Nat.{ℕ, _+_, _*_, _≤_};
 ghost use lib.ListN.{length};
-ghost use Rattle.field.specs.Symbols.{Symbols};
 ghost use Rattle.area.specs.Lists.{view};
+ghost use Rattle.field.specs.Symbols.{Symbols};
+ghost use Rattle.field.specs.parts.Sequences.{AllBelow};
 ghost use Rattle.code.specs.Windows.{windowLength};
 ghost use Rattle.code.specs.parts.Cost.{windowCost, zeroCost};
 ghost use Rattle.tables.specs.parts.Rows.{Ready};
-ghost use Rattle.field.specs.parts.Sequences.{AllBelow};
 ghost use Rattle.block.specs.parts.BlockAreas.{BlockAreas};
 ghost use Rattle.frame.specs.parts.Window.{LevelTried, LevelSearch};
 use code::Setting;

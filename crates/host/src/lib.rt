@@ -1,7 +1,7 @@
 // The three functions that a C program calls (include/orderlink.h), thin over the proved library.
+ghost use Rattle.display.specs.Marks.{Marked};
 ghost use Rattle.link.specs.Encoding.{Encoded};
 ghost use Rattle.link.specs.Decoding.{Decoded};
-ghost use Rattle.display.specs.Marks.{Marked};
 use display::Marks;
 use question::Answer;
 

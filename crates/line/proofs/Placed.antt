@@ -7,10 +7,9 @@ use Prim.Native.Nat.{ℕ, _+_, _-_, _≤_, _<_}
 use native.Mathlib.Omega.{arith}
 use lib.Dec.{leb}
 use lib.ListN.{length, take, drop, length-append, length-map, length-take, length-drop}
-use lib.Seq.{take-at, drop-append-add}
+use lib.Seq.{take-at, drop-append-add, drop-drop}
 use borrow.Author.Tests.{le-leb, lt-leb}
 use borrow.Rule.Slice.PartMut.{putMid, post-is, same-len-mid}
-use lib.Seq.{drop-drop}
 use Rattle.algebra.specs.Ops.{pick}
 use Rattle.line.specs.Characters.{characterOf, hex}
 use Rattle.line.specs.Answering.{opening, success, Shown}

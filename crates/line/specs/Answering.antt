@@ -4,11 +4,11 @@
 use mathlib.Core.Path.{_≡_}
 use mathlib.Core.Bool.{Bool, true, false, _&&_}
 use mathlib.Core.List.{List, _++_, map}
-use Prim.Native.Nat.{ℕ, _+_, _*_, _≤_}
+use Prim.Native.Nat.{ℕ, _*_, _≤_}
 use lib.Dec.{eqb, leb}
-use lib.ListN.{length, take, drop}
-use Rattle.area.specs.Lists.{overwritten}
+use lib.ListN.{length, take}
 use Rattle.algebra.specs.Ops.{pick}
+use Rattle.area.specs.Lists.{overwritten}
 use Rattle.code.specs.Settings.{settingOf}
 use Rattle.question.specs.declared.Answer.{Answer}
 use Rattle.question.specs.Questions.{firstNo, mostSymbols, mostInformation}

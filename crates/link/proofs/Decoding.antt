@@ -6,13 +6,13 @@ use mathlib.Core.Bool.{Bool, true, false, not}
 use mathlib.Core.List.{List, _++_}
 use Prim.Native.Nat.{ℕ, _+_, _*_, _≤_, _<_}
 use native.Mathlib.Omega.{arith}
-use native.Mathlib.Decide.{ℕ-discrete}
 use lib.Dec.{eqb}
 use lib.ListN.{length, getD, drop, set, replicate, length-set}
-use lib.Seq.{ext-getD, getD-set-same, getD-set-other}
+use lib.Seq.{ext-getD, getD-set-other}
 use Rattle.algebra.specs.Ops.{sub}
 use Rattle.algebra.specs.Weight.{countOf}
 use Rattle.algebra.proofs.Tests.{false-not-true}
+use Rattle.area.proofs.Lists.{stored}
 use Rattle.field.specs.Fields.{opsOf}
 use Rattle.field.specs.Symbols.{Symbols}
 use Rattle.code.specs.declared.Setting.{Setting}
@@ -21,11 +21,11 @@ use Rattle.code.specs.parts.Sound.{Sound}
 use Rattle.code.specs.Windows.{transmission}
 use Rattle.code.proofs.CodeBelow.{transmission-length}
 use Rattle.code.proofs.Settings.{Sizes, sizesOf}
-use Rattle.frame.specs.parts.Frame.{FrameRead, fits, none}
-use Rattle.frame.proofs.Ends.{end-altered, end-back}
 use Rattle.question.specs.declared.Answer.{Answer}
 use Rattle.question.specs.Questions.{answer, firstNo, mostBlocks, blocksOf, decodingQuestions}
 use Rattle.question.proofs.Questions.{decoding-yes}
+use Rattle.frame.specs.parts.Frame.{FrameRead, fits, none}
+use Rattle.frame.proofs.Ends.{end-altered, end-back}
 use Rattle.link.specs.parts.Restoring.{Restored}
 use Rattle.link.specs.Decoding.{FrameDecoded, found, none-fits, Decoded, refused, well-formed}
 
@@ -36,20 +36,13 @@ module _ (q : ℕ) (reception before : List ℕ) where
   pub restored-more : (i : ℕ) (after : List ℕ) (v : ℕ) → Restored q i reception before after → i < length before
       → v ≡ sub (opsOf q) (getD reception i 0) (getD after i 0) → Restored q (i + 1) reception before (set after i v)
   restored-more i after v R l e =
+      let least : i ≤ i = omega arith in
       record {
         long = length-set after i v ∙ R .long;
-        inside = λ a h. at a (ℕ-discrete a i) h;
+        inside = stored after (λ a. a) (λ a. sub (opsOf q) (getD reception a 0) (getD before a 0)) i v (omega (arith, R .long))
+            (e ∙ ap (sub (opsOf q) (getD reception i 0)) (R .outside i least)) (λ a h s. absurd (omega arith)) (R .inside);
         outside = λ a h. getD-set-other after i a v 0 (omega arith) ∙ R .outside a (omega arith);
       }
-    where
-      at : (a : ℕ) → Dec (a ≡ i) → a < i + 1 → getD (set after i v) a 0 ≡ sub (opsOf q) (getD reception a 0) (getD before a 0)
-      at a (yes s) h =
-          let within : i < length after = omega (arith, R .long) in
-          let least : i ≤ i = omega arith in
-          ap (λ (t : ℕ). getD (set after i v) t 0) s ∙ getD-set-same after i v 0 within ∙ e
-          ∙ ap (sub (opsOf q) (getD reception i 0)) (R .outside i least)
-          ∙ ap (λ (t : ℕ). sub (opsOf q) (getD reception t 0) (getD before t 0)) (sym s)
-      at a (no d) h = getD-set-other after i a v 0 d ∙ R .inside a (omega arith)
 
 module _ {p : Setting} {T : ℕ} {reception message residual : List ℕ} where
   -- What the frame's reader leaves, if it found a message..

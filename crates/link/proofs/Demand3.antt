@@ -14,9 +14,9 @@ use Rattle.code.proofs.Settings.{soundOf}
 use Rattle.code.proofs.Demand3.{independent-of-later-blocks}
 use Rattle.question.specs.declared.Answer.{Answer}
 use Rattle.question.specs.Questions.{firstNo, blocksOf, decodingQuestions}
+use Rattle.question.proofs.Questions.{decoding-yes}
 use Rattle.link.specs.Decoding.{FrameDecoded, found, none-fits, Decoded, refused, well-formed}
 use Rattle.link.specs.Demand3.{Returned, ReturnedMessagesAgree}
-use Rattle.question.proofs.Questions.{decoding-yes}
 
 -- A message that fits stands at the front of its area.
 record Front (number : ℕ) (reception area : List ℕ) : Type 0 where

@@ -15,8 +15,8 @@ use Rattle.code.proofs.CodeBelow.{transmission-length}
 use Rattle.code.proofs.Demand3.{at-most-one-fits}
 use Rattle.question.specs.declared.Answer.{Answer}
 use Rattle.question.specs.Questions.{answer, firstNo, blocksOf, decodingQuestions}
-use Rattle.link.specs.Decoding.{FrameDecoded, found, none-fits, DecodedIn, Decoded, refused, well-formed}
 use Rattle.question.proofs.Questions.{decoding-yes}
+use Rattle.link.specs.Decoding.{FrameDecoded, found, none-fits, DecodedIn, Decoded, refused, well-formed}
 
 -- Two results of question 7 are the same.
 pub record Same (r s : Answer) (message other sent otherSent : List ℕ) : Type 0 where

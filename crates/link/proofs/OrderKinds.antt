@@ -21,10 +21,10 @@ use Rattle.code.proofs.Demand3.{at-most-one-fits}
 use Rattle.code.proofs.Search.{fitsTest, fits-of-test, noneFits, no-message-fits}
 use Rattle.question.specs.declared.Answer.{Answer}
 use Rattle.question.specs.Questions.{answer, firstNo, blocksOf, decodingQuestions, encodingQuestions}
+use Rattle.question.proofs.Questions.{all-yes, yes-all, decoding-yes}
 use Rattle.link.specs.Encoding.{encodedArea}
 use Rattle.link.specs.Orders.{Call, encoding, decoding, Order, Promised, Overwritten, OrderKept}
 use Rattle.link.specs.Decoding.{FrameDecoded, found, none-fits, Decoded, refused, well-formed}
-use Rattle.question.proofs.Questions.{all-yes, yes-all, decoding-yes}
 
 -- The tests.
 unfoldable pub sameList : List ℕ → List ℕ → Bool

@@ -4,12 +4,12 @@ use Rattle.algebra.specs.Sum.{sum, power}
 use Rattle.algebra.specs.Polynomial.{fromRoots, timesRootAfter}
 use Rattle.algebra.specs.Weight.{total}
 use Rattle.algebra.proofs.Tests.{all}
+use Rattle.area.specs.Lists.{tabulate}
 use Rattle.field.specs.Fields.{opsOf, five, eight}
 use Rattle.field.specs.Modular.{modular}
 use Rattle.field.specs.Binary.{binary, timesBits, timesAlpha}
 use Rattle.code.specs.Code.{distancesTo}
 use Rattle.code.specs.Generator.{points, generatorPolynomial, rowSymbol, timesG}
-use Rattle.area.specs.Lists.{tabulate}
 use Rattle.code.specs.Transmission.{sentSymbol}
 use Rattle.code.specs.Windows.{transmission}
 use Rattle.code.proofs.Search.{windowFrom, windowTest, windowsTest, fitsTest, finishedFar, noneBegins, noneFits}

@@ -9,16 +9,16 @@ use lib.ListN.{length, getD, take, drop, set, replicate, length-replicate, List�
 use lib.Seq.{ext-getD, getD-set-same, getD-set-other}
 use borrow.Rule.Slice.PartMut.{putMid}
 use Rattle.algebra.specs.Ops.{sub}
+use Rattle.area.specs.Lists.{view}
+use Rattle.area.proofs.Lists.{getD-zeros}
 use Rattle.field.specs.Fields.{opsOf}
 use Rattle.field.specs.Symbols.{Symbols}
 use Rattle.field.proofs.Symbols.{symbol-below, symbols-zeros}
 use Rattle.code.specs.declared.Setting.{Setting}
-use Rattle.area.specs.Lists.{view}
 use Rattle.code.specs.Transmission.{sentSymbol}
 use Rattle.code.specs.Settings.{codeOf}
 use Rattle.code.specs.parts.Sound.{Sound}
 use Rattle.code.specs.Windows.{transmission, windowLength, Message}
-use Rattle.area.proofs.Lists.{getD-zeros}
 use Rattle.code.proofs.CodeBelow.{laws, positive, message-below, transmission-view, transmission-length, sent-below, transmission-symbols}
 use Rattle.code.proofs.Settings.{block-positive}
 use Rattle.code.proofs.Messages.{place-in-blocks}

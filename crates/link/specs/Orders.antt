@@ -1,9 +1,9 @@
 -- What is said of an order that was worked through (01; order, message: the information word). Holds: `Call`, `Order`; `Overwritten`, `Promised`, `OrderKept`; `encodes`, `reads` and `getsSeven`, the
 -- three kinds of order. The orders themselves stand in specs/Sample.
 use mathlib.Core.Path.{_≡_}
-use mathlib.Core.List.{List, _++_}
+use mathlib.Core.List.{List}
 use Prim.Native.Nat.{ℕ, _≤_}
-use lib.ListN.{length, drop, replicate}
+use lib.ListN.{length, replicate}
 use Rattle.area.specs.Lists.{overwritten}
 use Rattle.question.specs.declared.Answer.{Answer}
 use Rattle.question.specs.Questions.{answer}

@@ -40,7 +40,14 @@ fn send_block(
 }
 
 // The whole transmission: zeros, to which each information block adds its part.
-fn send(p: Setting, products: &Products, rows: &[u8], message: &[u8], blocks: usize, area: &mut [u8])
+fn send(
+    p: Setting,
+    products: &Products,
+    rows: &[u8],
+    message: &[u8],
+    blocks: usize,
+    area: &mut [u8],
+)
     requires { ⌜ Sending p (now products) (now rows) (now message) blocks × (length (now area) ≡ (blocks + p .m) * p .n) ⌝ }
     ensures { λ _. ⌜ now (area .exit) ≡ transmission p (now (message .entry)) ⌝ }
 {

@@ -4,11 +4,11 @@ use mathlib.Core.Path.{_≡_, refl}
 use mathlib.Core.List.{[], _∷_}
 use Rattle.algebra.specs.Sum.{power}
 use Rattle.algebra.specs.Polynomial.{fromRoots, timesRootAfter}
+use Rattle.area.specs.Lists.{tabulate}
 use Rattle.field.specs.Fields.{opsOf, five, eight}
 use Rattle.field.specs.Modular.{modular}
 use Rattle.field.specs.Binary.{binary, timesBits, timesAlpha}
 use Rattle.code.specs.Generator.{points, generatorPolynomial, rowSymbol}
-use Rattle.area.specs.Lists.{tabulate}
 use Rattle.code.specs.Settings.{settingOf}
 use Rattle.tables.specs.parts.Rows.{generatorOf}
 

@@ -11,14 +11,14 @@ use lib.Arith.{digits-div, digits-mod, digits-lt}
 use lib.ListN.{length, getD, take, drop}
 use lib.Seq.{paste, take-length, drop-drop}
 use borrow.Rule.Slice.PartMut.{putMid}
+use Rattle.area.specs.Lists.{tabulate}
+use Rattle.area.proofs.Lists.{length-tabulate, getD-tabulate}
+use Rattle.area.proofs.Parts.{put-length, put-before, put-inside}
 use Rattle.code.specs.declared.Setting.{Setting}
 use Rattle.code.specs.Generator.{rowSymbol}
-use Rattle.area.specs.Lists.{tabulate}
 use Rattle.code.specs.Settings.{codeOf}
 use Rattle.code.specs.parts.Sound.{Sound}
-use Rattle.area.proofs.Lists.{length-tabulate, getD-tabulate}
 use Rattle.tables.specs.parts.Rows.{generatorOf, generatorRow, rowsLength, RowsOf}
-use Rattle.area.proofs.Parts.{put-length, put-before, put-inside}
 
 -- A row laid out is the part in its place.
 paste-put : (d : List ℕ) (at : ℕ) (s : List ℕ) → paste d at s (length s) ≡ putMid at (length s) d s

@@ -10,10 +10,10 @@ use lib.Arith.{digits-lt}
 use lib.ListN.{length, getD}
 use Rattle.algebra.specs.Sum.{sum}
 use Rattle.algebra.proofs.Sums.{sum-ext}
+use Rattle.area.specs.Lists.{view}
 use Rattle.field.specs.Fields.{opsOf}
 use Rattle.code.specs.declared.Setting.{Setting}
 use Rattle.code.specs.Generator.{timesG}
-use Rattle.area.specs.Lists.{view}
 use Rattle.code.specs.Level.{combination}
 use Rattle.code.specs.Settings.{codeOf}
 use Rattle.code.specs.parts.Sound.{Sound}

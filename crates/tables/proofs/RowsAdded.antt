@@ -10,19 +10,19 @@ use lib.ListN.{length, getD, take, drop, set, length-set}
 use lib.Arith.{digits-lt}
 use lib.Seq.{getD-set-other}
 use borrow.Rule.Slice.PartMut.{putMid}
+use Rattle.area.specs.Lists.{view}
+use Rattle.area.proofs.Lists.{stored}
+use Rattle.area.proofs.Parts.{part-length, part-symbol, put-length, put-before, put-inside, put-after}
 use Rattle.field.specs.Fields.{opsOf}
 use Rattle.field.specs.Symbols.{Symbols, Is}
 use Rattle.field.proofs.Symbols.{symbols-set, put-symbols}
 use Rattle.code.specs.declared.Setting.{Setting}
 use Rattle.code.specs.Generator.{rowSymbol}
-use Rattle.area.specs.Lists.{view}
 use Rattle.code.specs.Settings.{codeOf}
 use Rattle.code.specs.parts.Sound.{Sound}
 use Rattle.code.proofs.CodeBelow.{rowSymbol-below}
-use Rattle.area.proofs.Lists.{stored}
 use Rattle.tables.specs.parts.Rows.{RowsOf}
 use Rattle.tables.specs.parts.RowsAdded.{plusRow, MultipleAdded, RowAdded, RowsAdded}
-use Rattle.area.proofs.Parts.{part-length, part-symbol, put-length, put-before, put-inside, put-after}
 
 module _ (q u : ℕ) (row before : List ℕ) where
   pub multiple-none : Symbols q before → MultipleAdded q u 0 row before before

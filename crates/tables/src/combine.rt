@@ -2,12 +2,12 @@
 ghost use mathlib.Core.Path.{_≡_};
 ghost use Prim.Native.Nat.{_+_, _-_, _*_, _≤_, _<_};
 ghost use lib.ListN.{length, getD};
+ghost use Rattle.area.specs.Lists.{view};
 ghost use Rattle.field.specs.Fields.{Good};
 ghost use Rattle.field.specs.Symbols.{Symbols, Is};
 ghost use Rattle.field.specs.parts.Products.{ProductsOf};
 ghost use Rattle.code.specs.Generator.{timesG};
 ghost use Rattle.code.specs.Level as level;
-ghost use Rattle.area.specs.Lists.{view};
 ghost use Rattle.code.specs.Settings.{codeOf};
 ghost use Rattle.code.specs.Windows.{windowLength};
 ghost use Rattle.tables.specs.parts.Rows.{Ready};
@@ -83,7 +83,15 @@ fn add_multiple(q: usize, products: &Products, v: u8, row: &[u8], block: &mut [u
 }
 
 // Adds v × row r of G_j to a block.
-fn add_row(p: Setting, products: &Products, rows: &[u8], r: usize, v: u8, j: usize, block: &mut [u8])
+fn add_row(
+    p: Setting,
+    products: &Products,
+    rows: &[u8],
+    r: usize,
+    v: u8,
+    j: usize,
+    block: &mut [u8],
+)
     requires { ⌜ Ready p (now products) (now rows) × (r < p .k) × (v < p .q) × (j ≤ p .m) × (length (now block) ≡ p .n) × Symbols (p .q) (now block) ⌝ }
     ensures { λ _. ⌜ RowAdded p r v j (now (block .entry)) (now (block .exit)) ⌝ }
 {

@@ -1,4 +1,4 @@
-// The settings at run time, and their tables: made once in a library call and lent down.
+// The generator of each setting as a nested table, and its rows laid out: made once in a library call and lent down.
 ghost use mathlib.Core.Path.{_≡_};
 ghost use Prim.Native.Nat.{_+_, _≤_, _<_};
 ghost use lib.Dec.{T as Passes};
@@ -101,7 +101,7 @@ fn lay_rows(number: u64, area: &mut [u8])
 }
 
 // A setting's rows one after the other, at the front of the area. Each call of the loop has its number as a constant, so that the compiler unrolls it to
-// the table's bytes. Told apart by `==`: by `<`, as in `setting`, encoding takes up to 8 % more instructions.
+// the table's bytes. Told apart by `==`: by `<`, as in `code::setting_of`, encoding takes up to 8 % more instructions.
 pub fn rows(number: u64, area: &mut [u8])
     requires { ⌜ Passes (isSetting number) × (rowsLength (settingOf number) ≤ length (now area)) ⌝ }
     ensures { λ _. ⌜ RowsOf (settingOf number) (now (area .exit)) ⌝ }

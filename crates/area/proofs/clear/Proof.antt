@@ -1,12 +1,11 @@
 -- `area::clear`: zeros from the front.
 use mathlib.Core.Path.{_≡_, refl, ap, _∙_}
-use mathlib.Core.List.{List, _++_}
+use mathlib.Core.List.{List, _++_, append-nil}
 use Prim.Native.Nat.{ℕ, _-_, _≤_}
 use native.Mathlib.Omega.{arith}
 use denote.Ref.{now}
 use lib.ListN.{length, drop, replicate, set, length-set}
 use lib.Seq.{drop-length}
-use mathlib.Core.List.{append-nil}
 use borrow.Author.Fill.{fill-none, fill-more}
 use Rattle.area.proofs.clear.Statement.{statement}
 use Rattle.area.proofs.clear.Tie as tie

@@ -1,20 +1,20 @@
 -- `block::begin` meets its contract.
 use mathlib.Core.Path.{sym, _∙_}
 use native.Mathlib.Omega.{arith}
+use borrow.Author.Needs.{needs}
 use Rattle.code.proofs.Settings.{sizes, level-fits}
 use Rattle.block.proofs.Spectra.{point-none, spectrum-none}
-use borrow.Author.Needs.{needs}
 use Rattle.block.proofs.begin.Statement.{statement}
 use Rattle.block.proofs.begin.Tie as tie
 
-add-zeros : tie.Need-add-zeros
-add-zeros c = let entry = c .before .before .before .before .before in omega (arith, entry .pre .3, sizes (entry .args .p) (entry .pre .0) .memory-most)
+add-syndromes : tie.Need-add-syndromes
+add-syndromes c = let entry = c .before .before .before .before .before in omega (arith, entry .pre .3, sizes (entry .args .p) (entry .pre .0) .memory-most)
 
-mul-zeros : tie.Need-mul-zeros
-mul-zeros c = let entry = c .before .before .before .before .before .before in omega (arith, level-fits (entry .args .p) (entry .pre .0) (entry .args .l) (entry .pre .3), sizes (entry .args .p) (entry .pre .0) .symbols-most)
+mul-syndromes : tie.Need-mul-syndromes
+mul-syndromes c = let entry = c .before .before .before .before .before .before in omega (arith, level-fits (entry .args .p) (entry .pre .0) (entry .args .l) (entry .pre .3), sizes (entry .args .p) (entry .pre .0) .symbols-most)
 
-sub-zeros : tie.Need-sub-zeros
-sub-zeros c = let entry = c .before .before .before .before .before .before .before in level-fits (entry .args .p) (entry .pre .0) (entry .args .l) (entry .pre .3)
+sub-syndromes : tie.Need-sub-syndromes
+sub-syndromes c = let entry = c .before .before .before .before .before .before .before in level-fits (entry .args .p) (entry .pre .0) (entry .args .l) (entry .pre .3)
 
 unit-requires : tie.Need-unit-requires
 unit-requires c κs = search needs
@@ -54,9 +54,9 @@ pub begin-spec : {M : Type 1} → statement M
 begin-spec =
     tie.close
     (tie.spec
-    add-zeros
-    mul-zeros
-    sub-zeros
+    add-syndromes
+    mul-syndromes
+    sub-syndromes
     unit-requires
     add-values-requires
     add-locate

@@ -1,8 +1,8 @@
 -- `block::read_candidate` meets its contract.
 use mathlib.Core.Path.{_∙_}
 use native.Mathlib.Omega.{arith}
-use Rattle.code.proofs.Settings.{sizes, level-fits}
 use borrow.Author.Needs.{needs}
+use Rattle.code.proofs.Settings.{sizes, level-fits}
 use Rattle.block.proofs.read_candidate.Statement.{statement}
 use Rattle.block.proofs.read_candidate.Tie as tie
 
@@ -12,8 +12,8 @@ add-blocks c = let entry = c .before .before .before .before .before .before in 
 mul-count : tie.Need-mul-count
 mul-count c = let entry = c .before .before .before .before .before .before .before in omega (arith, level-fits (entry .args .p) (entry .pre .0 .sound) (entry .args .l) (entry .pre .2), sizes (entry .args .p) (entry .pre .0 .sound) .symbols-most)
 
-sub-zeros : tie.Need-sub-zeros
-sub-zeros c = let entry = c .before .before .before .before .before .before .before in level-fits (entry .args .p) (entry .pre .0 .sound) (entry .args .l) (entry .pre .2)
+sub-syndromes : tie.Need-sub-syndromes
+sub-syndromes c = let entry = c .before .before .before .before .before .before .before in level-fits (entry .args .p) (entry .pre .0 .sound) (entry .args .l) (entry .pre .2)
 
 add-values-requires : tie.Need-add-values-requires
 add-values-requires c κs = search needs
@@ -55,7 +55,7 @@ read-candidate-spec =
     (tie.spec
     add-blocks
     mul-count
-    sub-zeros
+    sub-syndromes
     add-values-requires
     extend-requires
     read-requires

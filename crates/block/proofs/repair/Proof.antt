@@ -1,10 +1,10 @@
 -- `block::repair` meets its contract: what its parts promise gives the two answers.
 use mathlib.Core.Path.{_∙_}
 use native.Mathlib.Omega.{arith}
+use borrow.Author.Needs.{needs}
 use Rattle.code.proofs.Settings.{sizes, level-fits}
 use Rattle.block.proofs.BlockAreas.{block-areas-kept}
 use Rattle.block.proofs.Step.{step-long, step-near, step-far}
-use borrow.Author.Needs.{needs}
 use Rattle.block.proofs.repair.Statement.{statement}
 use Rattle.block.proofs.repair.Tie as tie
 

@@ -2,8 +2,8 @@
 -- Holds: `BlockAreas`.
 use mathlib.Core.Path.{_≡_}
 use mathlib.Core.List.{List}
-use Prim.Native.Nat.{ℕ, _+_, _<_}
-use lib.ListN.{length, getD}
+use Prim.Native.Nat.{ℕ, _+_}
+use lib.ListN.{length}
 use Rattle.code.specs.declared.Setting.{Setting}
 
 -- Four areas, each with room for a block's spectrum and a 1 before it; what they hold matters nowhere.

@@ -10,11 +10,11 @@ use Rattle.block.specs.parts.LocatorAreas.{LocatorFound}
 use Rattle.block.specs.parts.Spectrum.{SpectrumOf, Continued}
 use Rattle.block.specs.parts.Information.{InformationRead}
 
--- How many first values of its spectrum are zero in a level-l code block.
+-- How many syndromes there are at level l: the first values of the spectrum, zero in a level-l code block.
 abbrev pub syndromesAt : Setting → ℕ → ℕ
 syndromesAt p l = p .n - (l + 1) * p .k
 
--- These values of the received block, which are the error's, their locator, and the point of the next value.
+-- The syndromes of the received block, which are the error's values too, their locator, and the point of the next value.
 pub record Begun (p : Setting) (l : ℕ) (block series locator former : List ℕ) (degree point : ℕ) : Type 0 where
   pub spectral : SpectrumOf (p .q) block (syndromesAt p l) series
   pub next : Is (p .q) point (power (opsOf (p .q)) alpha (syndromesAt p l))

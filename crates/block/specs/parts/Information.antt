@@ -5,13 +5,13 @@ use mathlib.Core.List.{List}
 use Prim.Native.Nat.{ℕ, _+_, _-_, _<_}
 use Rattle.algebra.specs.Ops.{sub}
 use Rattle.algebra.specs.parts.Values.{falling}
+use Rattle.area.specs.Lists.{view}
 use Rattle.field.specs.Fields.{opsOf}
+use Rattle.field.specs.parts.Sequences.{AllBelow, at}
 use Rattle.code.specs.declared.Setting.{Setting}
 use Rattle.code.specs.Generator.{timesG}
-use Rattle.area.specs.Lists.{view}
 use Rattle.code.specs.parts.Recovery.{Recovered}
 use Rattle.code.specs.Settings.{codeOf}
-use Rattle.field.specs.parts.Sequences.{AllBelow, at}
 
 -- Symbol k - j of the information block at `from`, and what x × G_0 lacks j places before its end.
 abbrev pub lacking : Setting → List ℕ → ℕ → ℕ → List ℕ → ℕ → ℕ

@@ -1,4 +1,4 @@
--- What the functions that make the locator promise, as records over the areas they write.
+-- The locator in areas: what the functions that make it promise, as records over the areas they write.
 -- Holds: `Unit`, `Multiple`, `LocatorPair`, `LocatorFound`.
 use mathlib.Core.Path.{_≡_}
 use mathlib.Core.List.{List}

@@ -4,11 +4,11 @@
 use mathlib.Core.Bool.{Bool, true, false}
 use mathlib.Core.List.{List}
 use Prim.Native.Nat.{ℕ, _≤_, _<_}
+use Rattle.area.specs.Lists.{view}
+use Rattle.field.specs.parts.Sequences.{at, AllBelow}
 use Rattle.code.specs.declared.Setting.{Setting}
 use Rattle.code.specs.Code.{levelDistance}
-use Rattle.area.specs.Lists.{view}
 use Rattle.code.specs.parts.Cost.{levelCost}
-use Rattle.field.specs.parts.Sequences.{at, AllBelow}
 
 -- x_0 .. x_l are information blocks: k symbols below q each.
 abbrev pub Information : Setting → ℕ → (ℕ → ℕ → ℕ) → Type 0

@@ -7,8 +7,8 @@ use lib.ListN.{length, length-set}
 use Rattle.field.specs.Symbols.{Symbols}
 use Rattle.field.proofs.Operations.{good-small}
 use Rattle.field.proofs.Symbols.{symbols-set, symbols-zeros}
-use Rattle.tables.specs.parts.Rows.{longestBlock}
 use Rattle.field.proofs.Sums.{zero-below}
+use Rattle.tables.specs.parts.Rows.{longestBlock}
 use Rattle.block_test.proofs.digits.Statement.{statement}
 use Rattle.block_test.proofs.digits.Tie as tie
 

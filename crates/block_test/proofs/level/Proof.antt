@@ -1,12 +1,12 @@
 -- `block_test::level` is safe and ends: the tables are those of the setting.
 use mathlib.Core.Path.{sym, subst}
 use Prim.Native.Nat.{_≤_}
+use borrow.Author.Needs.{needs}
 use Rattle.code.specs.declared.Setting.{Setting}
 use Rattle.code.specs.parts.Sound.{Sound}
 use Rattle.code.proofs.Settings.{soundOf, largestOf}
 use Rattle.tables.specs.parts.Rows.{rowsLength, longestBlock}
 use Rattle.tables.proofs.Lending.{readyOf}
-use borrow.Author.Needs.{needs}
 use Rattle.block_test.proofs.level.Statement.{statement}
 use Rattle.block_test.proofs.level.Tie as tie
 

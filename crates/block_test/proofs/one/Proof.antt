@@ -2,8 +2,8 @@
 use mathlib.Core.Path.{sym}
 use native.Mathlib.Omega.{arith}
 use lib.Seq.{length-take-le}
-use Rattle.field.proofs.Symbols.{symbols-take}
 use borrow.Author.Needs.{needs}
+use Rattle.field.proofs.Symbols.{symbols-take}
 use Rattle.block_test.proofs.one.Statement.{statement}
 use Rattle.block_test.proofs.one.Tie as tie
 

@@ -3,8 +3,8 @@ use mathlib.Core.Path.{sym}
 use Prim.Native.Nat.{_+_, _*_, _≤_}
 use native.Mathlib.Omega.{arith}
 use lib.Seq.{length-take-le}
-use Rattle.code.proofs.Settings.{sizes, level-fits}
 use borrow.Author.Needs.{needs}
+use Rattle.code.proofs.Settings.{sizes, level-fits}
 use Rattle.block_test.proofs.repaired_in.Statement.{statement}
 use Rattle.block_test.proofs.repaired_in.Tie as tie
 

@@ -2,8 +2,8 @@
 use Prim.Native.Nat.{_*_, _≤_}
 use native.Mathlib.Nat.{mul-le-mul-left}
 use native.Mathlib.Omega.{arith}
-use Rattle.field.proofs.Operations.{good-small}
 use borrow.Author.Needs.{needs}
+use Rattle.field.proofs.Operations.{good-small}
 use Rattle.block_test.proofs.with_digit.Statement.{statement}
 use Rattle.block_test.proofs.with_digit.Tie as tie
 

@@ -2,22 +2,17 @@
 -- most d. The sums are over any received symbols R, any field F and any cost of a symbol; on bytes the cost is `symbolCost`.
 -- Holds: `symbolCost`; `costTo` (blocks of a frame), `blockCost` (a block against a combination), `rebuiltCost` (a window against rebuilt blocks);
 -- of a setting, on bytes: `levelCost`, `windowCost`, `zeroCost`, `messageCost`, `NearWindow`.
-use mathlib.Core.Path.{_≡_}
 use mathlib.Core.List.{List}
-use Prim.Native.Nat.{ℕ, _+_, _<_}
+use Prim.Native.Nat.{ℕ, _+_, _<_, suc}
 use lib.ListN.{length, getD}
-use Rattle.algebra.specs.Ops.{sub, pick}
-use Rattle.field.specs.Fields.{opsOf}
-use Rattle.code.specs.declared.Setting.{Setting}
-use Rattle.code.specs.Code.{distancesTo}
-use Rattle.area.specs.Lists.{view}
-use Rattle.code.specs.Transmission.{sentSymbol}
-use Rattle.code.specs.Settings.{codeOf}
-use Prim.Native.Nat.{ℕ, suc, _+_}
 use lib.Dec.{eqb}
 use Rattle.algebra.specs.Ops.{pick}
 use Rattle.algebra.specs.Weight.{total}
-use Rattle.code.specs.Code.{Code}
+use Rattle.area.specs.Lists.{view}
+use Rattle.code.specs.declared.Setting.{Setting}
+use Rattle.code.specs.Code.{distancesTo, Code}
+use Rattle.code.specs.Transmission.{sentSymbol}
+use Rattle.code.specs.Settings.{codeOf}
 use Rattle.code.specs.Level.{combination}
 
 -- What receiving byte v costs where symbol a of the field with q elements was sent: 2 where they differ. q is there for a byte that is none of the

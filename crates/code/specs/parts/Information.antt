@@ -1,18 +1,7 @@
 -- Sequences of information blocks. Holds: `BlocksBelow`, `only`.
-use mathlib.Core.Path.{_≡_}
-use mathlib.Core.List.{List}
-use Prim.Native.Nat.{ℕ, _+_, _<_}
+use Prim.Native.Nat.{ℕ, _<_}
 use lib.Dec.{eqb}
-use lib.ListN.{length, getD}
-use Rattle.algebra.specs.Ops.{sub, pick}
-use Rattle.algebra.specs.Weight.{total}
-use Rattle.field.specs.Fields.{opsOf}
-use Rattle.code.specs.declared.Setting.{Setting}
-use Rattle.code.specs.Code.{distancesTo}
-use Rattle.area.specs.Lists.{view}
-use Rattle.code.specs.Transmission.{sentSymbol}
-use Rattle.code.specs.Settings.{codeOf}
-use Rattle.code.specs.parts.Cost.{symbolCost, costTo, blockCost, rebuiltCost}
+use Rattle.algebra.specs.Ops.{pick}
 
 -- A sequence of information blocks has symbols below q.
 abbrev pub BlocksBelow : ℕ → (ℕ → ℕ → ℕ) → Type 0

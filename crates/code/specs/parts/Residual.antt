@@ -1,18 +1,13 @@
--- What is left of a reception once a message is taken out. Holds: `IsResidual`.
+-- The residual: what is left of a reception once a message's transmission is taken out (01, "Reading a reception"). Holds: `IsResidual`.
 use mathlib.Core.Path.{_≡_}
 use mathlib.Core.List.{List}
 use Prim.Native.Nat.{ℕ, _+_, _<_}
-use lib.Dec.{eqb}
-use lib.ListN.{length, getD}
-use Rattle.algebra.specs.Ops.{sub, pick}
-use Rattle.algebra.specs.Weight.{total}
+use Rattle.algebra.specs.Ops.{sub}
+use Rattle.area.specs.Lists.{view}
 use Rattle.field.specs.Fields.{opsOf}
 use Rattle.code.specs.declared.Setting.{Setting}
-use Rattle.code.specs.Code.{distancesTo}
-use Rattle.area.specs.Lists.{view}
 use Rattle.code.specs.Transmission.{sentSymbol}
 use Rattle.code.specs.Settings.{codeOf}
-use Rattle.code.specs.parts.Cost.{symbolCost, costTo, blockCost, rebuiltCost}
 
 -- The residual of a reception of T+m blocks for a message: the reception less the message's transmission.
 pub record IsResidual (p : Setting) (T : ℕ) (reception message residual : List ℕ) : Type 0 where

@@ -3,10 +3,10 @@ use mathlib.Core.Path.{_≡_, sym, ap, _∙_}
 use native.Mathlib.Omega.{arith}
 use denote.Ref.{now}
 use lib.ListN.{length}
+use borrow.Author.Needs.{needs}
 use Rattle.question.specs.Questions.{firstNo, displayQuestions}
 use Rattle.question.proofs.Questions.{WindowYes, display-yes}
 use Rattle.display.proofs.Display.{Window, window-yes, window-refused, window-shown}
-use borrow.Author.Needs.{needs}
 use Rattle.display.proofs.window.Statement.{statement}
 use Rattle.display.proofs.window.Tie as tie
 

@@ -5,12 +5,12 @@ use mathlib.Core.Bool.{Bool, true, false}
 use mathlib.Core.List.{List}
 use Prim.Native.Nat.{ℕ, _+_, _≤_, _<_}
 use lib.ListN.{getD}
+use Rattle.area.specs.Lists.{view}
+use Rattle.field.specs.parts.Sequences.{AllBelow}
 use Rattle.code.specs.declared.Setting.{Setting}
 use Rattle.code.specs.Code.{levelDistance, distancesTo}
-use Rattle.area.specs.Lists.{view}
 use Rattle.code.specs.parts.Information.{BlocksBelow}
 use Rattle.code.specs.parts.Cost.{levelCost, windowCost}
-use Rattle.field.specs.parts.Sequences.{AllBelow}
 
 -- Blocks 0 .. l of the window are near what y rebuilds: "in at most half of (d_0 + .. + d_l - 1), rounded down", symbols they differ, without the rounding.
 abbrev pub Near : Setting → List ℕ → ℕ → (ℕ → ℕ → ℕ) → Type 0

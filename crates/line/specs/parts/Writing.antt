@@ -2,7 +2,7 @@
 use mathlib.Core.Path.{_≡_}
 use mathlib.Core.List.{List, _++_}
 use Prim.Native.Nat.{ℕ, _≤_}
-use lib.ListN.{length, drop}
+use lib.ListN.{length}
 use Rattle.area.specs.Lists.{overwritten}
 use Rattle.field.specs.Symbols.{Symbols}
 use Rattle.question.specs.declared.Answer.{Answer}

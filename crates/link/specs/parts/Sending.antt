@@ -8,8 +8,8 @@ use Rattle.code.specs.declared.Setting.{Setting}
 use Rattle.code.specs.Windows.{transmission, Message}
 use Rattle.code.specs.parts.Residual.{IsResidual}
 use Rattle.tables.specs.parts.Rows.{Ready}
-use Rattle.frame.specs.parts.Frame.{FrameAreas}
 use Rattle.question.specs.Questions.{mostBlocks}
+use Rattle.frame.specs.parts.Frame.{FrameAreas}
 
 -- A message of T blocks, and the tables of its setting.
 pub record Sending (p : Setting) (products : Products) (rows message : List ℕ) (T : ℕ) : Type 0 where

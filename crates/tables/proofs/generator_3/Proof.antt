@@ -2,10 +2,10 @@
 use mathlib.Core.Path.{refl}
 use Rattle.algebra.specs.Sum.{power}
 use Rattle.algebra.specs.Polynomial.{timesRootAfter, fromRoots}
+use Rattle.area.specs.Lists.{tabulate}
 use Rattle.field.specs.Fields.{opsOf, eight}
 use Rattle.field.specs.Binary.{binary, timesBits, timesAlpha}
 use Rattle.code.specs.Generator.{points, generatorPolynomial, rowSymbol}
-use Rattle.area.specs.Lists.{tabulate}
 use Rattle.tables.specs.parts.Rows.{generatorOf}
 use Rattle.tables.proofs.generator_3.Statement.{statement}
 use Rattle.tables.proofs.generator_3.Tie as tie

@@ -4,10 +4,10 @@ use mathlib.Core.Path.{_≡_}
 use mathlib.Core.List.{List, []}
 use Prim.Native.Nat.{ℕ, _+_, _*_, _≤_, _<_}
 use lib.ListN.{length, getD}
-use Rattle.code.specs.declared.Setting.{Setting}
-use Rattle.code.specs.Generator.{rowSymbol}
 use Rattle.area.specs.Lists.{tabulate}
 use Rattle.field.specs.parts.Products.{Products, ProductsOf}
+use Rattle.code.specs.declared.Setting.{Setting}
+use Rattle.code.specs.Generator.{rowSymbol}
 use Rattle.code.specs.Settings.{settings, codeOf, largest}
 use Rattle.code.specs.parts.Sound.{Sound}
 

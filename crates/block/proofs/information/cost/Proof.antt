@@ -5,16 +5,16 @@ use mathlib.Core.List.{List}
 use native.Mathlib.Omega.{arith}
 use denote.Ref.{now}
 use Rattle.algebra.specs.Weight.{total}
-use Rattle.code.specs.declared.Setting.{Setting}
+use Rattle.algebra.proofs.Weights.{total-none, total-same, total-more}
 use Rattle.area.specs.Lists.{view}
+use Rattle.field.specs.parts.Sequences.{at}
+use Rattle.field.proofs.Symbols.{all-symbols}
+use Rattle.code.specs.declared.Setting.{Setting}
 use Rattle.code.specs.Level.{combination}
 use Rattle.code.specs.parts.Cost.{symbolCost, blockCost}
 use Rattle.code.specs.Settings.{codeOf}
 use Rattle.code.proofs.Settings.{sizes}
 use Rattle.code.proofs.Cost.{cost-same, cost-differ}
-use Rattle.field.specs.parts.Sequences.{at}
-use Rattle.algebra.proofs.Weights.{total-none, total-same, total-more}
-use Rattle.field.proofs.Symbols.{all-symbols}
 use Rattle.block.proofs.information.cost.Statement.{statement}
 use Rattle.block.proofs.information.cost.Tie as tie
 

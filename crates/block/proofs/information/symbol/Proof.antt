@@ -1,10 +1,10 @@
 -- `block::information::symbol` meets its contract: what its parts return makes up what is lacking.
 use Prim.Native.Nat.{_+_, _-_}
 use native.Mathlib.Omega.{arith}
-use Rattle.code.proofs.Settings.{information-fits}
-use Rattle.field.proofs.Symbols.{all-symbols}
-use Rattle.block.proofs.InformationRead.{is-lacking}
 use borrow.Author.Needs.{needs}
+use Rattle.field.proofs.Symbols.{all-symbols}
+use Rattle.code.proofs.Settings.{information-fits}
+use Rattle.block.proofs.InformationRead.{is-lacking}
 use Rattle.block.proofs.information.symbol.Statement.{statement}
 use Rattle.block.proofs.information.symbol.Tie as tie
 

@@ -9,12 +9,12 @@ use Rattle.block.proofs.locator.locate.Statement.{statement}
 use Rattle.block.proofs.locator.locate.Tie as tie
 
 abbrev Inv-loop : tie.InvT-loop
-Inv-loop q products series known locator₀ former₀ spare₀ progress₀ next₀ locator former spare state next =
+Inv-loop q products series known locator₀ former₀ spare₀ state₀ next₀ locator former spare state next =
     (0 < next) × (next ≤ known) × (length locator ≡ length series) × (length former ≡ length series) × (length spare ≡ length series)
     × LocatorPair q series (next - 1) (state .degree) (state .place) (state .scale) locator former
 
 abbrev μ-loop : tie.MeasureT-loop
-μ-loop q products series known locator₀ former₀ spare₀ progress₀ next₀ locator former spare state next = known - next
+μ-loop q products series known locator₀ former₀ spare₀ state₀ next₀ locator former spare state next = known - next
 
 unit-requires : tie.Need-unit-requires Inv-loop μ-loop
 unit-requires c κs = let p = c .before .before .before .before .before .pre in omega (arith, p .4, p .5, p .6)

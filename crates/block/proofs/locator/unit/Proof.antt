@@ -5,9 +5,9 @@ use Prim.Native.Nat.{ℕ, _<_}
 use native.Mathlib.Omega.{arith}
 use lib.ListN.{set, replicate, length-replicate}
 use lib.Seq.{getD-set-same, getD-set-other}
+use borrow.Author.Needs.{needs}
 use Rattle.area.proofs.Lists.{getD-zeros}
 use Rattle.block.specs.parts.LocatorAreas.{Unit}
-use borrow.Author.Needs.{needs}
 use Rattle.block.proofs.locator.unit.Statement.{statement}
 use Rattle.block.proofs.locator.unit.Tie as tie
 

@@ -6,8 +6,8 @@ use lib.ListN.{length, length-set}
 use Rattle.algebra.specs.Sum.{power}
 use Rattle.field.specs.Fields.{opsOf, alpha}
 use Rattle.field.specs.Symbols.{Is}
-use Rattle.block.specs.parts.Spectrum.{SpectrumOf}
 use Rattle.field.proofs.Sums.{alpha-below}
+use Rattle.block.specs.parts.Spectrum.{SpectrumOf}
 use Rattle.block.proofs.Spectra.{point-more, spectrum-more}
 use Rattle.block.proofs.spectrum.add_values.Statement.{statement}
 use Rattle.block.proofs.spectrum.add_values.Tie as tie

@@ -5,12 +5,12 @@ use native.Mathlib.Omega.{arith}
 use borrow.Author.Needs.{needs}
 use denote.Ref.{now}
 use lib.ListN.{length}
-use Rattle.code.proofs.Settings.{sizes}
+use Rattle.area.proofs.Parts.{part-length}
 use Rattle.field.specs.Fields.{opsOf}
 use Rattle.field.proofs.Symbols.{symbol-below, symbols-part}
 use Rattle.code.specs.Windows.{windowLength}
+use Rattle.code.proofs.Settings.{sizes}
 use Rattle.code.proofs.CodeBelow.{laws, positive}
-use Rattle.area.proofs.Parts.{part-length}
 use Rattle.frame.proofs.Guesses.{window-room, symbol-room, adjusted}
 use Rattle.frame.proofs.guess.adjust.Statement.{statement}
 use Rattle.frame.proofs.guess.adjust.Tie as tie

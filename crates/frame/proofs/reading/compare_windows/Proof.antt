@@ -7,10 +7,10 @@ use native.Mathlib.Omega.{arith}
 use native.Mathlib.Decide.{decLt}
 use denote.Ref.{now}
 use lib.ListN.{length, take, drop}
-use Rattle.code.proofs.Settings.{sizes}
+use Rattle.area.proofs.Parts.{part-size}
 use Rattle.code.specs.Windows.{windowLength}
 use Rattle.code.specs.parts.Cost.{zeroCost}
-use Rattle.area.proofs.Parts.{part-size}
+use Rattle.code.proofs.Settings.{sizes}
 use Rattle.frame.specs.parts.Frame.{all-near, one-far}
 use Rattle.frame.proofs.reading.compare_windows.Statement.{statement}
 use Rattle.frame.proofs.reading.compare_windows.Tie as tie

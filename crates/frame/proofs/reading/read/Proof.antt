@@ -1,11 +1,11 @@
 -- `frame::reading::read`: the windows in turn, then the last comparison.
 use native.Mathlib.Omega.{arith}
 use denote.Ref.{now}
+use borrow.Author.Needs.{needs}
 use Rattle.frame.specs.parts.Frame.{none}
 use Rattle.frame.proofs.Settled.{begin}
 use Rattle.frame.proofs.Advance.{advance-more, stopped-none}
 use Rattle.frame.proofs.Ends.{frame-compared}
-use borrow.Author.Needs.{needs}
 use Rattle.frame.proofs.reading.read.Statement.{statement}
 use Rattle.frame.proofs.reading.read.Tie as tie
 

@@ -3,14 +3,13 @@ use Prim.Native.Nat.{_+_, _*_, _≤_}
 use native.Mathlib.Omega.{arith}
 use denote.Ref.{now}
 use lib.ListN.{length}
+use borrow.Author.Needs.{needs}
+use Rattle.area.proofs.Parts.{part-length}
 use Rattle.field.proofs.Symbols.{symbols-part}
 use Rattle.code.specs.Windows.{windowLength}
 use Rattle.code.proofs.Settings.{sizes}
-use Rattle.area.proofs.Parts.{part-length}
 use Rattle.frame.proofs.Guesses.{window-room}
-use Rattle.frame.proofs.Advance.{search-below, search-few}
-use Rattle.frame.proofs.Advance.{advance-clean, advance-none, advance-found}
-use borrow.Author.Needs.{needs}
+use Rattle.frame.proofs.Advance.{search-below, search-few, advance-clean, advance-none, advance-found}
 use Rattle.frame.proofs.reading.settle.Statement.{statement}
 use Rattle.frame.proofs.reading.settle.Tie as tie
 

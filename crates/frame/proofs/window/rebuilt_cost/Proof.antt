@@ -6,11 +6,11 @@ use native.Mathlib.Omega.{arith}
 use denote.Ref.{now}
 use lib.ListN.{length, take, drop}
 use Rattle.algebra.specs.Weight.{total}
+use Rattle.algebra.proofs.Weights.{total-none, total-more}
 use Rattle.area.specs.Lists.{view}
-use Rattle.code.proofs.Settings.{sizes}
 use Rattle.area.proofs.Parts.{part-length}
 use Rattle.field.specs.parts.Sequences.{at}
-use Rattle.algebra.proofs.Weights.{total-none, total-more}
+use Rattle.code.proofs.Settings.{sizes}
 use Rattle.frame.proofs.RebuiltCost.{rebuilt-term, rebuilt-all, part-cost, block-most}
 use Rattle.frame.proofs.window.rebuilt_cost.Statement.{statement}
 use Rattle.frame.proofs.window.rebuilt_cost.Tie as tie

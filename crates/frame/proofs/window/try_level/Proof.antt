@@ -4,11 +4,11 @@ use native.Mathlib.Nat.{mul-le-mul-right}
 use native.Mathlib.Omega.{arith}
 use denote.Ref.{now}
 use lib.ListN.{length}
+use borrow.Author.Needs.{needs}
+use Rattle.area.proofs.Parts.{part-length}
 use Rattle.field.proofs.Symbols.{symbols-part}
 use Rattle.code.proofs.Settings.{level-fits}
-use Rattle.area.proofs.Parts.{part-length}
 use Rattle.frame.proofs.LevelTried.{step-below, tried-far, tried-refused, tried-serves}
-use borrow.Author.Needs.{needs}
 use Rattle.frame.proofs.window.try_level.Statement.{statement}
 use Rattle.frame.proofs.window.try_level.Tie as tie
 

@@ -5,9 +5,9 @@ use native.Mathlib.Omega.{arith}
 use borrow.Author.Needs.{needs}
 use denote.Ref.{now}
 use lib.ListN.{length}
-use Rattle.code.proofs.Cost.{cost-count}
-use Rattle.field.specs.parts.Sequences.{at}
 use Rattle.algebra.proofs.Weights.{distance-le}
+use Rattle.field.specs.parts.Sequences.{at}
+use Rattle.code.proofs.Cost.{cost-count}
 use Rattle.frame.proofs.window.zero_cost.Statement.{statement}
 use Rattle.frame.proofs.window.zero_cost.Tie as tie
 

@@ -4,9 +4,9 @@ use Prim.Native.Nat.{_<_}
 use native.Mathlib.Omega.{arith}
 use denote.Ref.{now}
 use lib.ListN.{length}
+use borrow.Author.Needs.{needs}
 use Rattle.line.specs.Answering.{refusal}
 use Rattle.line.proofs.Placed.{placed-none, shown-whole, shown-none, two, six}
-use borrow.Author.Needs.{needs}
 use Rattle.line.proofs.writing.write_refusal.Statement.{statement}
 use Rattle.line.proofs.writing.write_refusal.Tie as tie
 

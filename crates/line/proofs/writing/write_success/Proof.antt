@@ -3,9 +3,9 @@ use Prim.Native.Nat.{_<_}
 use native.Mathlib.Omega.{arith}
 use denote.Ref.{now}
 use lib.ListN.{length}
+use borrow.Author.Needs.{needs}
 use Rattle.line.specs.Answering.{success}
 use Rattle.line.proofs.Placed.{shown-success, shown-none, success-long}
-use borrow.Author.Needs.{needs}
 use Rattle.line.proofs.writing.write_success.Statement.{statement}
 use Rattle.line.proofs.writing.write_success.Tie as tie
 

@@ -3,12 +3,12 @@ use mathlib.Core.Path.{sym, subst}
 use Prim.Native.Nat.{_+_, _≤_}
 use native.Mathlib.Omega.{arith}
 use lib.Seq.{length-take-le}
+use borrow.Author.Needs.{needs}
 use Rattle.code.specs.declared.Setting.{Setting}
 use Rattle.code.specs.parts.Sound.{Sound}
 use Rattle.code.proofs.Settings.{soundOf, sizes}
 use Rattle.tables.specs.parts.Rows.{rowsLength, mostRows, longestBlock}
 use Rattle.tables.proofs.Lending.{readyOf}
-use borrow.Author.Needs.{needs}
 use Rattle.link.proofs.decode.decode_frame.Statement.{statement}
 use Rattle.link.proofs.decode.decode_frame.Tie as tie
 

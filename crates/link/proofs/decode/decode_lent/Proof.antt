@@ -3,12 +3,12 @@ use mathlib.Core.Path.{ap, _∙_}
 use Prim.Native.Nat.{ℕ}
 use native.Mathlib.Omega.{arith}
 use lib.ListN.{length, replicate}
-use Rattle.code.proofs.Settings.{sizes}
-use Rattle.field.specs.parts.Sequences.{at}
+use borrow.Author.Needs.{needs}
 use Rattle.algebra.proofs.Weights.{distance-le}
+use Rattle.field.specs.parts.Sequences.{at}
+use Rattle.code.proofs.Settings.{sizes}
 use Rattle.question.proofs.Questions.{transmission-small}
 use Rattle.link.proofs.Decoding.{residual-symbols, residual-long, frame-decoded-none, frame-decoded-found}
-use borrow.Author.Needs.{needs}
 use Rattle.link.proofs.decode.decode_lent.Statement.{statement}
 use Rattle.link.proofs.decode.decode_lent.Tie as tie
 

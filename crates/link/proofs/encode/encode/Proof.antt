@@ -5,6 +5,7 @@ use native.Mathlib.Omega.{arith}
 use denote.Ref.{now}
 use lib.ListN.{length}
 use lib.Seq.{length-take-le}
+use borrow.Author.Needs.{needs}
 use Rattle.code.specs.declared.Setting.{Setting}
 use Rattle.code.specs.Windows.{Message}
 use Rattle.code.proofs.Settings.{sizesOf}
@@ -12,7 +13,6 @@ use Rattle.tables.proofs.Lending.{narrowOf}
 use Rattle.question.specs.Questions.{mostBlocks}
 use Rattle.question.proofs.Questions.{EncodingYes, encoding-yes}
 use Rattle.link.proofs.Encoding.{encoded-refused, encoded-sent}
-use borrow.Author.Needs.{needs}
 use Rattle.link.proofs.encode.encode.Statement.{statement}
 use Rattle.link.proofs.encode.encode.Tie as tie
 

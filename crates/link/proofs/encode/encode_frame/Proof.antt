@@ -2,12 +2,12 @@
 use native.Mathlib.Omega.{arith}
 use mathlib.Core.Path.{sym, subst}
 use Prim.Native.Nat.{_≤_}
+use borrow.Author.Needs.{needs}
 use Rattle.code.specs.declared.Setting.{Setting}
 use Rattle.code.specs.parts.Sound.{Sound}
 use Rattle.code.proofs.Settings.{soundOf}
 use Rattle.tables.specs.parts.Rows.{rowsLength, mostRows}
 use Rattle.tables.proofs.Lending.{readyOf}
-use borrow.Author.Needs.{needs}
 use Rattle.link.proofs.encode.encode_frame.Statement.{statement}
 use Rattle.link.proofs.encode.encode_frame.Tie as tie
 

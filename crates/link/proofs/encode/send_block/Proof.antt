@@ -5,11 +5,11 @@ use native.Mathlib.Nat.{mul-le-mul-right}
 use native.Mathlib.Omega.{arith}
 use denote.Ref.{now}
 use lib.ListN.{length}
-use Rattle.code.proofs.Settings.{sizes}
+use Rattle.area.proofs.Parts.{part-length}
 use Rattle.field.proofs.Symbols.{symbols-part}
 use Rattle.code.specs.Windows.{windowLength}
+use Rattle.code.proofs.Settings.{sizes}
 use Rattle.code.proofs.CodeBelow.{message-below}
-use Rattle.area.proofs.Parts.{part-length}
 use Rattle.frame.proofs.Guesses.{window-room}
 use Rattle.link.specs.parts.Sending.{SentTo}
 use Rattle.link.proofs.Sending.{sent-more}

@@ -6,8 +6,8 @@ use native.Mathlib.Omega.{arith}
 use borrow.Author.Needs.{needs}
 use denote.Ref.{now}
 use lib.ListN.{length}
-use Rattle.code.proofs.Settings.{block-positive}
 use Rattle.area.proofs.Parts.{part-length}
+use Rattle.code.proofs.Settings.{block-positive}
 use Rattle.tables.proofs.RowsAdded.{row-room, row-symbols, row-added}
 use Rattle.tables.proofs.combine.add_row.Statement.{statement}
 use Rattle.tables.proofs.combine.add_row.Tie as tie

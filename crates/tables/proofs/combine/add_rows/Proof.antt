@@ -5,10 +5,10 @@ use native.Mathlib.Omega.{arith}
 use native.Mathlib.Nat.{mul-le-mul-right}
 use denote.Ref.{now}
 use lib.ListN.{length}
+use Rattle.area.proofs.Parts.{part-length}
 use Rattle.field.proofs.Symbols.{symbols-part}
 use Rattle.code.proofs.Settings.{sizes}
 use Rattle.tables.specs.parts.RowsAdded.{RowsAdded}
-use Rattle.area.proofs.Parts.{part-length}
 use Rattle.tables.proofs.RowsAdded.{rows-none, rows-more}
 use Rattle.tables.proofs.combine.add_rows.Statement.{statement}
 use Rattle.tables.proofs.combine.add_rows.Tie as tie
