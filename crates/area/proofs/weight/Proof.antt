@@ -27,25 +27,10 @@ abbrev μ-loop : tie.MeasureT-loop
 loop-holds : tie.Need-loop-holds Inv-loop μ-loop
 loop-holds c = (omega arith, omega arith, total-none (nonzero (now (c .args .symbols))))
 
-shared-slice-read-symbol : tie.Need-shared-slice-read-symbol Inv-loop μ-loop
-shared-slice-read-symbol c = omega arith
-
-add-i : tie.Need-add-i Inv-loop μ-loop
-add-i c = omega arith
-
-loop-less : tie.Need-loop-less Inv-loop μ-loop
-loop-less c = omega arith
-
 loop-again : tie.Need-loop-again Inv-loop μ-loop
 loop-again c =
     let l = c .before .before .before .loop in
     (omega arith, omega arith, l .inv .2 ∙ total-same (nonzero (now (c .before .before .before .before .args .symbols))) (l .i) (ap (λ (t : Bool). pick (not t) 1 0) (eq-eqb _ _ (c .if1 .taken))))
-
-add-count : tie.Need-add-count Inv-loop μ-loop
-add-count c = omega arith
-
-loop-less-2 : tie.Need-loop-less-2 Inv-loop μ-loop
-loop-less-2 c = omega arith
 
 loop-again-2 : tie.Need-loop-again-2 Inv-loop μ-loop
 loop-again-2 c =
@@ -64,11 +49,11 @@ weight-spec =
     Inv-loop
     μ-loop
     loop-holds
-    shared-slice-read-symbol
-    add-i
-    loop-less
+    (λ c. omega arith)
+    (λ c. omega arith)
+    (λ c. omega arith)
     loop-again
-    add-count
-    loop-less-2
+    (λ c. omega arith)
+    (λ c. omega arith)
     loop-again-2
     returns)

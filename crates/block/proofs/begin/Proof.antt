@@ -16,17 +16,11 @@ mul-syndromes c = let entry = c .before .before .before .before .before .before 
 sub-syndromes : tie.Need-sub-syndromes
 sub-syndromes c = let entry = c .before .before .before .before .before .before .before in level-fits (entry .args .p) (entry .pre .0) (entry .args .l) (entry .pre .3)
 
-unit-requires : tie.Need-unit-requires
-unit-requires c κs = search needs
-
 add-values-requires : tie.Need-add-values-requires
 add-values-requires c κs =
     let entry = c .before .before .before .before .before .before .before .before .before .before .before .before in
     let good = entry .pre .0 .good in
     (good, entry .pre .1, entry .pre .2, omega arith, omega (arith, c .before .before .before .unit .kept .0, entry .pre .4 .series-long), point-none _ good, spectrum-none _ _ _ good (c .before .before .before .unit .ensures))
-
-add-locate : tie.Need-add-locate
-add-locate c = search needs
 
 locate-requires : tie.Need-locate-requires
 locate-requires c κs =
@@ -57,9 +51,9 @@ begin-spec =
     add-syndromes
     mul-syndromes
     sub-syndromes
-    unit-requires
+    (λ c κs. search needs)
     add-values-requires
-    add-locate
+    (search needs)
     locate-requires
     (λ c. omega arith) (λ c. omega arith) (λ c. omega arith) (λ c. omega arith)
     returns)

@@ -15,9 +15,6 @@ mul-count c = let entry = c .before .before .before .before .before .before .bef
 sub-syndromes : tie.Need-sub-syndromes
 sub-syndromes c = let entry = c .before .before .before .before .before .before .before in level-fits (entry .args .p) (entry .pre .0 .sound) (entry .args .l) (entry .pre .2)
 
-add-values-requires : tie.Need-add-values-requires
-add-values-requires c κs = search needs
-
 extend-requires : tie.Need-extend-requires
 extend-requires c κs =
     let entry = c .before .before .before .before .before .before .before .before .before .before .before .before .before in
@@ -56,7 +53,7 @@ read-candidate-spec =
     add-blocks
     mul-count
     sub-syndromes
-    add-values-requires
+    (λ c κs. search needs)
     extend-requires
     read-requires
     (λ c. omega arith) (λ c. omega arith) (λ c. omega arith)

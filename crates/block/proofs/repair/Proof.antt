@@ -17,12 +17,6 @@ mul-distance c = let entry = c .before .before .before .before .before .before .
 sub-distance : tie.Need-sub-distance
 sub-distance c = let entry = c .before .before .before .before .before .before .before .before in level-fits (entry .args .p) (entry .pre .0 .sound) (entry .args .l) (entry .pre .3)
 
-add-distance-2 : tie.Need-add-distance-2
-add-distance-2 c = search needs
-
-begin-requires : tie.Need-begin-requires
-begin-requires c κs = search needs
-
 mul-if1 : tie.Need-mul-if1
 mul-if1 c =
     let entry = c .before .before .before .before .before .before .before .before .before .before .before .before .before .before .before .before .before .before .before .before .before .before in
@@ -69,8 +63,8 @@ repair-spec =
     add-distance
     mul-distance
     sub-distance
-    add-distance-2
-    begin-requires
+    (search needs)
+    (λ c κs. search needs)
     mul-if1
     (λ c. omega arith) (λ c. omega arith) (λ c. omega arith) (λ c. omega arith)
     returns

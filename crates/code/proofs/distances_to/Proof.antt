@@ -46,9 +46,6 @@ add-sum-3 c =
 add-i : tie.Need-add-i Inv-loop μ-loop
 add-i c = let entry = c .before .before in omega (arith, sizes (entry .args .p) (entry .pre .0) .memory-most, entry .pre .1)
 
-loop-less : tie.Need-loop-less Inv-loop μ-loop
-loop-less c = omega arith
-
 loop-again : tie.Need-loop-again Inv-loop μ-loop
 loop-again c =
     let entry = c .before .before in
@@ -79,6 +76,6 @@ distances-to-spec =
     add-sum-2
     add-sum-3
     add-i
-    loop-less
+    (λ c. omega arith)
     loop-again
     returns)

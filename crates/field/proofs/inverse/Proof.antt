@@ -20,14 +20,8 @@ abbrev μ-loop : tie.MeasureT-loop
 loop-holds : tie.Need-loop-holds Inv-loop μ-loop
 loop-holds c = (le-refl _, inverse-start _ _ (c .pre .0) (c .pre .2))
 
-sub-b : tie.Need-sub-b Inv-loop μ-loop
-sub-b c = omega arith
-
 cast-candidate : tie.Need-cast-candidate Inv-loop μ-loop
 cast-candidate c = omega (arith, good-small _ (c .before .before .pre .0))
-
-multiply-requires : tie.Need-multiply-requires Inv-loop μ-loop
-multiply-requires c κs = search needs
 
 returns : tie.Need-returns Inv-loop μ-loop
 returns c =
@@ -36,9 +30,6 @@ returns c =
     let positive : 0 < l .b = omega arith in
     is-inverse _ _ (p .0) (p .2) _
     (sym (l .inv .1 ∙ inverse-here _ _ _ positive (sym (c .before .multiply .ensures .same) ∙ c .if1 .taken)))
-
-loop-less : tie.Need-loop-less Inv-loop μ-loop
-loop-less c = omega arith
 
 loop-again : tie.Need-loop-again Inv-loop μ-loop
 loop-again c =
@@ -60,10 +51,10 @@ inverse-spec =
     Inv-loop
     μ-loop
     loop-holds
-    sub-b
+    (λ c. omega arith)
     cast-candidate
-    multiply-requires
+    (λ c κs. search needs)
     returns
-    loop-less
+    (λ c. omega arith)
     loop-again
     returns-2)

@@ -19,20 +19,8 @@ abbrev μ-loop : tie.MeasureT-loop
 loop-holds : tie.Need-loop-holds Inv-loop μ-loop
 loop-holds c = (omega arith, refl, paste-zero (now (c .args .area)) (c .args .at) (now (c .args .row)))
 
-shared-slice-read-area : tie.Need-shared-slice-read-area Inv-loop μ-loop
-shared-slice-read-area c = omega arith
-
-add-area : tie.Need-add-area Inv-loop μ-loop
-add-area c = omega arith
-
 slice-write-area : tie.Need-slice-write-area Inv-loop μ-loop
 slice-write-area c = omega (arith, c .before .before .loop .inv .1)
-
-add-i : tie.Need-add-i Inv-loop μ-loop
-add-i c = omega arith
-
-loop-less : tie.Need-loop-less Inv-loop μ-loop
-loop-less c = omega arith
 
 loop-again : tie.Need-loop-again Inv-loop μ-loop
 loop-again c =
@@ -57,11 +45,11 @@ lay-row-spec =
     Inv-loop
     μ-loop
     loop-holds
-    shared-slice-read-area
-    add-area
+    (λ c. omega arith)
+    (λ c. omega arith)
     slice-write-area
-    add-i
-    loop-less
+    (λ c. omega arith)
+    (λ c. omega arith)
     loop-again
     (omega arith)
     returns)

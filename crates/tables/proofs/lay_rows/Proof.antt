@@ -80,9 +80,6 @@ lay-generator-row-requires c κs =
 add-a : tie.Need-add-a Inv-loop μ-loop
 add-a c = omega (arith, few (c .before .before .before .before .before .before .before))
 
-loop-less : tie.Need-loop-less Inv-loop μ-loop
-loop-less c = omega arith
-
 loop-again : tie.Need-loop-again Inv-loop μ-loop
 loop-again c =
     let turn = c .before .before .before .before in
@@ -123,7 +120,7 @@ lay-rows-spec =
     mul-lay-generator-row
     lay-generator-row-requires
     add-a
-    loop-less
+    (λ c. omega arith)
     loop-again
     (omega arith)
     returns)

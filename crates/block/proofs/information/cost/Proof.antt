@@ -34,15 +34,6 @@ loop-holds c = let a = c .before .before .before .args in (omega arith, omega ar
 combination-requires : tie.Need-combination-requires Inv-loop μ-loop
 combination-requires c κs = let p = c .before .before .before .before .before .pre in (p .0, all-symbols (p .1), p .2, p .3, omega arith)
 
-shared-slice-read-received : tie.Need-shared-slice-read-received Inv-loop μ-loop
-shared-slice-read-received c = omega arith
-
-add-i : tie.Need-add-i Inv-loop μ-loop
-add-i c = omega arith
-
-loop-less : tie.Need-loop-less Inv-loop μ-loop
-loop-less c = omega arith
-
 loop-again : tie.Need-loop-again Inv-loop μ-loop
 loop-again c =
     let l = c .before .before .before .before .loop in
@@ -51,9 +42,6 @@ loop-again c =
 
 add-cost : tie.Need-add-cost Inv-loop μ-loop
 add-cost c = let entry = c .before .before .before .before .before .before .before .before in omega (arith, sizes (entry .args .p) (entry .pre .0 .sound) .symbols-most)
-
-loop-less-2 : tie.Need-loop-less-2 Inv-loop μ-loop
-loop-less-2 c = omega arith
 
 loop-again-2 : tie.Need-loop-again-2 Inv-loop μ-loop
 loop-again-2 c =
@@ -80,11 +68,11 @@ cost-spec =
     μ-loop
     loop-holds
     combination-requires
-    shared-slice-read-received
-    add-i
-    loop-less
+    (λ c. omega arith)
+    (λ c. omega arith)
+    (λ c. omega arith)
     loop-again
     add-cost
-    loop-less-2
+    (λ c. omega arith)
     loop-again-2
     returns)

@@ -19,12 +19,6 @@ abbrev μ-loop : tie.MeasureT-loop
 loop-holds : tie.Need-loop-holds Inv-loop μ-loop
 loop-holds c = (omega arith, falling-none _ (c .before .pre .0) _ _)
 
-add-add : tie.Need-add-add Inv-loop μ-loop
-add-add c = omega arith
-
-shared-slice-read-add : tie.Need-shared-slice-read-add Inv-loop μ-loop
-shared-slice-read-add c = omega arith
-
 add-requires : tie.Need-add-requires Inv-loop μ-loop
 add-requires c κs =
     let p = c .before .before .before .before .pre in
@@ -34,12 +28,6 @@ add-requires c κs =
 
 multiply-requires : tie.Need-multiply-requires Inv-loop μ-loop
 multiply-requires c κs = let p = c .before .before .before .before .before .pre in (p .0, p .1, c .add .ensures .below, p .4)
-
-add-e : tie.Need-add-e Inv-loop μ-loop
-add-e c = omega arith
-
-loop-less : tie.Need-loop-less Inv-loop μ-loop
-loop-less c = omega arith
 
 loop-again : tie.Need-loop-again Inv-loop μ-loop
 loop-again c =
@@ -60,11 +48,11 @@ falling-spec =
     Inv-loop
     μ-loop
     loop-holds
-    add-add
-    shared-slice-read-add
+    (λ c. omega arith)
+    (λ c. omega arith)
     add-requires
     multiply-requires
-    add-e
-    loop-less
+    (λ c. omega arith)
+    (λ c. omega arith)
     loop-again
     returns)

@@ -21,9 +21,6 @@ abbrev μ-loop : tie.MeasureT-loop
 inverse-requires : tie.Need-inverse-requires Inv-loop μ-loop
 inverse-requires c κs = let ready = c .before .before .before .pre .0 in (ready .sound .good, ready .products, alpha-below _ (ready .sound .good))
 
-clear-requires : tie.Need-clear-requires Inv-loop μ-loop
-clear-requires c κs = search needs
-
 loop-holds : tie.Need-loop-holds Inv-loop μ-loop
 loop-holds c =
     let entry = c .before .before .before .before .before .before .before .before in
@@ -49,12 +46,6 @@ read-block-requires c κs =
       c .before .before .before .before .before .before .before .inverse .ensures,
     )
 
-add-b : tie.Need-add-b Inv-loop μ-loop
-add-b c = omega arith
-
-loop-less : tie.Need-loop-less Inv-loop μ-loop
-loop-less c = omega arith
-
 loop-again : tie.Need-loop-again Inv-loop μ-loop
 loop-again c =
     let p = c .before .before .before .before .before .before .before .before .before .before .before .before .before .before .pre in
@@ -77,12 +68,12 @@ read-spec =
     Inv-loop
     μ-loop
     inverse-requires
-    clear-requires
+    (λ c κs. search needs)
     loop-holds
     mul-read-block
     read-block-requires
-    add-b
-    loop-less
+    (λ c. omega arith)
+    (λ c. omega arith)
     loop-again
     same-length
     returns)

@@ -21,9 +21,6 @@ abbrev μ-loop : tie.MeasureT-loop
 loop-holds : tie.Need-loop-holds Inv-loop μ-loop
 loop-holds c = let p = c .before .before .before .pre in (omega arith, refl, back-none _ (p .0 .sound .good), block-none _ (p .0 .sound) _ (p .1) _ _ (p .3))
 
-add-j : tie.Need-add-j Inv-loop μ-loop
-add-j c = omega arith
-
 multiply-requires : tie.Need-multiply-requires Inv-loop μ-loop
 multiply-requires c κs =
     let p = c .before .before .before .before .before .pre in
@@ -35,17 +32,8 @@ symbol-requires c κs =
     let l = c .before .before .before .loop in
     (p .0, p .1, p .2, l .inv .3 .below, omega (arith, l .inv .1, p .4), c .before .multiply .ensures .below, omega arith, omega arith)
 
-sub-information : tie.Need-sub-information Inv-loop μ-loop
-sub-information c = omega arith
-
-add-information : tie.Need-add-information Inv-loop μ-loop
-add-information c = omega arith
-
 slice-write-information : tie.Need-slice-write-information Inv-loop μ-loop
 slice-write-information c = omega (arith, c .before .before .before .before .loop .inv .1)
-
-loop-less : tie.Need-loop-less Inv-loop μ-loop
-loop-less c = omega arith
 
 loop-again : tie.Need-loop-again Inv-loop μ-loop
 loop-again c =
@@ -67,13 +55,13 @@ read-block-spec =
     Inv-loop
     μ-loop
     loop-holds
-    add-j
+    (λ c. omega arith)
     multiply-requires
     symbol-requires
-    sub-information
-    add-information
+    (λ c. omega arith)
+    (λ c. omega arith)
     slice-write-information
-    loop-less
+    (λ c. omega arith)
     loop-again
     (omega arith)
     returns)

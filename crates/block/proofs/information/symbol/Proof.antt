@@ -8,31 +8,10 @@ use Rattle.block.proofs.InformationRead.{is-lacking}
 use Rattle.block.proofs.information.symbol.Statement.{statement}
 use Rattle.block.proofs.information.symbol.Tie as tie
 
-falling-requires : tie.Need-falling-requires
-falling-requires c κs = search needs
-
-negate-requires : tie.Need-negate-requires
-negate-requires c κs = search needs
-
-sub-times-g : tie.Need-sub-times-g
-sub-times-g c = search needs
-
 times-g-requires : tie.Need-times-g-requires
 times-g-requires c κs =
     let p = c .before .before .before .before .before .before .pre in
     (p .0, all-symbols (p .3), p .4, omega arith, omega (arith, information-fits _ (p .0 .sound)))
-
-subtract-requires : tie.Need-subtract-requires
-subtract-requires c κs = search needs
-
-sub-add : tie.Need-sub-add
-sub-add c = search needs
-
-add-add : tie.Need-add-add
-add-add c = search needs
-
-shared-slice-read-add : tie.Need-shared-slice-read-add
-shared-slice-read-add c = search needs
 
 add-requires : tie.Need-add-requires
 add-requires c κs =
@@ -51,13 +30,13 @@ pub symbol-spec : {M : Type 1} → statement M
 symbol-spec =
     tie.close
     (tie.spec
-    falling-requires
-    negate-requires
-    sub-times-g
+    (λ c κs. search needs)
+    (λ c κs. search needs)
+    (search needs)
     times-g-requires
-    subtract-requires
-    sub-add
-    add-add
-    shared-slice-read-add
+    (λ c κs. search needs)
+    (search needs)
+    (search needs)
+    (search needs)
     add-requires
     returns)

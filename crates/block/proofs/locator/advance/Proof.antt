@@ -17,9 +17,6 @@ tail-requires c κs =
     let up-to : entry .args .state .degree ≤ entry .args .next - 1 = omega (arith, located .grown, located .placed) in
     (entry .pre .0, entry .pre .1, entry .pre .8 .locator-below, omega (arith, entry .pre .5), entry .pre .2, omega arith, entry .pre .4)
 
-shared-slice-read-add : tie.Need-shared-slice-read-add
-shared-slice-read-add c = search needs
-
 add-requires : tie.Need-add-requires
 add-requires c κs = let entry = c .before .before .before .before .before .before .before in (entry .pre .0, entry .pre .2 (entry .args .next), c .before .tail .ensures .below)
 
@@ -28,21 +25,6 @@ returns c =
     let entry = c .before .before .before .before .before .before .before .before .before in
     let step : suc (entry .args .next - 1) ≡ entry .args .next = omega arith in
     pair-kept _ (entry .pre .0) step (entry .pre .2) (entry .pre .8) (c .before .before .before .tail .ensures) (c .before .add .ensures) (c .if1 .taken)
-
-multiply-requires : tie.Need-multiply-requires
-multiply-requires c κs = search needs
-
-sub-shift : tie.Need-sub-shift
-sub-shift c = search needs
-
-sub-count : tie.Need-sub-count
-sub-count c = search needs
-
-add-count : tie.Need-add-count
-add-count c = search needs
-
-add-if2 : tie.Need-add-if2
-add-if2 c = search needs
 
 -- The former locator, moved up to the place, lies within the locator.
 room : (c : tie.Start) → c .args .next - c .args .state .place + (c .args .state .place - c .args .state .degree + 1) ≤ length (now (c .args .series))
@@ -74,12 +56,6 @@ exchange-requires c κs =
       omega (arith, entry .pre .5, entry .pre .7),
     )
 
-sub-t21 : tie.Need-sub-t21
-sub-t21 c = search needs
-
-inverse-requires : tie.Need-inverse-requires
-inverse-requires c κs = search needs
-
 returns-3 : tie.Need-returns-3
 returns-3 c =
     let entry = c .before .before .before .before .before .before .before .before .before .before .before .before .before .before .before .before .before .before .before .before .before .before in
@@ -93,20 +69,20 @@ advance-spec =
     tie.close
     (tie.spec
     tail-requires
-    shared-slice-read-add
+    (search needs)
     add-requires
     (λ c. omega arith)
     returns
-    multiply-requires
-    sub-shift
-    sub-count
-    add-count
-    add-if2
+    (λ c κs. search needs)
+    (search needs)
+    (search needs)
+    (search needs)
+    (search needs)
     subtract-multiple-requires
     (λ c. omega arith) (λ c. omega arith)
     returns-2
     exchange-requires
-    sub-t21
-    inverse-requires
+    (search needs)
+    (λ c κs. search needs)
     (λ c. omega arith) (λ c. omega arith) (λ c. omega arith)
     returns-3)

@@ -8,15 +8,6 @@ use Rattle.area.proofs.Lists.{copied-whole}
 use Rattle.block.proofs.locator.exchange.Statement.{statement}
 use Rattle.block.proofs.locator.exchange.Tie as tie
 
-copy-requires : tie.Need-copy-requires
-copy-requires c κs = search needs
-
-subtract-multiple-requires : tie.Need-subtract-multiple-requires
-subtract-multiple-requires c κs = search needs
-
-copy-requires-2 : tie.Need-copy-requires-2
-copy-requires-2 c κs = search needs
-
 returns : tie.Need-returns
 returns c =
     let entry = c .before .before .before .before .before .before .before .before .before .before .before .before .before .before .before .before .before .before in
@@ -30,8 +21,8 @@ pub exchange-spec : {M : Type 1} → statement M
 exchange-spec =
     tie.close
     (tie.spec
-    copy-requires
-    subtract-multiple-requires
-    copy-requires-2
+    (λ c κs. search needs)
+    (λ c κs. search needs)
+    (λ c κs. search needs)
     (λ c. omega arith) (λ c. omega arith) (λ c. omega arith)
     returns)

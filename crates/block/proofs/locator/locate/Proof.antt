@@ -39,12 +39,6 @@ advance-requires c κs =
     let l = c .before .before .before .before .loop in
     (p .0, p .1, p .2, l .inv .0, omega (arith, p .5), l .inv .2, l .inv .3, l .inv .4, l .inv .5)
 
-add-next : tie.Need-add-next Inv-loop μ-loop
-add-next c = omega arith
-
-loop-less : tie.Need-loop-less Inv-loop μ-loop
-loop-less c = omega arith
-
 loop-again : tie.Need-loop-again Inv-loop μ-loop
 loop-again c =
     let l = c .before .before .before .before .before .before .before .before .before .before .before .loop in
@@ -83,8 +77,8 @@ locate-spec =
     unit-requires-2
     loop-holds
     advance-requires
-    add-next
-    loop-less
+    (λ c. omega arith)
+    (λ c. omega arith)
     loop-again
     same-length
     same-length-2

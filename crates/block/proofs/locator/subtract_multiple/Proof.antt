@@ -17,12 +17,6 @@ abbrev μ-loop : tie.MeasureT-loop
 loop-holds : tie.Need-loop-holds Inv-loop μ-loop
 loop-holds c = (omega arith, refl, multiple-none _ _ _ _ _ (c .before .before .pre .5))
 
-add-place : tie.Need-add-place Inv-loop μ-loop
-add-place c = omega arith
-
-shared-slice-read-multiply : tie.Need-shared-slice-read-multiply Inv-loop μ-loop
-shared-slice-read-multiply c = omega arith
-
 multiply-requires : tie.Need-multiply-requires Inv-loop μ-loop
 multiply-requires c κs = let p = c .before .before .before .before .before .pre in (p .0, p .1, p .2, p .3 (c .before .before .loop .i))
 
@@ -37,12 +31,6 @@ subtract-requires c κs =
 
 slice-write-target : tie.Need-slice-write-target Inv-loop μ-loop
 slice-write-target c = omega (arith, c .before .before .before .before .before .loop .inv .1)
-
-add-i : tie.Need-add-i Inv-loop μ-loop
-add-i c = omega arith
-
-loop-less : tie.Need-loop-less Inv-loop μ-loop
-loop-less c = omega arith
 
 loop-again : tie.Need-loop-again Inv-loop μ-loop
 loop-again c =
@@ -62,14 +50,14 @@ subtract-multiple-spec =
     Inv-loop
     μ-loop
     loop-holds
-    add-place
-    shared-slice-read-multiply
+    (λ c. omega arith)
+    (λ c. omega arith)
     multiply-requires
     slice-read-subtract
     subtract-requires
     slice-write-target
-    add-i
-    loop-less
+    (λ c. omega arith)
+    (λ c. omega arith)
     loop-again
     (omega arith)
     returns)

@@ -21,26 +21,11 @@ loop-holds : tie.Need-loop-holds Inv-loop μ-loop
 unfolding tail
 loop-holds c = (search needs, sum-none _ _ (c .before .before .pre .0))
 
-add-next : tie.Need-add-next Inv-loop μ-loop
-add-next c = omega arith
-
-shared-slice-read-add-product : tie.Need-shared-slice-read-add-product Inv-loop μ-loop
-shared-slice-read-add-product c = omega arith
-
-sub-add-product : tie.Need-sub-add-product Inv-loop μ-loop
-sub-add-product c = omega arith
-
-shared-slice-read-add-product-2 : tie.Need-shared-slice-read-add-product-2 Inv-loop μ-loop
-shared-slice-read-add-product-2 c = omega arith
-
 add-product-requires : tie.Need-add-product-requires Inv-loop μ-loop
 add-product-requires c κs =
     let p = c .before .before .before .before .before .before .pre in
     let l = c .before .before .before .loop in
     (p .0, p .1, l .inv .1 .below, p .2 (l .a + 1), p .4 (c .before .before .before .before .before .before .args .j - (l .a + 1)))
-
-loop-less : tie.Need-loop-less Inv-loop μ-loop
-loop-less c = omega arith
 
 loop-again : tie.Need-loop-again Inv-loop μ-loop
 unfolding tail
@@ -61,11 +46,11 @@ tail-spec =
     Inv-loop
     μ-loop
     loop-holds
-    add-next
-    shared-slice-read-add-product
-    sub-add-product
-    shared-slice-read-add-product-2
+    (λ c. omega arith)
+    (λ c. omega arith)
+    (λ c. omega arith)
+    (λ c. omega arith)
     add-product-requires
-    loop-less
+    (λ c. omega arith)
     loop-again
     returns)

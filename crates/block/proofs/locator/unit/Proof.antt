@@ -20,12 +20,6 @@ unit-of w l h e =
       rest = λ i l. getD-set-other (replicate w 0) 0 i 1 0 (omega arith) ∙ getD-zeros w i;
     })
 
-clear-requires : tie.Need-clear-requires
-clear-requires c κs = search needs
-
-slice-write-series : tie.Need-slice-write-series
-slice-write-series c = search needs
-
 same-length : tie.Need-same-length
 same-length c = search needs
 
@@ -33,4 +27,4 @@ returns : tie.Need-returns
 returns c = unit-of _ _ (c .before .before .before .before .before .pre) (c .before .before .clear .ensures)
 
 pub unit-spec : {M : Type 1} → statement M
-unit-spec = tie.close (tie.spec clear-requires slice-write-series same-length returns)
+unit-spec = tie.close (tie.spec (λ c κs. search needs) (search needs) same-length returns)

@@ -33,9 +33,6 @@ add-s c = let p = c .before .before .before .before .before .before .pre in omeg
 slice-write-series : tie.Need-slice-write-series Inv-loop μ-loop
 slice-write-series c = let p = c .before .before .before .before .before .before .pre in omega (arith, p .4, c .before .before .before .loop .inv .1)
 
-loop-less : tie.Need-loop-less Inv-loop μ-loop
-loop-less c = omega arith
-
 loop-again : tie.Need-loop-again Inv-loop μ-loop
 loop-again c =
     let p = c .before .before .before .before .before .before .pre in
@@ -59,7 +56,7 @@ add-values-spec =
     multiply-requires
     add-s
     slice-write-series
-    loop-less
+    (λ c. omega arith)
     loop-again
     (omega arith)
     returns)

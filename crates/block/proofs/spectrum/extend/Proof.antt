@@ -18,12 +18,6 @@ abbrev μ-loop : tie.MeasureT-loop
 loop-holds : tie.Need-loop-holds Inv-loop μ-loop
 loop-holds c = let p = c .before .before .before .pre in (omega arith, refl, refl, continued-none _ _ _ _ _ _ (p .4) (p .7))
 
-add-place : tie.Need-add-place Inv-loop μ-loop
-add-place c = omega arith
-
-add-place-2 : tie.Need-add-place-2 Inv-loop μ-loop
-add-place-2 c = omega arith
-
 tail-requires : tie.Need-tail-requires Inv-loop μ-loop
 tail-requires c κs = let p = c .before .before .before .before .before .before .pre in let l = c .before .before .loop in (p .0, p .1, p .2, p .3, l .inv .3 .below, omega arith, omega (arith, l .inv .1))
 
@@ -41,12 +35,6 @@ slice-write-values c = omega (arith, c .before .before .before .before .before .
 
 slice-write-series : tie.Need-slice-write-series Inv-loop μ-loop
 slice-write-series c = omega (arith, c .before .before .before .before .before .before .loop .inv .1)
-
-add-u : tie.Need-add-u Inv-loop μ-loop
-add-u c = omega arith
-
-loop-less : tie.Need-loop-less Inv-loop μ-loop
-loop-less c = omega arith
 
 loop-again : tie.Need-loop-again Inv-loop μ-loop
 loop-again c =
@@ -66,16 +54,16 @@ extend-spec =
     Inv-loop
     μ-loop
     loop-holds
-    add-place
-    add-place-2
+    (λ c. omega arith)
+    (λ c. omega arith)
     tail-requires
     negate-requires
     slice-read-add
     add-requires
     slice-write-values
     slice-write-series
-    add-u
-    loop-less
+    (λ c. omega arith)
+    (λ c. omega arith)
     loop-again
     (omega arith) (omega arith)
     returns)

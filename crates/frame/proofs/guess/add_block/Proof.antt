@@ -37,9 +37,6 @@ shared-slice-read-v c = omega (arith, c .before .before .before .before .before 
 add-next : tie.Need-add-next Inv-loop μ-loop
 add-next c = omega (arith, sizes (c .before .before .before .before .before .before .before .before .args .p) (c .before .before .before .before .before .before .before .before .pre .0 .sound) .information-most)
 
-loop-less : tie.Need-loop-less Inv-loop μ-loop
-loop-less c = omega arith
-
 loop-again : tie.Need-loop-again Inv-loop μ-loop
 loop-again c =
     let entry = c .before .before .before .before .before .before .before .before .before in
@@ -59,9 +56,6 @@ adjust-requires c κs =
       symbol-below (a .p .q) (now (a .information)) (entry .pre .1) (positive (a .p) (entry .pre .0 .sound)) (a .from + l .next),
       l .inv .1 .revised .areas,
     )
-
-loop-less-2 : tie.Need-loop-less-2 Inv-loop μ-loop
-loop-less-2 c = omega arith
 
 loop-again-2 : tie.Need-loop-again-2 Inv-loop μ-loop
 loop-again-2 c =
@@ -89,10 +83,10 @@ add-block-spec =
     add-v
     shared-slice-read-v
     add-next
-    loop-less
+    (λ c. omega arith)
     loop-again
     adjust-requires
-    loop-less-2
+    (λ c. omega arith)
     loop-again-2
     (omega arith) (omega arith)
     returns-2)

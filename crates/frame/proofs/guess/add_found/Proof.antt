@@ -48,9 +48,6 @@ add-block-requires-2 c κs =
 add-a : tie.Need-add-a Inv-loop μ-loop
 add-a c = omega (arith, c .before .before .before .before .before .before .before .before .before .before .before .before .before .before .before .before .before .before .before .before .pre .2, sizes (c .before .before .before .before .before .before .before .before .before .before .before .before .before .before .before .before .before .before .before .before .args .p) (c .before .before .before .before .before .before .before .before .before .before .before .before .before .before .before .before .before .before .before .before .pre .0 .sound) .memory-most)
 
-loop-less : tie.Need-loop-less Inv-loop μ-loop
-loop-less c = omega arith
-
 loop-again : tie.Need-loop-again Inv-loop μ-loop
 loop-again c =
     let l = c .before .before .before .before .before .before .before .before .loop in (
@@ -76,7 +73,7 @@ add-found-spec =
     mul-add-block
     add-block-requires-2
     add-a
-    loop-less
+    (λ c. omega arith)
     loop-again
     (omega arith) (omega arith)
     returns)

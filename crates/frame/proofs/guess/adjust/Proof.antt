@@ -58,12 +58,6 @@ slice-write-message c = inside (c .before .before .before .before .before .befor
 negate-requires : tie.Need-negate-requires
 negate-requires c κs = let entry = c .before .before .before .before .before .before .before in (entry .pre .0 .sound .good, entry .pre .3)
 
-sub-add-rows : tie.Need-sub-add-rows
-sub-add-rows c = search needs
-
-part-add-rows-start : tie.Need-part-add-rows-start
-part-add-rows-start c = search needs
-
 part-add-rows-end : tie.Need-part-add-rows-end
 part-add-rows-end c = room (c .before .before .before .before .before .before .before .before)
 
@@ -103,8 +97,8 @@ adjust-spec =
     add-requires
     slice-write-message
     negate-requires
-    sub-add-rows
-    part-add-rows-start
+    (search needs)
+    (search needs)
     part-add-rows-end
     add-rows-requires
     (search needs) (λ c. omega arith)

@@ -72,9 +72,6 @@ add-turn c =
     let entry = c .before .before .before .before .before .before .before .before .before .before .before .before .before .before .before .before in
     omega (arith, sizes (entry .args .p) (entry .pre .0 .sound) .information-most)
 
-loop-less : tie.Need-loop-less Inv-loop μ-loop
-loop-less c = omega arith
-
 loop-again : tie.Need-loop-again Inv-loop μ-loop
 loop-again c =
     let l = c .before .before .before .before .before .before .before .before .before .before .before .loop in
@@ -98,7 +95,7 @@ guess-from-spec =
     multiply-requires
     adjust-requires
     add-turn
-    loop-less
+    (λ c. omega arith)
     loop-again
     (omega arith) (omega arith)
     returns)

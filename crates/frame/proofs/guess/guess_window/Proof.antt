@@ -30,9 +30,6 @@ guess-block-requires c κs = (c .before .before .before .before .before .before 
 add-s : tie.Need-add-s Inv-loop μ-loop
 add-s c = omega (arith, sizes (c .before .before .before .before .before .before .before .before .before .before .before .before .args .p) (c .before .before .before .before .before .before .before .before .before .before .before .before .pre .0 .sound) .memory-most)
 
-loop-less : tie.Need-loop-less Inv-loop μ-loop
-loop-less c = omega arith
-
 loop-again : tie.Need-loop-again Inv-loop μ-loop
 loop-again c =
     let l = c .before .before .before .before .before .before .before .before .loop in
@@ -51,7 +48,7 @@ guess-window-spec =
     add-guess-block
     guess-block-requires
     add-s
-    loop-less
+    (λ c. omega arith)
     loop-again
     (omega arith) (omega arith)
     returns)

@@ -52,12 +52,6 @@ loop-holds c = (omega arith, omega arith, λ q i l. absurd (omega arith))
 add-end : tie.Need-add-end Inv-loop μ-loop
 add-end c = omega (arith, window-room c)
 
-sub-zero-cost : tie.Need-sub-zero-cost Inv-loop μ-loop
-sub-zero-cost c = omega arith
-
-part-zero-cost-start : tie.Need-part-zero-cost-start Inv-loop μ-loop
-part-zero-cost-start c = omega arith
-
 part-zero-cost-end : tie.Need-part-zero-cost-end Inv-loop μ-loop
 part-zero-cost-end c = window-room c
 
@@ -80,12 +74,6 @@ returns c =
 
 add-start : tie.Need-add-start Inv-loop μ-loop
 add-start c = omega (arith, window-room (c .before .before .before))
-
-add-j : tie.Need-add-j Inv-loop μ-loop
-add-j c = omega arith
-
-loop-less : tie.Need-loop-less Inv-loop μ-loop
-loop-less c = omega arith
 
 loop-again : tie.Need-loop-again Inv-loop μ-loop
 loop-again c =
@@ -114,13 +102,13 @@ compare-windows-spec =
     mul-size
     loop-holds
     add-end
-    sub-zero-cost
-    part-zero-cost-start
+    (λ c. omega arith)
+    (λ c. omega arith)
     part-zero-cost-end
     zero-cost-requires
     returns
     add-start
-    add-j
-    loop-less
+    (λ c. omega arith)
+    (λ c. omega arith)
     loop-again
     returns-2)

@@ -9,15 +9,6 @@ use Rattle.frame.proofs.Ends.{frame-compared}
 use Rattle.frame.proofs.reading.read.Statement.{statement}
 use Rattle.frame.proofs.reading.read.Tie as tie
 
-distances-to-requires : tie.Need-distances-to-requires
-distances-to-requires c κs = search needs
-
-clear-requires : tie.Need-clear-requires
-clear-requires c κs = search needs
-
-copy-requires : tie.Need-copy-requires
-copy-requires c κs = search needs
-
 read-windows-requires : tie.Need-read-windows-requires
 read-windows-requires c κs =
     let entry = c .before .before .before .before .before .before .before .before .before .before .before .before .before .before .before .before .before .before .before .before .before .before .before in
@@ -53,9 +44,9 @@ pub read-spec : {M : Type 1} → statement M
 read-spec =
     tie.close
     (tie.spec
-    distances-to-requires
-    clear-requires
-    copy-requires
+    (λ c κs. search needs)
+    (λ c κs. search needs)
+    (λ c κs. search needs)
     read-windows-requires
     (λ c. omega arith) (λ c. omega arith) (λ c. omega arith) (λ c. omega arith) (λ c. omega arith) (λ c. omega arith)
     returns

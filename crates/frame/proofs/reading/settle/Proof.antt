@@ -31,29 +31,14 @@ mul-end c = omega (arith, room (c .before .before .before .before .before .befor
 add-end-2 : tie.Need-add-end-2
 add-end-2 c = omega (arith, room (c .before .before .before .before .before .before .before .before .before .before .before))
 
-sub-zero-cost : tie.Need-sub-zero-cost
-sub-zero-cost c = search needs
-
-part-zero-cost-start : tie.Need-part-zero-cost-start
-part-zero-cost-start c = search needs
-
 part-zero-cost-end : tie.Need-part-zero-cost-end
 part-zero-cost-end c = omega (arith, room (c .before .before .before .before .before .before .before .before .before .before .before .before))
-
-zero-cost-requires : tie.Need-zero-cost-requires
-zero-cost-requires c κs = search needs
 
 returns : tie.Need-returns
 returns c =
     let entry = c .before .before .before .before .before .before .before .before .before .before .before .before .before .before .before in
     let a = entry .args in
     advance-clean (entry .pre .0 .sound) (entry .pre .3) (entry .pre .2) (entry .pre .5) (entry .pre .4) (part-length (windowLength (a .p)) (a .j * a .p .n) (now (a .residual)) (room entry)) (c .before .zero-cost .ensures (a .p .q)) (omega (arith, c .if1 .taken, entry .pre .1))
-
-sub-find-level : tie.Need-sub-find-level
-sub-find-level c = search needs
-
-part-find-level-start : tie.Need-part-find-level-start
-part-find-level-start c = search needs
 
 part-find-level-end : tie.Need-part-find-level-end
 part-find-level-end c = omega (arith, room (c .before .before .before .before .before .before .before .before .before .before .before .before .before .before .before .before))
@@ -99,14 +84,14 @@ settle-spec =
     add-end
     mul-end
     add-end-2
-    sub-zero-cost
-    part-zero-cost-start
+    (search needs)
+    (search needs)
     part-zero-cost-end
-    zero-cost-requires
+    (λ c κs. search needs)
     (λ c. omega arith)
     returns
-    sub-find-level
-    part-find-level-start
+    (search needs)
+    (search needs)
     part-find-level-end
     find-level-requires
     (λ c. omega arith) (λ c. omega arith) (λ c. omega arith) (λ c. omega arith) (λ c. omega arith)

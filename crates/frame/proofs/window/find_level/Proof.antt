@@ -25,9 +25,6 @@ add-blocks c = let entry = c .before .before .before .before .before .before .be
 loop-holds : tie.Need-loop-holds Inv-loop μ-loop
 loop-holds c = let entry = c .before .before .before .before .before .before .before in (omega arith, levels-failed-start (entry .args .p) (now (entry .args .window)), refl, refl, refl, refl)
 
-sub-l : tie.Need-sub-l Inv-loop μ-loop
-sub-l c = omega arith
-
 try-level-requires : tie.Need-try-level-requires Inv-loop μ-loop
 try-level-requires c κs =
     let entry = c .before .before .before .before .before .before .before .before .before .before .before .before .before in
@@ -43,9 +40,6 @@ returns c =
     subst (LevelSearch (entry .args .p) (now (entry .args .window)) _) (sym back)
     (levels-failed-served (entry .args .p) (entry .pre .0 .sound) (now (entry .args .window)) _ (l .blocks - 1) (omega arith)
     (tried .ensures) (c .if1 .taken) (subst (LevelsFailed (entry .args .p) (now (entry .args .window))) back (l .inv .1)))
-
-loop-less : tie.Need-loop-less Inv-loop μ-loop
-loop-less c = omega arith
 
 loop-again : tie.Need-loop-again Inv-loop μ-loop
 loop-again c =
@@ -76,11 +70,11 @@ find-level-spec =
     μ-loop
     add-blocks
     loop-holds
-    sub-l
+    (λ c. omega arith)
     try-level-requires
     (omega arith) (omega arith) (omega arith) (omega arith)
     returns
-    loop-less
+    (λ c. omega arith)
     loop-again
     (omega arith) (omega arith) (omega arith) (omega arith)
     returns-2)

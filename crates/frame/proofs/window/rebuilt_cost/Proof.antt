@@ -37,12 +37,6 @@ inside c =
 add-end : tie.Need-add-end Inv-loop μ-loop
 add-end c = omega (arith, inside c)
 
-sub-cost : tie.Need-sub-cost Inv-loop μ-loop
-sub-cost c = omega arith
-
-part-cost-start : tie.Need-part-cost-start Inv-loop μ-loop
-part-cost-start c = omega arith
-
 part-cost-end : tie.Need-part-cost-end Inv-loop μ-loop
 part-cost-end c = inside c
 
@@ -64,9 +58,6 @@ add-cost c = omega (arith, inside (c .before .before), at-most c)
 
 add-s : tie.Need-add-s Inv-loop μ-loop
 add-s c = omega (arith, c .before .before .before .before .before .before .before .pre .3, sizes (c .before .before .before .before .before .before .before .args .p) (c .before .before .before .before .before .before .before .pre .0 .sound) .memory-most)
-
-loop-less : tie.Need-loop-less Inv-loop μ-loop
-loop-less c = omega arith
 
 loop-again : tie.Need-loop-again Inv-loop μ-loop
 loop-again c =
@@ -96,12 +87,12 @@ rebuilt-cost-spec =
     μ-loop
     loop-holds
     add-end
-    sub-cost
-    part-cost-start
+    (λ c. omega arith)
+    (λ c. omega arith)
     part-cost-end
     cost-requires
     add-cost
     add-s
-    loop-less
+    (λ c. omega arith)
     loop-again
     returns)

@@ -24,12 +24,6 @@ mul-start c = omega (arith, inside (c .before .before .before .before .before .b
 add-end : tie.Need-add-end
 add-end c = omega (arith, inside (c .before .before .before .before .before .before))
 
-sub-repair : tie.Need-sub-repair
-sub-repair c = search needs
-
-part-repair-start : tie.Need-part-repair-start
-part-repair-start c = search needs
-
 part-repair-end : tie.Need-part-repair-end
 part-repair-end c = inside (c .before .before .before .before .before .before)
 
@@ -60,9 +54,6 @@ rebuilt-cost-requires c κs =
       entry .pre .1,
     )
 
-distances-to-requires : tie.Need-distances-to-requires
-distances-to-requires c κs = search needs
-
 returns-2 : tie.Need-returns-2
 returns-2 c =
     let entry = c .before .before .before .before .before .before .before .before .before .before .before .before .before .before .before .before .before .before .before .before .before .before .before .before .before in
@@ -81,14 +72,14 @@ try-level-spec =
     (tie.spec
     mul-start
     add-end
-    sub-repair
-    part-repair-start
+    (search needs)
+    (search needs)
     part-repair-end
     repair-requires
     (λ c. omega arith) (λ c. omega arith) (λ c. omega arith) (λ c. omega arith)
     returns
     rebuilt-cost-requires
-    distances-to-requires
+    (λ c κs. search needs)
     (λ c. omega arith) (λ c. omega arith) (λ c. omega arith) (λ c. omega arith)
     returns-2
     (λ c. omega arith) (λ c. omega arith) (λ c. omega arith) (λ c. omega arith)

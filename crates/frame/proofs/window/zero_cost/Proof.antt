@@ -11,9 +11,6 @@ use Rattle.code.proofs.Cost.{cost-count}
 use Rattle.frame.proofs.window.zero_cost.Statement.{statement}
 use Rattle.frame.proofs.window.zero_cost.Tie as tie
 
-weight-requires : tie.Need-weight-requires
-weight-requires c κs = search needs
-
 mul-result : tie.Need-mul-result
 mul-result c =
     let symbols = now (c .before .before .args .symbols) in
@@ -25,4 +22,4 @@ returns c q =
     ap (λ (t : ℕ). 2 * t) (c .weight .ensures) ∙ cost-count q (length symbols) (at symbols) (λ _. 0)
 
 pub zero-cost-spec : {M : Type 1} → statement M
-zero-cost-spec = tie.close (tie.spec weight-requires mul-result returns)
+zero-cost-spec = tie.close (tie.spec (λ c κs. search needs) mul-result returns)

@@ -12,9 +12,6 @@ use Rattle.link.proofs.Decoding.{Receiving, receiving, decoded-refused,
 use Rattle.link.proofs.decode.decode.Statement.{statement}
 use Rattle.link.proofs.decode.decode.Tie as tie
 
-decoding-questions-requires : tie.Need-decoding-questions-requires
-decoding-questions-requires c κs = search needs
-
 returns : tie.Need-returns
 returns c =
     let a = c .before .before .before .before .before .before .args in
@@ -87,7 +84,7 @@ pub decode-spec : {M : Type 1} → statement M
 decode-spec =
     tie.close
     (tie.spec
-    decoding-questions-requires
+    (λ c κs. search needs)
     returns
     setting-of-requires
     div-blocks

@@ -22,9 +22,6 @@ room c = omega (arith, c .pre .2 .block)
 products-requires : tie.Need-products-requires
 products-requires c κs = sound (c .before .before .before) .good
 
-slice-aggregate-rows : tie.Need-slice-aggregate-rows
-slice-aggregate-rows c = search needs
-
 rows-requires : tie.Need-rows-requires
 rows-requires c κs =
     let known = c .before .before .before .before .before .pre in
@@ -32,9 +29,6 @@ rows-requires c κs =
 
 add-room : tie.Need-add-room
 add-room c = let entry = c .before .before .before .before .before .before .before .before in omega (arith, sizes (entry .args .p) (sound entry) .symbols-most)
-
-slice-aggregate-decode-lent : tie.Need-slice-aggregate-decode-lent
-slice-aggregate-decode-lent c = search needs
 
 array-borrow-prefix-series : tie.Need-array-borrow-prefix-series
 array-borrow-prefix-series c = room (c .before .before .before .before .before .before .before .before .before .before .before .before)
@@ -83,10 +77,10 @@ decode-frame-spec =
     tie.close
     (tie.spec
     products-requires
-    slice-aggregate-rows
+    (search needs)
     rows-requires
     add-room
-    slice-aggregate-decode-lent
+    (search needs)
     array-borrow-prefix-series
     slice-aggregate-decode-lent-2
     array-borrow-prefix-locator

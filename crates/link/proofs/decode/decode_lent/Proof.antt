@@ -12,18 +12,6 @@ use Rattle.link.proofs.Decoding.{residual-symbols, residual-long, frame
 use Rattle.link.proofs.decode.decode_lent.Statement.{statement}
 use Rattle.link.proofs.decode.decode_lent.Tie as tie
 
-read-requires : tie.Need-read-requires
-read-requires c κs = search needs
-
-clear-requires : tie.Need-clear-requires
-clear-requires c κs = search needs
-
-clear-requires-2 : tie.Need-clear-requires-2
-clear-requires-2 c κs = search needs
-
-no-requires : tie.Need-no-requires
-no-requires c κs = search needs
-
 returns : tie.Need-returns
 returns c =
     let entry = c .before .before .before .before .before .before .before .before .before .before .before .before .before .before .before .before .before .before .before .before .before .before .before .before .before .before .before .before .before .before .before .before .before .before .before .before .before in
@@ -31,9 +19,6 @@ returns c =
     frame-decoded-none (read .ensures) (c .before .before .before .before .before .before .before .before .before .if1 .taken) (c .no .ensures)
     (c .before .before .before .before .before .before .before .clear .ensures ∙ ap (λ (t : ℕ). replicate t 0) (read .kept .1 .1 .1 .1 .1 .0 ∙ entry .pre .5))
     (c .before .before .before .clear2 .ensures ∙ ap (λ (t : ℕ). replicate t 0) (read .kept .1 .1 .1 .1 .1 .1 .0 ∙ (entry .pre .6 ∙ entry .pre .3)))
-
-weight-requires : tie.Need-weight-requires
-weight-requires c κs = search needs
 
 restore-requires : tie.Need-restore-requires
 restore-requires c κs =
@@ -70,13 +55,13 @@ pub decode-lent-spec : {M : Type 1} → statement M
 decode-lent-spec =
     tie.close
     (tie.spec
-    read-requires
-    clear-requires
-    clear-requires-2
-    no-requires
+    (λ c κs. search needs)
+    (λ c κs. search needs)
+    (λ c κs. search needs)
+    (λ c κs. search needs)
     (λ c. omega arith) (λ c. omega arith) (λ c. omega arith) (λ c. omega arith) (λ c. omega arith) (λ c. omega arith)
     returns
-    weight-requires
+    (λ c κs. search needs)
     restore-requires
     cast-t37
     (λ c. omega arith) (λ c. omega arith) (λ c. omega arith) (λ c. omega arith) (λ c. omega arith) (λ c. omega arith)

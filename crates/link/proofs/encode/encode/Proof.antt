@@ -35,9 +35,6 @@ few c =
     subst (λ (p : Setting). length (now (c .before .before .before .before .before .before .args .message)) / p .k + p .m ≤ mostBlocks + 255) (sym (c .setting-of .ensures))
     (omega (arith, known (c .before) .most, sizesOf (c .before .before .before .before .before .before .args .setting) (known (c .before) .setting) .memory-most))
 
-encoding-questions-requires : tie.Need-encoding-questions-requires
-encoding-questions-requires c κs = search needs
-
 returns : tie.Need-returns
 returns c = let entry = c .before .before .before .before .before in encoded-refused (entry .args .setting) (now (entry .args .message)) (now (entry .args .transmission)) (c .before .before .encoding-questions .result) (c .before .before .encoding-questions .ensures) (c .if1 .taken)
 
@@ -84,7 +81,7 @@ pub encode-spec : {M : Type 1} → statement M
 encode-spec =
     tie.close
     (tie.spec
-    encoding-questions-requires
+    (λ c κs. search needs)
     returns
     setting-of-requires
     div-blocks

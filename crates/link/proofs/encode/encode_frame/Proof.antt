@@ -18,16 +18,10 @@ sound c = subst Sound (sym (c .pre .1)) (soundOf (c .args .setting) (c .pre .0))
 products-requires : tie.Need-products-requires
 products-requires c κs = sound (c .before .before .before .before .before) .good
 
-slice-aggregate-rows : tie.Need-slice-aggregate-rows
-slice-aggregate-rows c = search needs
-
 rows-requires : tie.Need-rows-requires
 rows-requires c κs =
     let known = c .before .before .before .pre in
     (known .0, subst (λ (p : Setting). rowsLength p ≤ mostRows) (known .1) (known .2 .rows))
-
-slice-aggregate-send : tie.Need-slice-aggregate-send
-slice-aggregate-send c = search needs
 
 send-requires : tie.Need-send-requires
 send-requires c κs =
@@ -43,10 +37,10 @@ pub encode-frame-spec : {M : Type 1} → statement M
 encode-frame-spec =
     tie.close
     (tie.spec
-    slice-aggregate-rows
+    (search needs)
     rows-requires
     products-requires
-    slice-aggregate-send
+    (search needs)
     send-requires
     (λ c. omega arith)
     returns)

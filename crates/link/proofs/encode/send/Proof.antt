@@ -36,9 +36,6 @@ send-block-requires c κs = (c .before .before .before .before .before .before .
 add-i : tie.Need-add-i Inv-loop μ-loop
 add-i c = omega (arith, c .before .before .before .before .before .before .before .before .before .before .before .before .before .pre .0 .most)
 
-loop-less : tie.Need-loop-less Inv-loop μ-loop
-loop-less c = omega arith
-
 loop-again : tie.Need-loop-again Inv-loop μ-loop
 loop-again c =
     let a = c .before .before .before .before .before .before .before .before .before .before .before .before .before .args in
@@ -60,4 +57,4 @@ returns c =
     (subst (λ (t : ℕ). SentTo (a .p) (a .blocks) (now (a .message)) (t * a .p .k) (c .before .loop .area)) all (c .before .loop .inv .1))
 
 pub send-spec : {M : Type 1} → statement M
-send-spec = tie.close (tie.spec Inv-loop μ-loop clear-requires loop-holds send-block-requires add-i loop-less loop-again same-length returns)
+send-spec = tie.close (tie.spec Inv-loop μ-loop clear-requires loop-holds send-block-requires add-i (λ c. omega arith) loop-again same-length returns)

@@ -65,12 +65,6 @@ room c =
     let l = c .before .loop in
     window-room (entry .args .p) (entry .args .blocks) (entry .args .i) (l .inv .1 .rest) (l .area) (l .inv .1 .areas) (entry .pre .1)
 
-sub-add-rows : tie.Need-sub-add-rows Inv-loop μ-loop
-sub-add-rows c = omega arith
-
-part-add-rows-start : tie.Need-part-add-rows-start Inv-loop μ-loop
-part-add-rows-start c = omega arith
-
 part-add-rows-end : tie.Need-part-add-rows-end Inv-loop μ-loop
 part-add-rows-end c = room (c .before)
 
@@ -89,9 +83,6 @@ add-rows-requires c κs =
 
 add-r : tie.Need-add-r Inv-loop μ-loop
 add-r c = let entry = c .before .before .before .before .before .before .before .before .before .before .before in omega (arith, sizes (entry .args .p) (entry .pre .0 .ready .sound) .information-most)
-
-loop-less : tie.Need-loop-less Inv-loop μ-loop
-loop-less c = omega arith
 
 loop-again : tie.Need-loop-again Inv-loop μ-loop
 loop-again c =
@@ -126,12 +117,12 @@ send-block-spec =
     loop-holds
     add-symbol
     shared-slice-read-symbol
-    sub-add-rows
-    part-add-rows-start
+    (λ c. omega arith)
+    (λ c. omega arith)
     part-add-rows-end
     add-rows-requires
     add-r
-    loop-less
+    (λ c. omega arith)
     loop-again
     same-length
     returns)

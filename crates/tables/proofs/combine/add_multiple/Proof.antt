@@ -20,9 +20,6 @@ abbrev μ-loop : tie.MeasureT-loop
 loop-holds : tie.Need-loop-holds Inv-loop μ-loop
 loop-holds c = let entry = c .before .before in (omega arith, multiple-none (entry .args .q) (entry .args .v) (now (entry .args .row)) (now (entry .args .block)) (entry .pre .4))
 
-slice-read-add-product : tie.Need-slice-read-add-product Inv-loop μ-loop
-slice-read-add-product c = omega arith
-
 shared-slice-read-add-product : tie.Need-shared-slice-read-add-product Inv-loop μ-loop
 shared-slice-read-add-product c = omega (arith, c .before .before .loop-test .taken, c .before .before .before .loop .inv .1 .long, c .before .before .before .before .before .before .pre .5)
 
@@ -33,9 +30,6 @@ add-product-requires c κs =
     let l = c .before .before .before .loop in
     let positive = zero-below (a .q) (entry .pre .0) in
     (entry .pre .0, entry .pre .1, symbol-below (a .q) (l .block) (l .inv .1 .symbols) positive (l .i), entry .pre .2, symbol-below (a .q) (now (a .row)) (entry .pre .3) positive (l .i))
-
-slice-write-block : tie.Need-slice-write-block Inv-loop μ-loop
-slice-write-block c = omega arith
 
 add-i : tie.Need-add-i Inv-loop μ-loop
 add-i c = omega (arith, c .before .before .before .loop-test .taken, c .before .before .before .before .loop .inv .1 .long)
@@ -64,10 +58,10 @@ add-multiple-spec =
     Inv-loop
     μ-loop
     loop-holds
-    slice-read-add-product
+    (λ c. omega arith)
     shared-slice-read-add-product
     add-product-requires
-    slice-write-block
+    (λ c. omega arith)
     add-i
     loop-less
     loop-again

@@ -32,12 +32,6 @@ mul-start-2 c = omega (arith, room (c .before .before .before))
 add-end : tie.Need-add-end
 add-end c = omega (arith, room (c .before .before .before))
 
-sub-add-multiple : tie.Need-sub-add-multiple
-sub-add-multiple c = search needs
-
-part-add-multiple-start : tie.Need-part-add-multiple-start
-part-add-multiple-start c = search needs
-
 part-add-multiple-end : tie.Need-part-add-multiple-end
 part-add-multiple-end c = room (c .before .before .before)
 
@@ -67,8 +61,8 @@ add-row-spec =
     add-start
     mul-start-2
     add-end
-    sub-add-multiple
-    part-add-multiple-start
+    (search needs)
+    (search needs)
     part-add-multiple-end
     add-multiple-requires
     (λ c. omega arith)

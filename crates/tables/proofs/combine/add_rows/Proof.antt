@@ -35,12 +35,6 @@ inside c =
 add-end : tie.Need-add-end Inv-loop μ-loop
 add-end c = omega (arith, inside c, c .before .loop .inv .2 .long)
 
-sub-add-row : tie.Need-sub-add-row Inv-loop μ-loop
-sub-add-row c = omega arith
-
-part-add-row-start : tie.Need-part-add-row-start Inv-loop μ-loop
-part-add-row-start c = omega arith
-
 part-add-row-end : tie.Need-part-add-row-end Inv-loop μ-loop
 part-add-row-end c = inside c
 
@@ -59,9 +53,6 @@ add-row-requires c κs =
 
 add-j : tie.Need-add-j Inv-loop μ-loop
 add-j c = let entry = c .before .before .before .before .before .before .before .before in omega (arith, sizes (entry .args .p) (entry .pre .0 .sound) .memory-most)
-
-loop-less : tie.Need-loop-less Inv-loop μ-loop
-loop-less c = omega arith
 
 loop-again : tie.Need-loop-again Inv-loop μ-loop
 loop-again c =
@@ -88,12 +79,12 @@ add-rows-spec =
     μ-loop
     loop-holds
     add-end
-    sub-add-row
-    part-add-row-start
+    (λ c. omega arith)
+    (λ c. omega arith)
     part-add-row-end
     add-row-requires
     add-j
-    loop-less
+    (λ c. omega arith)
     loop-again
     (omega arith)
     returns)

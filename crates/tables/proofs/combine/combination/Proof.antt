@@ -43,9 +43,6 @@ add-requires c κs = (c .before .before .before .before .before .pre .0 .sound .
 add-j : tie.Need-add-j Inv-loop μ-loop
 add-j c = let entry = c .before .before .before .before .before .before in omega (arith, entry .pre .3, sizes (entry .args .p) (entry .pre .0 .sound) .memory-most)
 
-loop-less : tie.Need-loop-less Inv-loop μ-loop
-loop-less c = omega arith
-
 loop-again : tie.Need-loop-again Inv-loop μ-loop
 loop-again c =
     let l = c .before .before .before .loop in
@@ -74,6 +71,6 @@ combination-spec =
     times-g-requires
     add-requires
     add-j
-    loop-less
+    (λ c. omega arith)
     loop-again
     returns)

@@ -21,18 +21,12 @@ abbrev μ-loop : tie.MeasureT-loop
 loop-holds : tie.Need-loop-holds Inv-loop μ-loop
 loop-holds c = (omega arith, sum-none _ _ (c .before .before .pre .0 .sound .good))
 
-add-add-product : tie.Need-add-add-product Inv-loop μ-loop
-add-add-product c = omega arith
-
 -- The place of the row's symbol.
 placed : (c : tie.After-shared-slice-known3 Inv-loop μ-loop)
     → Place (c .before .before .before .before .before .args .p) (now (c .before .before .before .before .before .args .rows)) (c .before .before .before .before .before .args .j) (c .before .before .loop .r) (c .before .before .before .before .before .args .i)
 placed c =
     let entry = c .before .before .before .before .before in
     place-of (entry .args .p) (entry .pre .0 .sound) (now (entry .args .rows)) (entry .pre .0 .rows) (entry .args .j) (c .before .before .loop .r) (entry .args .i) (entry .pre .3) (c .before .loop-test .taken) (entry .pre .4)
-
-shared-slice-read-add-product : tie.Need-shared-slice-read-add-product Inv-loop μ-loop
-shared-slice-read-add-product c = omega arith
 
 mul-add-product : tie.Need-mul-add-product Inv-loop μ-loop
 mul-add-product c = omega (arith, placed c .group)
@@ -63,9 +57,6 @@ add-product-requires c κs =
 add-r : tie.Need-add-r Inv-loop μ-loop
 add-r c = let entry = c .before .before .before .before .before .before .before in omega (arith, sizes (entry .args .p) (entry .pre .0 .sound) .information-most)
 
-loop-less : tie.Need-loop-less Inv-loop μ-loop
-loop-less c = omega arith
-
 loop-again : tie.Need-loop-again Inv-loop μ-loop
 loop-again c =
     let l = c .before .before .before .before .loop in
@@ -91,8 +82,8 @@ times-g-spec =
     Inv-loop
     μ-loop
     loop-holds
-    add-add-product
-    shared-slice-read-add-product
+    (λ c. omega arith)
+    (λ c. omega arith)
     mul-add-product
     add-add-product-2
     mul-add-product-2
@@ -100,6 +91,6 @@ times-g-spec =
     shared-slice-read-add-product-2
     add-product-requires
     add-r
-    loop-less
+    (λ c. omega arith)
     loop-again
     returns)
