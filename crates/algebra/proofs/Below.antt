@@ -1,6 +1,7 @@
 -- The bridge from the numbers below q to the abstract carrier. A concrete field proves its laws once, for numbers below q (`FieldBelow`);
 -- the pairs of a number and a proof that it is below q are then a field (`fieldBelow`), and taking the number keeps the operations (`number-keeps`).
--- Holds: `FieldBelow`, `positive`, `OrderBelow`, `Element`, `number`, `element`, `fieldBelow`, `number-keeps`, `number-injective`, `number-element`, `orderBelow`.
+-- Holds: `FieldBelow`, `positive`, `OrderBelow`, `Element`, `number`, `element`, `fieldBelow`, `number-keeps`, `number-injective`, `number-element`,
+-- `orderBelow`.
 use mathlib.Core.Path.{_≡_, refl, sym, ap, subst, _∙_}
 use mathlib.Core.HLevel.{Σ-prop-path}
 use mathlib.Core.Bool.{Bool, true, false}

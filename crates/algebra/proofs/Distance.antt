@@ -21,7 +21,8 @@ use Rattle.algebra.proofs.Laws.{Field, Tested, is-zero, non-zero, mul-z
 use Rattle.algebra.proofs.HasOrder.{HasOrder}
 use Rattle.algebra.proofs.Sums.{sum-zeros, sum-single}
 use Rattle.algebra.proofs.Powers.{power-add, power-nonzero, root-nonzero}
-use Rattle.algebra.proofs.Polynomials.{valueOf-ext, valueOf-short, valueOf-sub, valueOf-twist, In, here, there, value-at-root, value-off-roots, length-fromRoots}
+use Rattle.algebra.proofs.Polynomials.{valueOf-ext, valueOf-short, valueOf-sub, valueOf-twist, In, here, there, value-at-root, value-off-roots}
+use Rattle.algebra.proofs.Polynomials.{length-fromRoots}
 use Rattle.algebra.proofs.Pairing.{pairing}
 use Rattle.algebra.proofs.Weights.{countOf-ext, countOf-le, countOf-without, weight-short, zero-test, nonzero-test}
 
@@ -99,7 +100,8 @@ module _ {F : Type 0} (K : Field F) (n : ℕ) (α : F) (order : HasOrder (K .ops
   locator-at-other b p i l d = at (K .tested (b i)) refl
     where
       at : {t : Bool} → Tested 𝟘 (b i) t → K .ops .isZero (b i) ≡ t → b i ⊗ value (K .ops) (locator b p) (power (K .ops) α i) ≡ 𝟘
-      at (is-zero z) e = ap (λ (t : F). t ⊗ value (K .ops) (locator b p) (power (K .ops) α i)) z ∙ zero-mul K (value (K .ops) (locator b p) (power (K .ops) α i))
+      at (is-zero z) e =
+          ap (λ (t : F). t ⊗ value (K .ops) (locator b p) (power (K .ops) α i)) z ∙ zero-mul K (value (K .ops) (locator b p) (power (K .ops) α i))
       at (non-zero h) e =
           ap (λ (t : F). b i ⊗ t) (value-at-root K (in-powersWhere (K .ops) α (elsewhere b p) n i l
           (ap₂ (λ (s t : Bool). not s && not t) e (ne-eqb i p d))))
@@ -175,7 +177,8 @@ module _ {F : Type 0} (K : Field F) (n : ℕ) (α : F) (order : HasOrder (K .ops
   pub coefficients-of-vanishing : (c r : ℕ) (x : ℕ → F) → r ≤ n → ((s : ℕ) → s < r → valueOf (K .ops) r x (power (K .ops) α (c + s)) ≡ 𝟘)
       → (i : ℕ) → i < r → x i ≡ 𝟘
   coefficients-of-vanishing c r x fits vanishes i l =
-      sym (inside i l) ∙ zero-of-vanishing c r padded (λ s h. short (power (K .ops) α (c + s)) ∙ vanishes s h) (weight-short K r n padded (λ j u v. outside j u)) i (omega arith)
+      sym (inside i l) ∙ zero-of-vanishing c r padded (λ s h. short (power (K .ops) α (c + s)) ∙ vanishes s h)
+      (weight-short K r n padded (λ j u v. outside j u)) i (omega arith)
     where
       padded : ℕ → F
       padded j = pick (ltb j r) (x j) 𝟘
@@ -197,6 +200,7 @@ module _ {F : Type 0} (K : Field F) (n : ℕ) (α : F) (order : HasOrder (K .ops
       (zero-of-vanishing 0 n (λ j. sub (K .ops) (a j) (b j))
       (λ s h. valueOf-sub K n a b (power (K .ops) α (0 + s))
       ∙ ap (λ (t : F). sub (K .ops) (valueOf (K .ops) n a (power (K .ops) α (0 + s))) t)
-      (ap (λ (t : ℕ). valueOf (K .ops) n b (power (K .ops) α t)) (nat-zero-add s) ∙ sym (same s h) ∙ ap (λ (t : ℕ). valueOf (K .ops) n a (power (K .ops) α t)) (sym (nat-zero-add s)))
+      (ap (λ (t : ℕ). valueOf (K .ops) n b (power (K .ops) α t)) (nat-zero-add s) ∙ sym (same s h)
+      ∙ ap (λ (t : ℕ). valueOf (K .ops) n a (power (K .ops) α t)) (sym (nat-zero-add s)))
       ∙ add-neg K (valueOf (K .ops) n a (power (K .ops) α (0 + s))))
       (countOf-le n (λ j. not (K .ops .isZero (sub (K .ops) (a j) (b j))))) i l)

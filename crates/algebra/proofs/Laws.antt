@@ -139,7 +139,8 @@ module _ {F : Type 0} (K : Field F) where
   sub-self = add-neg
 
   pub eq-of-sub : (a b : F) → sub (K .ops) a b ≡ 𝟘 → a ≡ b
-  eq-of-sub a b e = sym (add-zero a) ∙ ap (λ (t : F). a ⊕ t) (sym (add-neg b) ∙ add-comm b (⊖ b)) ∙ sym (add-assoc a (⊖ b) b) ∙ ap (λ (t : F). t ⊕ b) e ∙ zero-add b
+  eq-of-sub a b e = sym (add-zero a) ∙ ap (λ (t : F). a ⊕ t) (sym (add-neg b) ∙ add-comm b (⊖ b)) ∙ sym (add-assoc a (⊖ b) b) ∙ ap (λ (t : F). t ⊕ b) e
+      ∙ zero-add b
 
   -- From a - b = d to a = b + d; subtracting a sum.
   pub add-of-sub : (a b d : F) → a ⊕ ⊖ b ≡ d → a ≡ b ⊕ d

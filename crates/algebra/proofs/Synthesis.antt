@@ -81,7 +81,8 @@ module _ {F : Type 0} (K : Field F) where
         → valueOf (K .ops) n (synthesis (suc k) v) (pow s) ≡ valueOf (K .ops) n (synthesis k v) (pow (suc s)) ⊕ ⊖ v k ⊗ ones n (pow (suc s))
     unfolding synthesis falling power
     synthesis-step k v s =
-        valueOf-ext (K .ops) n (synthesis (suc k) v) (λ i. (synthesis k v i ⊕ ⊖ v k ⊗ 𝟙) ⊗ pow i) (pow s) (λ i l. regroup (falling (K .ops) k v (pow i)) (v k) (pow i))
+        valueOf-ext (K .ops) n (synthesis (suc k) v) (λ i. (synthesis k v i ⊕ ⊖ v k ⊗ 𝟙) ⊗ pow i) (pow s)
+        (λ i l. regroup (falling (K .ops) k v (pow i)) (v k) (pow i))
         ∙ valueOf-twist K n (λ i. synthesis k v i ⊕ ⊖ v k ⊗ 𝟙) α (pow s)
         ∙ valueOf-add K n (synthesis k v) (λ i. ⊖ v k ⊗ 𝟙) (pow (suc s))
         ∙ ap (λ (t : F). valueOf (K .ops) n (synthesis k v) (pow (suc s)) ⊕ t) (valueOf-scale K n (⊖ v k) (λ i. 𝟙) (pow (suc s)))
@@ -93,7 +94,8 @@ module _ {F : Type 0} (K : Field F) where
     unfolding synthesis falling
     synthesis-low zero v s l = valueOf-zeros K n (synthesis 0 v) (pow s) (λ i h. neg-zero K)
     synthesis-low (suc k) v s l =
-        synthesis-step k v s ∙ ap₂ (λ (a b : F). a ⊕ ⊖ v k ⊗ b) (synthesis-low k v (suc s) (omega arith)) (ones-off (suc s) (omega arith) (omega arith)) ∙ both-zero (v k)
+        synthesis-step k v s ∙ ap₂ (λ (a b : F). a ⊕ ⊖ v k ⊗ b) (synthesis-low k v (suc s) (omega arith)) (ones-off (suc s) (omega arith) (omega arith))
+        ∙ both-zero (v k)
 
     pub synthesis-high : (k : ℕ) (v : ℕ → F) (e : ℕ) → k ≤ n → e < k → valueOf (K .ops) n (synthesis k v) (pow (n - k + e)) ≡ v e
     unfolding power

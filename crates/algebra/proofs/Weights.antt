@@ -1,6 +1,6 @@
 -- Totals of numbers, counts of the places at which a test holds, and weights of sequences over a field.
--- Holds: `total-ext`, `total-mono`, `total-most`, `total-add`, `total-scale`, `total-split`, `total-blocks`; `countOf-ext`, `one-le`, `countOf-le`, `countOf-mono`,
--- `countOf-without`; `zero-test`, `nonzero-test`, `zero-uncounted`, `weight-short`;
+-- Holds: `total-ext`, `total-mono`, `total-most`, `total-add`, `total-scale`, `total-split`, `total-blocks`; `countOf-ext`, `one-le`, `countOf-le`,
+-- `countOf-mono`, `countOf-without`; `zero-test`, `nonzero-test`, `zero-uncounted`, `weight-short`;
 -- `distance-le`; `total-none`, `total-same`, `total-more` (as a loop adds up).
 use mathlib.Core.Path.{_≡_, refl, sym, ap, ap₂, subst, _∙_}
 use mathlib.Core.Bool.{Bool, true, false, not, _&&_}
@@ -135,7 +135,8 @@ module _ {F : Type 0} (K : Field F) where
       at : Dec (n < r) → weight (K .ops) n b ≤ r → weight (K .ops) n b + pick (not (K .ops .isZero (b n))) 1 0 ≤ r
       at (yes l) rest = omega (arith, countOf-le n (λ i. not (K .ops .isZero (b i))), one-le (not (K .ops .isZero (b n))))
       at (no d) rest =
-          let gone : _≡_ {A = ℕ} (pick (not (K .ops .isZero (b n))) 1 0) 0 = ap {B = ℕ} (λ (t : Bool). pick (not t) 1 0) (zero-test (b n) (h n (omega arith) (omega arith))) in
+          let gone : _≡_ {A = ℕ} (pick (not (K .ops .isZero (b n))) 1 0) 0 =
+          ap {B = ℕ} (λ (t : Bool). pick (not t) 1 0) (zero-test (b n) (h n (omega arith) (omega arith))) in
           omega arith
 
 -- A count of what each place adds: none yet, one more place that adds nothing, one more that adds v.

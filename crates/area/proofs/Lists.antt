@@ -49,7 +49,8 @@ part-equal a b n la lb h =
     (λ i l. let below : i < n = omega arith in getD-take n a i 0 below ∙ (h i below ∙ sym (getD-take n b i 0 below)))
 
 -- A copy into an area of the same length is the whole source.
-pub copied-whole : (source area after : List ℕ) → length area ≡ length source → after ≡ take (length source) source ++ drop (length source) area → after ≡ source
+pub copied-whole : (source area after : List ℕ) → length area ≡ length source → after ≡ take (length source) source ++ drop (length source) area
+    → after ≡ source
 copied-whole source area after same e =
     let short : length area ≤ length source = omega arith in
     e ∙ (ap₂ _++_ (take-length source) (drop-of-length-le area short) ∙ append-nil source)

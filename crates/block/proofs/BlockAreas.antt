@@ -6,7 +6,8 @@ use lib.ListN.{length}
 use Rattle.code.specs.declared.Setting.{Setting}
 use Rattle.block.specs.parts.BlockAreas.{BlockAreas}
 
-pub block-areas-kept : {p : Setting} {series locator values information series' locator' values' information' : List ℕ} → BlockAreas p series locator values information
+pub block-areas-kept : {p : Setting} {series locator values information series' locator' values' information' : List ℕ}
+    → BlockAreas p series locator values information
     → length series' ≡ length series → length locator' ≡ length locator → length values' ≡ length values → length information' ≡ length information
     → BlockAreas p series' locator' values' information'
 block-areas-kept W s l v i =

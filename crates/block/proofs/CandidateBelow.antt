@@ -25,7 +25,8 @@ use Rattle.code.specs.parts.Sound.{Sound}
 use Rattle.code.proofs.Certainty.{weight-apart}
 use Rattle.code.proofs.Cost.{cost-same, byteCost, bytes-apart}
 use Rattle.code.proofs.Recovery.{recovered-step}
-use Rattle.code.proofs.CodeBelow.{laws, fieldOf, rootOf, orderAt, overField, lifted, timesG-number, combination-number, ending-number, received, received-number, value-number}
+use Rattle.code.proofs.CodeBelow.{laws, fieldOf, rootOf, orderAt, overField, lifted, timesG-number, combination-number, ending-number, received}
+use Rattle.code.proofs.CodeBelow.{received-number, value-number}
 use Rattle.code.proofs.Settings.{level-fits, information-fits}
 use Rattle.block.specs.parts.Locator.{Located, Extended}
 use Rattle.block.specs.parts.LocatorAreas.{LocatorFound}
@@ -64,7 +65,8 @@ module _ (p : Setting) (S : Sound p) where
       where
         above : Recovered over (up q o B v) (suc j) (up q o B y)
         above =
-            recovered-step (fieldOf p S) (rootOf p S) (p .n) (p .k) (p .m) (up q o B v) (up q o B x) (up q o B y) j l (information-fits p S) (recovered-up j x x-below h)
+            recovered-step (fieldOf p S) (rootOf p S) (p .n) (p .k) (p .m) (up q o B v) (up q o B x) (up q o B y) j l (information-fits p S)
+            (recovered-up j x x-below h)
             (λ r s d. ap (el q o B) (same r s d))
             (raise q o B _ _ (down q o B (y (p .k - suc j)) (y-below (p .k - suc j)))
             (add-down q o B _ _ (down q o B (x (p .k - suc j)) (x-below (p .k - suc j)))
@@ -75,7 +77,8 @@ module _ (p : Setting) (S : Sound p) where
   extended-up L r m σ c d values bσ bc bd bv h =
       record {
         kept = λ j l. ap (el q o B) (h .kept j l);
-        recurs = λ u l. raise q o B _ _ (down q o B (d (r + 1 + u)) (bd (r + 1 + u))) (neg-down q o B _ (tail-down q o B σ d bσ bd L (r + 1 + u))) (h .recurs u l);
+        recurs = λ u l. raise q o B _ _ (down q o B (d (r + 1 + u)) (bd (r + 1 + u))) (neg-down q o B _ (tail-down q o B σ d bσ bd L (r + 1 + u)))
+            (h .recurs u l);
         difference = λ u l. raise q o B _ _ (down q o B (values u) (bv u))
             (add-down q o B _ _ (down q o B (c (r + 1 + u)) (bc (r + 1 + u))) (tail-down q o B σ d bσ bd L (r + 1 + u))) (h .difference u l);
       }
@@ -95,21 +98,27 @@ module _ (p : Setting) (S : Sound p) where
           omega (
             arith,
             weight-apart (K q o B) (byteCost q) (bytes-apart q) (p .n) (at block) (received p S block) (combination over l (lifted p S x)) error (λ i. refl),
-            total-most (p .n) 0 (λ i. byteCost q (at block i) (received p S block i)) (λ i h. omega (arith, cost-same q (at block i) (number (received p S block i)) (sym (received-number p S block symbols i)))),
-            total-ext (p .n) (λ i. byteCost q (at block i) (combination over l (lifted p S x) i)) (λ i. symbolCost q (at block i) (combination (codeOf p) l x i))
+            total-most (p .n) 0 (λ i. byteCost q (at block i) (received p S block i))
+                (λ i h. omega (arith, cost-same q (at block i) (number (received p S block i)) (sym (received-number p S block symbols i)))),
+            total-ext (p .n) (λ i. byteCost q (at block i) (combination over l (lifted p S x) i))
+                (λ i. symbolCost q (at block i) (combination (codeOf p) l x i))
                 (λ i h. ap (symbolCost q (at block i)) (combination-number p S x l i information)),
           )
 
       all-known : p .n - (l + 1) * p .k + 1 - 1 ≡ p .n - (l + 1) * p .k
       all-known = omega arith
 
-      module _ (series locator former : List ℕ) (L : ℕ) (close : levelCost p (at block) l x < levelDistance (p .n) (p .k) l) (located : LocatorFound q series (p .n - (l + 1) * p .k + 1) L locator former) where
-        values-up : (count : ℕ) → SpectrumOf q block count series → (s : ℕ) → s < count → up q o B (at series) (suc s) ≡ spectrum (fieldOf p S) (p .n) (rootOf p S) (orderAt p S) (received p S block) s
+      module _ (series locator former : List ℕ) (L : ℕ) (close : levelCost p (at block) l x < levelDistance (p .n) (p .k) l)
+          (located : LocatorFound q series (p .n - (l + 1) * p .k + 1) L locator former) where
+        values-up : (count : ℕ) → SpectrumOf q block count series → (s : ℕ) → s < count
+            → up q o B (at series) (suc s) ≡ spectrum (fieldOf p S) (p .n) (rootOf p S) (orderAt p S) (received p S block) s
         values-up count spectral s h =
-            raise q o B _ _ (down q o B (at series (suc s)) (spectral .below (suc s))) (value-number p S block symbols long s) (ap (at series) (sym (add-one s)) ∙ spectral .values s h)
+            raise q o B _ _ (down q o B (at series (suc s)) (spectral .below (suc s))) (value-number p S block symbols long s)
+            (ap (at series) (sym (add-one s)) ∙ spectral .values s h)
 
         locator-up : ((i : ℕ) → at series i < q)
-            → Located (K q o B .ops) (up q o B (at series)) (p .n - (l + 1) * p .k) L (located .place) (el q o B (located .scale)) (up q o B (at locator)) (up q o B (at former))
+            → Located (K q o B .ops) (up q o B (at series)) (p .n - (l + 1) * p .k) L (located .place) (el q o B (located .scale)) (up q o B (at locator))
+            (up q o B (at former))
         locator-up below =
             located-up q o B (at series) (at locator) (at former) (located .scale)
             below (located .pair .locator-below) (located .pair .former-below) (located .pair .scale-below)
@@ -141,5 +150,6 @@ module _ (p : Setting) (S : Sound p) where
             (extended-up L (p .n - (l + 1) * p .k) ((l + 1) * p .k) (at locator) (at series) (at after) (at values)
             (located .pair .locator-below) (spectral .below) (continued .below) (continued .values-below) (continued .extended))
             b (up q o B (view (p .k) found b)) below
-            (recovered-up (view (p .k) values b) (λ e. continued .values-below (b * p .k + e)) (p .k) (view (p .k) found b) (λ r. reads .below (b * p .k + r)) (reads .recovered b (omega arith)))
+            (recovered-up (view (p .k) values b) (λ e. continued .values-below (b * p .k + e)) (p .k) (view (p .k) found b) (λ r. reads .below (b * p .k + r))
+            (reads .recovered b (omega arith)))
             a inside)

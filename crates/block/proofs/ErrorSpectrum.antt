@@ -125,8 +125,10 @@ module _ {F : Type 0} (K : Field F) (n : ℕ) (α : F) (order : HasOrder (K .ops
         (λ a s. ap (λ (t : ℕ). σ t ⊗ spectrum e (j - t)) (sym (add-one a))))
 
     -- The series continued by the recurrence is the spectrum of e.
-    module _ (d : ℕ → F) (values : ℕ → F) (m : ℕ) (extended : Extended (K .ops) L r m σ c d values) (w : ℕ) (light : weight (K .ops) n e ≤ w) (small : w + w ≤ r) where
-      tails : (s : ℕ) → L ≤ s → s < r + m → ((t : ℕ) → t < s → t < r + m → d (suc t) ≡ spectrum e t) → tail (K .ops) L σ d (suc s) ≡ tail (K .ops) L σ (spectrum e) s
+    module _ (d : ℕ → F) (values : ℕ → F) (m : ℕ) (extended : Extended (K .ops) L r m σ c d values) (w : ℕ) (light : weight (K .ops) n e ≤ w)
+        (small : w + w ≤ r) where
+      tails : (s : ℕ) → L ≤ s → s < r + m → ((t : ℕ) → t < s → t < r + m → d (suc t) ≡ spectrum e t)
+          → tail (K .ops) L σ d (suc s) ≡ tail (K .ops) L σ (spectrum e) s
       unfolding tail
       tails s h l earlier =
           sum-ext (K .ops) L (λ a. σ (a + 1) ⊗ d (suc s - (a + 1))) (λ a. σ (a + 1) ⊗ spectrum e (s - (a + 1)))

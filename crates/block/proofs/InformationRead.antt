@@ -38,7 +38,8 @@ module _ (q : ℕ) (good : Good q) where
   unfolding falling
   falling-more v y e s more r h a t =
       record {
-        same = t .same ∙ ap (λ (u : ℕ). opsOf q .mul u y) (a .same ∙ ap (λ (u : ℕ). opsOf q .add u (v e)) (h .same)) ∙ ap (λ (u : ℕ). falling (opsOf q) u v y) (sym (add-one e));
+        same = t .same ∙ ap (λ (u : ℕ). opsOf q .mul u y) (a .same ∙ ap (λ (u : ℕ). opsOf q .add u (v e)) (h .same))
+            ∙ ap (λ (u : ℕ). falling (opsOf q) u v y) (sym (add-one e));
         below = t .below;
       }
 
@@ -56,7 +57,8 @@ module _ (p : Setting) (S : Sound p) (values : List ℕ) (values-below : AllBelo
   pub block-none : (from : ℕ) (information : List ℕ) → AllBelow (p .q) information → BlockRead p from 0 values information information
   block-none from information h = record { below = h; recovered = record { symbol = λ j l. absurd (omega arith) }; kept = λ i l. refl }
 
-  pub block-more : (from j point v : ℕ) (before information : List ℕ) → from + p .k ≤ length information → j < p .k → BlockRead p from j values before information
+  pub block-more : (from j point v : ℕ) (before information : List ℕ) → from + p .k ≤ length information → j < p .k
+      → BlockRead p from j values before information
       → Is (p .q) point (power (opsOf (p .q)) (opsOf (p .q) .inv alpha) (j + 1)) → Is (p .q) v (lacking p values from point information (j + 1))
       → BlockRead p from (j + 1) values before (set information (from + (p .k - (j + 1))) v)
   unfolding ending
@@ -85,19 +87,23 @@ module _ (p : Setting) (S : Sound p) (values : List ℕ) (values-below : AllBelo
       after-below : AllBelow (p .q) after
       after-below = below-set (p .q) information place v (h .below) (is .below)
 
-  pub is-lacking : (from point j sum end known lack r : ℕ) (information : List ℕ) → Is (p .q) sum (falling (opsOf (p .q)) (p .k) (λ e. at values (from + e)) point)
-      → Is (p .q) end (opsOf (p .q) .neg sum) → Is (p .q) known (timesG (codeOf p) (λ a. at information (from + a)) 0 (p .n - j)) → Is (p .q) lack (sub (opsOf (p .q)) end known)
+  pub is-lacking : (from point j sum end known lack r : ℕ) (information : List ℕ)
+      → Is (p .q) sum (falling (opsOf (p .q)) (p .k) (λ e. at values (from + e)) point)
+      → Is (p .q) end (opsOf (p .q) .neg sum) → Is (p .q) known (timesG (codeOf p) (λ a. at information (from + a)) 0 (p .n - j))
+      → Is (p .q) lack (sub (opsOf (p .q)) end known)
       → Is (p .q) r (opsOf (p .q) .add (at information (from + (p .k - j))) lack) → Is (p .q) r (lacking p values from point information j)
   is-lacking from point j sum end known lack r information s e g l h =
       record {
-        same = h .same ∙ ap (opsOf (p .q) .add (at information (from + (p .k - j)))) (l .same ∙ ap₂ (sub (opsOf (p .q))) (e .same ∙ ap (opsOf (p .q) .neg) (s .same)) (g .same));
+        same = h .same ∙ ap (opsOf (p .q) .add (at information (from + (p .k - j))))
+            (l .same ∙ ap₂ (sub (opsOf (p .q))) (e .same ∙ ap (opsOf (p .q) .neg) (s .same)) (g .same));
         below = h .below;
       }
 
   pub read-none : (w : ℕ) → InformationRead p 0 values (replicate w 0)
   read-none w = record { below = zeros-below (p .q) (S .good) w; recovered = λ b l. absurd (omega arith) }
 
-  pub read-more : (b : ℕ) (before after : List ℕ) → InformationRead p b values before → BlockRead p (b * p .k) (p .k) values before after → InformationRead p (b + 1) values after
+  pub read-more : (b : ℕ) (before after : List ℕ) → InformationRead p b values before → BlockRead p (b * p .k) (p .k) values before after
+      → InformationRead p (b + 1) values after
   read-more b before after h new = record { below = new .below; recovered = λ a l. by-block a l (ℕ-discrete a b) }
     where
       by-block : (a : ℕ) → a < b + 1 → Dec (a ≡ b) → Recovered (codeOf p) (view (p .k) values a) (p .k) (view (p .k) after a)

@@ -1,6 +1,6 @@
 -- The steps of the locator on numbers below q, carried over from the field of the pairs (number, below q).
--- Holds: `raise` and `fall` (equations up to the field and down again), `up` (a sequence of numbers as one of elements), `sum-down`, `convolution-down`, `tail-down`,
--- `located-up`; the steps `start-below`, `kept-below`, `corrected-below`, `grown-below`.
+-- Holds: `raise` and `fall` (equations up to the field and down again), `up` (a sequence of numbers as one of elements), `sum-down`, `convolution-down`,
+-- `tail-down`, `located-up`; the steps `start-below`, `kept-below`, `corrected-below`, `grown-below`.
 use mathlib.Core.Path.{_≡_, sym, ap, ap₂, subst, _∙_}
 use Prim.Native.Nat.{ℕ, zero, suc, _+_, _-_, _≤_, _<_}
 use native.Mathlib.Omega.{arith}
@@ -137,7 +137,8 @@ module _ (q : ℕ) (o : Ops ℕ) (B : FieldBelow q o) where
     unfolding product
     factor-up = raise _ _ (down factor bf) (mul-down _ _ discrepancy-down (down scale bs)) multiplied
 
-    difference-down : (x y z : Element q) {a b d : ℕ} → number x ≡ a → number y ≡ b → number z ≡ d → number (sub (K .ops) x (K .ops .mul y z)) ≡ sub o a (o .mul b d)
+    difference-down : (x y z : Element q) {a b d : ℕ} → number x ≡ a → number y ≡ b → number z ≡ d
+        → number (sub (K .ops) x (K .ops .mul y z)) ≡ sub o a (o .mul b d)
     difference-down x y z hx hy hz = add-down _ _ hx (neg-down _ (mul-down y z hy hz))
 
     subtracted-up : Subtracted (K .ops) product shift count (up τ) (up σ) (up σ')
@@ -163,4 +164,5 @@ module _ (q : ℕ) (o : Ops ℕ) (B : FieldBelow q o) where
         (located-grown K (up c) s L p (el scale) (up σ) (up τ) (located-up c σ τ scale bc bσ bτ bs h) shift count (up σ') at-place enough subtracted-up
         (el (o .inv discrepancy)) l
         (mul-comm K (el (o .inv discrepancy)) (convolution (K .ops) (up σ) (up c) (suc s))
-        ∙ raise _ _ (mul-down _ _ discrepancy-down (down (o .inv discrepancy) (B .inv-below discrepancy bd))) one-down (B .inverse discrepancy bd nonzero ∙ sym (B .one-is))))
+        ∙ raise _ _ (mul-down _ _ discrepancy-down (down (o .inv discrepancy) (B .inv-below discrepancy bd))) one-down
+        (B .inverse discrepancy bd nonzero ∙ sym (B .one-is))))

@@ -32,7 +32,8 @@ module _ (q : ℕ) (good : Good q) where
         located = start-below q (opsOf q) B (at series) (at l) (at f) h (unit-below l u) (unit-below f v) first (u .first) (v .first) (u .rest) (v .rest);
       }
 
-  module _ {series locator former : List ℕ} {s next L p scale rest discrepancy : ℕ} (step : suc s ≡ next) (hs : AllBelow q series) (h : LocatorPair q series s L p scale locator former)
+  module _ {series locator former : List ℕ} {s next L p scale rest discrepancy : ℕ} (step : suc s ≡ next) (hs : AllBelow q series)
+      (h : LocatorPair q series s L p scale locator former)
       (sums : Is q rest (tail (opsOf q) L (at locator) (at series) next)) (fails : Is q discrepancy (opsOf q .add (at series next) rest)) where
     discrepancy-is : discrepancy ≡ opsOf q .add (at series (suc s)) (tail (opsOf q) L (at locator) (at series) (suc s))
     discrepancy-is =

@@ -1,5 +1,6 @@
 -- Berlekamp and Massey's algorithm, one place at a time, over any field.
--- Holds: `located-start`; the three outcomes at a place: `located-kept`, `located-corrected`, `located-grown`; `convolution-short`, `convolution-tail`; `located-ext`.
+-- Holds: `located-start`; the three outcomes at a place: `located-kept`, `located-corrected`, `located-grown`; `convolution-short`, `convolution-tail`;
+-- `located-ext`.
 use mathlib.Core.Path.{_≡_, refl, sym, ap, ap₂, _∙_}
 use Prim.Native.Nat.{ℕ, zero, suc, _+_, _-_, _≤_, _<_}
 use native.Mathlib.Nat.{add-suc as nat-add-suc}
@@ -182,7 +183,8 @@ module _ {F : Type 0} (K : Field F) where
             up i e (yes last) =
                 let same : i ≡ p = omega arith in
                 moved i
-                ∙ ap₂ (λ (x y : ℕ). sub (K .ops) (convolution (K .ops) σ c x) (convolution (K .ops) σ c (suc s) ⊗ scale ⊗ convolution (K .ops) τ c y)) (e ∙ last) same
+                ∙ ap₂ (λ (x y : ℕ). sub (K .ops) (convolution (K .ops) σ c x) (convolution (K .ops) σ c (suc s) ⊗ scale ⊗ convolution (K .ops) τ c y))
+                (e ∙ last) same
                 ∙ undo (convolution (K .ops) σ c (suc s)) scale (convolution (K .ops) τ c p) (located .former-discrepancy)
             up i e (no d) =
                 moved i
@@ -195,7 +197,8 @@ module _ {F : Type 0} (K : Field F) where
             at (yes b) =
                 convolution-ext (K .ops) σ' σ c c j (λ i u. S .before i (omega arith)) (λ i u. refl)
                 ∙ located .annihilates j (omega arith) (omega (arith, located .placed))
-            at (no d) = let place : shift + (j - shift) ≡ j = omega arith in ap (convolution (K .ops) σ' c) (sym place) ∙ up (j - shift) place (ℕ-discrete j (suc s))
+            at (no d) =
+                let place : shift + (j - shift) ≡ j = omega arith in ap (convolution (K .ops) σ' c) (sym place) ∙ up (j - shift) place (ℕ-discrete j (suc s))
 
       corrected-first : σ' 0 ≡ 𝟙
       corrected-first = S .before 0 (omega (arith, located .placed)) ∙ located .first

@@ -38,7 +38,8 @@ module _ (q : ℕ) where
 
   -- A locator for the first values of a block's spectrum, where more of them stand.
   pub found-longer : (block : List ℕ) (known more : ℕ) (series longer : List ℕ) {L : ℕ} {locator former : List ℕ} → known ≤ more
-      → SpectrumOf q block known series → SpectrumOf q block more longer → LocatorFound q series (known + 1) L locator former → LocatorFound q longer (known + 1) L locator former
+      → SpectrumOf q block known series → SpectrumOf q block more longer → LocatorFound q series (known + 1) L locator former
+      → LocatorFound q longer (known + 1) L locator former
   found-longer block known more series longer up-to h k f =
       record {
         place = f .place;
@@ -82,7 +83,8 @@ module _ (q L r : ℕ) (locator before : List ℕ) where
         beyond = λ j l. refl;
       }
 
-  pub continued-more : (u : ℕ) (after values : List ℕ) (rest v w : ℕ) → Continued q L r u locator before after values → r + 1 + u < length after → u < length values
+  pub continued-more : (u : ℕ) (after values : List ℕ) (rest v w : ℕ) → Continued q L r u locator before after values → r + 1 + u < length after
+      → u < length values
       → Is q rest (tail (opsOf q) L (at locator) (at after) (r + 1 + u)) → Is q v (opsOf q .add (at after (r + 1 + u)) rest) → Is q w (opsOf q .neg rest)
       → Continued q L r (u + 1) locator before (set after (r + 1 + u) w) (set values u v)
   continued-more u after values rest v w h room values-room is-tail is-sum is-negative =
@@ -109,5 +111,6 @@ module _ (q L r : ℕ) (locator before : List ℕ) where
       later : ℕ → ℕ
       later t = tail (opsOf q) L (at locator) (at (set after (r + 1 + u) w)) (r + 1 + t)
 
-      tails : (t : ℕ) → t < u + 1 → tail (opsOf q) L (at locator) (at after) (r + 1 + t) ≡ tail (opsOf q) L (at locator) (at (set after (r + 1 + u) w)) (r + 1 + t)
+      tails : (t : ℕ) → t < u + 1 → tail (opsOf q) L (at locator) (at after) (r + 1 + t) ≡ tail (opsOf q) L (at locator) (at (set after (r + 1 + u) w))
+          (r + 1 + t)
       tails t l = tail-ext (opsOf q) L (at locator) (at after) (at (set after (r + 1 + u) w)) (r + 1 + t) (omega arith) (λ i s. sym (other i (omega arith)))

@@ -1,6 +1,7 @@
 -- Block facts over any field, α of order n and 1 ≤ k ≤ n (000, section 2 and Theorem 3.1): zeros of f, twist, spectrum.
--- Holds: `codeOver`; `timesG-ext` and `combination-ext` (only the information's symbols count); `generatorPolynomial-zero` and `generatorPolynomial-nonzero` (the zeros of f); `valueOf-timesG` (the value of x × G_j);
--- `spectrum-combination`, `combination-vanishes` and `combination-on-stretch` (the spectrum of a combination).
+-- Holds: `codeOver`; `timesG-ext` and `combination-ext` (only the information's symbols count); `generatorPolynomial-zero` and `generatorPolynomial-nonzero`
+-- (the zeros of f); `valueOf-timesG` (the value of x × G_j); `spectrum-combination`, `combination-vanishes` and `combination-on-stretch` (the spectrum of a
+-- combination).
 use mathlib.Core.Path.{_≡_, refl, sym, ap, ap₂, _∙_}
 use mathlib.Core.List.{List, _∷_, _++_}
 use Prim.Native.Nat.{ℕ, zero, suc, _+_, _-_, _*_, _≤_, _<_}
@@ -16,7 +17,8 @@ use Rattle.algebra.proofs.Laws.{Field, mul-zero, mul-comm, ring}
 use Rattle.algebra.proofs.HasOrder.{HasOrder}
 use Rattle.algebra.proofs.Sums.{sum-ext, sum-scale, sum-zeros, sum-single}
 use Rattle.algebra.proofs.Powers.{power-add, power-power, power-wraps}
-use Rattle.algebra.proofs.Polynomials.{valueOf-ext, valueOf-short, valueOf-scale, valueOf-twist, valueOf-of-sum, valueOf-is-sum, value-is-valueOf, value-shift, value-at-root, value-off-roots, length-fromRoots, In, here, there}
+use Rattle.algebra.proofs.Polynomials.{valueOf-ext, valueOf-short, valueOf-scale, valueOf-twist, valueOf-of-sum, valueOf-is-sum, value-is-valueOf}
+use Rattle.algebra.proofs.Polynomials.{value-shift, value-at-root, value-off-roots, length-fromRoots, In, here, there}
 use Rattle.code.specs.Code.{Code}
 use Rattle.code.specs.Generator.{points, generatorPolynomial, rowSymbol, timesG}
 use Rattle.code.specs.Level.{combination}
@@ -108,7 +110,8 @@ module _ {F : Type 0} (K : Field F) (α : F) (n k m : ℕ) where
   unfolding timesG
   valueOf-timesG x j y h =
       valueOf-of-sum K n k (λ r i. x r ⊗ rowSymbol c j r i) y
-      ∙ sum-ext (K .ops) k (λ r. valueOf (K .ops) n (λ i. x r ⊗ rowSymbol c j r i) y) (λ r. value (K .ops) (generatorPolynomial c) e ⊗ (x r ⊗ power (K .ops) e r))
+      ∙ sum-ext (K .ops) k (λ r. valueOf (K .ops) n (λ i. x r ⊗ rowSymbol c j r i) y)
+      (λ r. value (K .ops) (generatorPolynomial c) e ⊗ (x r ⊗ power (K .ops) e r))
       (λ r l. valueOf-scale K n (x r) (rowSymbol c j r) y ∙ ap (λ (t : F). x r ⊗ t) (valueOf-row j r y l h)
       ∙ row-step (x r) (power (K .ops) e r) (value (K .ops) (generatorPolynomial c) e))
       ∙ sum-scale K k (value (K .ops) (generatorPolynomial c) e) (λ r. x r ⊗ power (K .ops) e r)

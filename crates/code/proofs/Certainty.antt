@@ -2,7 +2,8 @@
 -- Received symbols are of any type R; `cost v a` is what receiving v costs where a was sent, and the only law used is that two different
 -- symbols cost at least 2 together. So a later meaning of cost changes no proof here.
 -- Holds: `weight-apart` (what two sequences cost together is at least twice the weight of their difference); `sent-difference` (transmissions that agree so far
--- differ by combinations); `costs-apart`; `block-certain` (two near messages have the same block); `agree-through` (near windows 0 .. j determine blocks 0 .. j).
+-- differ by combinations); `costs-apart`; `block-certain` (two near messages have the same block); `agree-through` (near windows 0 .. j determine blocks 0 ..
+-- j).
 use mathlib.Core.Path.{_≡_, sym, ap, ap₂, subst, _∙_}
 use mathlib.Core.Logic.{_⊎_, inl, inr}
 use mathlib.Core.Bool.{Bool, not}
@@ -135,7 +136,8 @@ module _ {F : Type 0} (K : Field F) (α : F) (n k m : ℕ) where
         subst (λ (t : ℕ). t ≤ costTo n cost w (sentSymbol c u) b l + costTo n cost w (sentSymbol c v) b l)
         (total-scale (suc l) 2 (levelDistance n k) ∙ ap (λ (t : ℕ). 2 * t) (sym (distancesTo-total l)))
         (subst (λ (t : ℕ). total (suc l) (λ s. 2 * levelDistance n k s) ≤ t)
-        (total-add (suc l) (λ s. total n (λ i. cost (w (b + s) i) (sentSymbol c u (b + s) i))) (λ s. total n (λ i. cost (w (b + s) i) (sentSymbol c v (b + s) i))))
+        (total-add (suc l) (λ s. total n (λ i. cost (w (b + s) i) (sentSymbol c u (b + s) i)))
+        (λ s. total n (λ i. cost (w (b + s) i) (sentSymbol c v (b + s) i))))
         (total-mono (suc l) (λ s. 2 * levelDistance n k s)
         (λ s. total n (λ i. cost (w (b + s) i) (sentSymbol c u (b + s) i)) + total n (λ i. cost (w (b + s) i) (sentSymbol c v (b + s) i)))
         (λ s h. block s (omega arith))))
@@ -158,7 +160,12 @@ module _ {F : Type 0} (K : Field F) (α : F) (n k m : ℕ) where
         block : (s : ℕ) → s ≤ m → 2 * levelDistance n k s
             ≤ total n (λ i. cost (w (b + s) i) (sentSymbol c u (b + s) i)) + total n (λ i. cost (w (b + s) i) (sentSymbol c v (b + s) i))
         block s h =
-            omega (arith, heavy s h, weight-apart K cost apart n (w (b + s)) (sentSymbol c u (b + s)) (sentSymbol c v (b + s)) (combination c s difference) (λ i. sent-difference u v b s i h agree))
+            omega (
+              arith,
+              heavy s h,
+              weight-apart K cost apart n (w (b + s)) (sentSymbol c u (b + s)) (sentSymbol c v (b + s)) (combination c s difference)
+                  (λ i. sent-difference u v b s i h agree),
+            )
 
     -- Some symbol of two blocks differs, or none does.
     compare : (x y : ℕ → F) (p : ℕ) → ((r : ℕ) → r < p → x r ≡ y r) ⊎ ((r : ℕ) × (r < p) × (x r ≡ y r → ⊥))

@@ -1,5 +1,7 @@
 -- The bridge for the code (see algebra/proofs/Below): what a setting's definitions give on numbers below q is what the abstract code gives on elements.
--- Holds: `transmission-long`; `fieldOf`, `rootOf`, `orderAt`, `overField`, `number-zero`, `number-sub`, `root-number`, `mapped-code`, `lifted`; `sent-number`, `timesG-number`, `combination-number`, `ending-number`, `received`, `received-number`, `value-number`, `rowSymbol-number`, `rowSymbol-below`; `transmission-view`, `transmission-length`, `sent-below`, `transmission-symbols`.
+-- Holds: `transmission-long`; `fieldOf`, `rootOf`, `orderAt`, `overField`, `number-zero`, `number-sub`, `root-number`, `mapped-code`, `lifted`;
+-- `sent-number`, `timesG-number`, `combination-number`, `ending-number`, `received`, `received-number`, `value-number`, `rowSymbol-number`,
+-- `rowSymbol-below`; `transmission-view`, `transmission-length`, `sent-below`, `transmission-symbols`.
 use mathlib.Core.Path.{_≡_, sym, ap, ap₂, subst, fun-ext, _∙_}
 use mathlib.Core.List.{List}
 use Prim.Native.Nat.{ℕ, _+_, _-_, _*_, _/_, _%_, _≤_, _<_}
@@ -152,7 +154,8 @@ module _ (p : Setting) (S : Sound p) where
       → view (p .n) (transmission p x) s i ≡ sentSymbol (codeOf p) (view (p .k) x) s i
   unfolding transmission
   transmission-view T x M s i l h =
-      view-tabulate (length x / p .k + p .m) (p .n) (sentSymbol (codeOf p) (view (p .k) x)) s i (subst (λ (t : ℕ). s < t + p .m) (sym (message-blocks T x M)) l) h
+      view-tabulate (length x / p .k + p .m) (p .n) (sentSymbol (codeOf p) (view (p .k) x)) s i
+      (subst (λ (t : ℕ). s < t + p .m) (sym (message-blocks T x M)) l) h
 
   pub transmission-length : (T : ℕ) (x : List ℕ) → Message p T x → length (transmission p x) ≡ (T + p .m) * p .n
   transmission-length T x M = transmission-long p x ∙ ap (λ (t : ℕ). (t + p .m) * p .n) (message-blocks T x M)

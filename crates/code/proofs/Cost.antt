@@ -97,7 +97,8 @@ module _ (p : Setting) (S : Sound p) where
     twice-distance l =
         cost-count (p .q) (windowLength p) (λ i. getD w (j * p .n + i) 0) (λ i. getD (transmission p x) (j * p .n + i) 0)
         ∙ total-blocks (p .m + 1) (p .n) (λ i. symbolCost (p .q) (getD w (j * p .n + i) 0) (getD (transmission p x) (j * p .n + i) 0))
-        ∙ ap (λ (t : ℕ). total t (λ s. total (p .n) (λ i. symbolCost (p .q) (getD w (j * p .n + (s * p .n + i)) 0) (getD (transmission p x) (j * p .n + (s * p .n + i)) 0)))) (add-one (p .m))
+        ∙ ap (λ (t : ℕ). total t (λ s. total (p .n) (λ i. symbolCost (p .q) (getD w (j * p .n + (s * p .n + i)) 0)
+        (getD (transmission p x) (j * p .n + (s * p .n + i)) 0)))) (add-one (p .m))
         ∙ total-ext (suc (p .m)) _ _ (λ s h. total-ext (p .n) _ _ (λ i u.
         let place : j * p .n + (s * p .n + i) ≡ (j + s) * p .n + i = omega arith in
         ap (λ (t : ℕ). symbolCost (p .q) (getD w t 0) (getD (transmission p x) t 0)) place

@@ -36,7 +36,8 @@ module _ (p : Setting) (S : Sound p) where
       let room : (j + 1) * p .k ≤ T * p .k = mul-le-mul-right (p .k) top in
       part-equal x y ((j + 1) * p .k) (omega (arith, fits-x .message-of .long)) (omega (arith, fits-y .message-of .long))
       (messages-agree p S T x y (fits-x .message-of) (fits-y .message-of) w (j + 1)
-      (λ i h. subst (λ (t : ℕ). t < distancesTo (p .n) (p .k) (p .m)) (alike-window p v w x j i alike (omega arith)) (fits-near p S T v x fits-x i (omega arith)))
+      (λ i h. subst (λ (t : ℕ). t < distancesTo (p .n) (p .k) (p .m)) (alike-window p v w x j i alike (omega arith))
+      (fits-near p S T v x fits-x i (omega arith)))
       (λ i h. fits-near p S T w y fits-y i (omega arith)))
 
   pub at-most-one-fits : AtMostOneFits p

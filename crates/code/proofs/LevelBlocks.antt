@@ -26,25 +26,30 @@ use Rattle.code.proofs.Blocks.{combination-vanishes}
 use Rattle.code.proofs.LevelCode.{informationOf, level-code}
 use Rattle.code.proofs.Naturality.{combination-natural}
 use Rattle.code.proofs.Settings.{soundOf, level-fits}
-use Rattle.code.proofs.CodeBelow.{laws, fieldOf, rootOf, orderAt, overField, keeps, number-zero, mapped-code, lifted, combination-number, received, received-number, value-number}
+use Rattle.code.proofs.CodeBelow.{laws, fieldOf, rootOf, orderAt, overField, keeps, number-zero, mapped-code, lifted, combination-number, received}
+use Rattle.code.proofs.CodeBelow.{received-number, value-number}
 
 module _ (p : Setting) (S : Sound p) (l : ℕ) (fits : (l + 1) * p .k ≤ p .n) (block : List ℕ) (long : length block ≡ p .n) (symbols : Symbols (p .q) block) where
-  vanishes-over : Vanishes p l block → (s : ℕ) → s < p .n - (l + 1) * p .k → valueOf (fieldOf p S .ops) (p .n) (received p S block) (power (fieldOf p S .ops) (rootOf p S) s) ≡ fieldOf p S .ops .zero
+  vanishes-over : Vanishes p l block → (s : ℕ) → s < p .n - (l + 1) * p .k
+      → valueOf (fieldOf p S .ops) (p .n) (received p S block) (power (fieldOf p S .ops) (rootOf p S) s) ≡ fieldOf p S .ops .zero
   vanishes-over zeros s h = number-injective _ _ (value-number p S block symbols long s ∙ zeros s h ∙ sym (number-zero p S))
 
   -- A block of the level vanishes there.
   pub level-vanishes : InLevel p l block → Vanishes p l block
   level-vanishes C s h =
       sym (value-number p S block symbols long s)
-      ∙ ap number (valueOf-ext (fieldOf p S .ops) (p .n) (received p S block) (combination (overField p S) l (lifted p S (C .information))) (power (fieldOf p S .ops) (rootOf p S) s) same-element
+      ∙ ap number (valueOf-ext (fieldOf p S .ops) (p .n) (received p S block) (combination (overField p S) l (lifted p S (C .information)))
+      (power (fieldOf p S .ops) (rootOf p S) s) same-element
       ∙ combination-vanishes (fieldOf p S) (rootOf p S) (p .n) (p .k) (p .m) l (lifted p S (C .information)) s fits h)
       ∙ number-zero p S
     where
       same-element : (i : ℕ) → i < p .n → received p S block i ≡ combination (overField p S) l (lifted p S (C .information)) i
-      same-element i u = number-injective _ _ (received-number p S block symbols i ∙ C .same i u ∙ sym (combination-number p S (C .information) l i (λ b r u v. C .below b r)))
+      same-element i u =
+          number-injective _ _ (received-number p S block symbols i ∙ C .same i u ∙ sym (combination-number p S (C .information) l i (λ b r u v. C .below b r)))
 
   -- A block that vanishes there, and is not zero, has at least d_l nonzero symbols.
-  pub vanishing-heavy : Vanishes p l block → (i : ℕ) → i < p .n → (getD block i 0 ≡ 0 → ⊥) → levelDistance (p .n) (p .k) l ≤ countOf (p .n) (λ i. not (eqb (getD block i 0) 0))
+  pub vanishing-heavy : Vanishes p l block → (i : ℕ) → i < p .n → (getD block i 0 ≡ 0 → ⊥)
+      → levelDistance (p .n) (p .k) l ≤ countOf (p .n) (λ i. not (eqb (getD block i 0) 0))
   vanishing-heavy zeros i u nonzero =
       let light : countOf (p .n) (λ i. not (eqb (getD block i 0) 0)) < levelDistance (p .n) (p .k) l → ⊥ =
       λ few. nonzero (sym (received-number p S block symbols i)
@@ -57,7 +62,8 @@ module _ (p : Setting) (S : Sound p) (l : ℕ) (fits : (l + 1) * p .k ≤ p .n) 
     where
       weight-same : weight (fieldOf p S .ops) (p .n) (received p S block) ≡ countOf (p .n) (λ i. not (eqb (getD block i 0) 0))
       weight-same =
-          countOf-ext (p .n) _ _ (λ i h. ap not (keeps p S .on-test ((received p S block) i) ∙ (ap (opsOf (p .q) .isZero) (received-number p S block symbols i) ∙ laws p S .test-is (getD block i 0))))
+          countOf-ext (p .n) _ _ (λ i h. ap not (keeps p S .on-test ((received p S block) i)
+          ∙ (ap (opsOf (p .q) .isZero) (received-number p S block symbols i) ∙ laws p S .test-is (getD block i 0))))
 
   -- A block that vanishes there is of the level.
   pub vanishing-in-level : Vanishes p l block → InLevel p l block
@@ -67,11 +73,13 @@ module _ (p : Setting) (S : Sound p) (l : ℕ) (fits : (l + 1) * p .k ≤ p .n) 
         below = λ b r. x b r .1;
         same = λ i u. sym (received-number p S block symbols i)
             ∙ (ap number (sym (level-code (fieldOf p S) (rootOf p S) (p .n) (p .k) (p .m) (orderAt p S) l (received p S block) fits (vanishes-over zeros) i u))
-            ∙ (combination-natural (overField p S) (opsOf (p .q)) number (keeps p S) l x i ∙ ap (λ (c : Code ℕ). combination c l (λ b r. number (x b r)) i) (mapped-code p S)));
+            ∙ (combination-natural (overField p S) (opsOf (p .q)) number (keeps p S) l x i
+            ∙ ap (λ (c : Code ℕ). combination c l (λ b r. number (x b r)) i) (mapped-code p S)));
       }
     where
       x : ℕ → ℕ → Element (p .q)
-      x = informationOf (fieldOf p S) (rootOf p S) (p .n) (p .k) (p .m) (orderAt p S) l (λ s. valueOf (fieldOf p S .ops) (p .n) (received p S block) (power (fieldOf p S .ops) (rootOf p S) s))
+      x = informationOf (fieldOf p S) (rootOf p S) (p .n) (p .k) (p .m) (orderAt p S) l
+          (λ s. valueOf (fieldOf p S .ops) (p .n) (received p S block) (power (fieldOf p S .ops) (rootOf p S) s))
 
 pub level-blocks : LevelBlocks
 level-blocks s t l low block long symbols =

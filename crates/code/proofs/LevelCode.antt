@@ -1,6 +1,7 @@
 -- The level codes over any field, α of order n and (l+1)k ≤ n (01: "It consists exactly of the blocks whose polynomials vanish at
 -- α^0 .. α^(n-(l+1)k-1). Its nonzero blocks have at least d_l nonzero symbols"; 000, Theorem 2.1).
--- Holds: `combination-injective`, `combination-weight`, `information-of-spectrum` (the spectrum determines the information), `level-code` (exactly those blocks).
+-- Holds: `combination-injective`, `combination-weight`, `information-of-spectrum` (the spectrum determines the information), `level-code` (exactly those
+-- blocks).
 use mathlib.Core.Path.{_≡_, sym, ap, ap₂, _∙_}
 use Prim.Native.Nat.{ℕ, zero, suc, _+_, _-_, _*_, _≤_, _<_}
 use native.Mathlib.Nat.{mul-le-mul-right}

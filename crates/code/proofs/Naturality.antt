@@ -34,7 +34,8 @@ module _ {F G : Type 0} (c : Code F) (p : Ops G) (h : F → G) (H : Homomorphism
 
   pub generatorPolynomial-natural : map h (generatorPolynomial c) ≡ generatorPolynomial (mapped c p h)
   unfolding generatorPolynomial
-  generatorPolynomial-natural = fromRoots-natural (c .ops) p h H (points (c .ops) (c .α) (c .n - c .k)) ∙ ap (Rattle.algebra.specs.Polynomial.fromRoots p) (points-natural (c .n - c .k))
+  generatorPolynomial-natural =
+      fromRoots-natural (c .ops) p h H (points (c .ops) (c .α) (c .n - c .k)) ∙ ap (Rattle.algebra.specs.Polynomial.fromRoots p) (points-natural (c .n - c .k))
 
   pub rowSymbol-natural : (j r i : ℕ) → h (rowSymbol c j r i) ≡ rowSymbol (mapped c p h) j r i
   unfolding rowSymbol
@@ -43,7 +44,8 @@ module _ {F G : Type 0} (c : Code F) (p : Ops G) (h : F → G) (H : Homomorphism
       ∙ ap₂ (p .mul)
       (sym (List·getD-map h (replicate r (c .ops .zero) ++ generatorPolynomial c) i (c .ops .zero))
       ∙ ap₂ (λ (l : List G) (z : G). getD l i z)
-      (map-append h (replicate r (c .ops .zero)) (generatorPolynomial c) ∙ ap₂ _++_ (map-replicate h r (c .ops .zero) ∙ ap (replicate r) (H .on-zero)) generatorPolynomial-natural)
+      (map-append h (replicate r (c .ops .zero)) (generatorPolynomial c)
+      ∙ ap₂ _++_ (map-replicate h r (c .ops .zero) ∙ ap (replicate r) (H .on-zero)) generatorPolynomial-natural)
       (H .on-zero))
       (power-natural (c .ops) p h H (c .α) (j * c .k * i))
 

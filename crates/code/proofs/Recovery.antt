@@ -42,7 +42,8 @@ module _ {F : Type 0} (K : Field F) (α : F) (n k m : ℕ) where
   row-at : (r d : ℕ) → rowSymbol c 0 r (r + d) ≡ getD (generatorPolynomial c) d 𝟘
   unfolding rowSymbol power
   row-at r d =
-      ap₂ _⊗_ (ap (λ (t : ℕ). getD (replicate r 𝟘 ++ generatorPolynomial c) (t + d) 𝟘) (sym (length-replicate r 𝟘)) ∙ getD-append-add (replicate r 𝟘) (generatorPolynomial c) d 𝟘)
+      ap₂ _⊗_ (ap (λ (t : ℕ). getD (replicate r 𝟘 ++ generatorPolynomial c) (t + d) 𝟘) (sym (length-replicate r 𝟘))
+      ∙ getD-append-add (replicate r 𝟘) (generatorPolynomial c) d 𝟘)
       (let none : 0 * k * (r + d) ≡ 0 = omega arith in ap pow none)
       ∙ mul-one K (getD (generatorPolynomial c) d 𝟘)
 
@@ -57,7 +58,8 @@ module _ {F : Type 0} (K : Field F) (α : F) (n k m : ℕ) where
   row-zero : (r j : ℕ) → r + suc j < k → k ≤ n → rowSymbol c 0 r (n - suc j) ≡ 𝟘
   row-zero r j l fits =
       let place : n - suc j ≡ r + (n - suc j - r) = omega arith in
-      ap (rowSymbol c 0 r) place ∙ row-at r (n - suc j - r) ∙ List·getD-eq-default (generatorPolynomial c) 𝟘 (omega (arith, length-generatorPolynomial K α n k m))
+      ap (rowSymbol c 0 r) place ∙ row-at r (n - suc j - r)
+      ∙ List·getD-eq-default (generatorPolynomial c) 𝟘 (omega (arith, length-generatorPolynomial K α n k m))
 
   sub-back : (a b : F) → a ⊕ (b ⊕ ⊖ a) ≡ b
   sub-back a b = add-left-comm K a b (⊖ a) ∙ ap (λ (t : F). b ⊕ t) (add-neg K a) ∙ add-zero K b
@@ -119,8 +121,10 @@ module _ {F : Type 0} (K : Field F) (α : F) (n k m : ℕ) where
   recoveredTo v zero l fits = record { symbol = λ a h. absurd (omega arith) }
   recoveredTo v (suc j) l fits =
       recovered-step v (recoverTo v j) (recoverTo v (suc j)) j l fits (recoveredTo v j (omega arith) fits)
-      (λ r h d. ap (λ (t : Bool). pick t (recoverTo v j r ⊕ sub (K .ops) (ending c v (suc j)) (timesG c (recoverTo v j) 0 (n - suc j))) (recoverTo v j r)) (ne-eqb r (k - suc j) d))
-      (ap (λ (t : Bool). pick t (recoverTo v j (k - suc j) ⊕ sub (K .ops) (ending c v (suc j)) (timesG c (recoverTo v j) 0 (n - suc j))) (recoverTo v j (k - suc j))) (eq-eqb (k - suc j) (k - suc j) refl))
+      (λ r h d. ap (λ (t : Bool). pick t (recoverTo v j r ⊕ sub (K .ops) (ending c v (suc j)) (timesG c (recoverTo v j) 0 (n - suc j))) (recoverTo v j r))
+      (ne-eqb r (k - suc j) d))
+      (ap (λ (t : Bool). pick t (recoverTo v j (k - suc j) ⊕ sub (K .ops) (ending c v (suc j)) (timesG c (recoverTo v j) 0 (n - suc j)))
+      (recoverTo v j (k - suc j))) (eq-eqb (k - suc j) (k - suc j) refl))
 
   module _ (order : HasOrder (K .ops) n α) where
     cancel-step : (a b f : F) → a ⊗ f ≡ b ⊗ f → f ⊗ (a ⊕ ⊖ b) ≡ 𝟘
@@ -136,9 +140,11 @@ module _ {F : Type 0} (K : Field F) (α : F) (n k m : ℕ) where
         eq-of-sub K (x r) (y r)
         (coefficients-of-vanishing K n α order (n - k) k (λ i. sub (K .ops) (x i) (y i)) fits
         (λ e h. valueOf-sub K k x y (pow (n - k + e))
-        ∙ mul-eq-zero K (value (K .ops) (generatorPolynomial c) (pow (n - k + e))) (sub (K .ops) (valueOf (K .ops) k x (pow (n - k + e))) (valueOf (K .ops) k y (pow (n - k + e))))
+        ∙ mul-eq-zero K (value (K .ops) (generatorPolynomial c) (pow (n - k + e)))
+        (sub (K .ops) (valueOf (K .ops) k x (pow (n - k + e))) (valueOf (K .ops) k y (pow (n - k + e))))
         (generatorPolynomial-nonzero K α n k m order (n - k + e) (omega arith) (omega arith))
-        (cancel-step (valueOf (K .ops) k x (pow (n - k + e))) (valueOf (K .ops) k y (pow (n - k + e))) (value (K .ops) (generatorPolynomial c) (pow (n - k + e))) (same e h)))
+        (cancel-step (valueOf (K .ops) k x (pow (n - k + e))) (valueOf (K .ops) k y (pow (n - k + e)))
+        (value (K .ops) (generatorPolynomial c) (pow (n - k + e))) (same e h)))
         r l)
 
     abbrev block : (ℕ → F) → ℕ → F

@@ -25,7 +25,8 @@ use Rattle.code.specs.parts.Residual.{IsResidual}
 use Rattle.code.proofs.Blocks.{timesG-ext}
 use Rattle.code.proofs.Differences.{sent-sub, sent-zeros}
 use Rattle.code.proofs.Window.{contribution, single, sent-single}
-use Rattle.code.proofs.CodeBelow.{laws, positive, fieldOf, rootOf, overField, keeps, number-zero, number-sub, lifted, number-lifted, sent-number, timesG-number, rowSymbol-number}
+use Rattle.code.proofs.CodeBelow.{laws, positive, fieldOf, rootOf, overField, keeps, number-zero, number-sub, lifted, number-lifted, sent-number}
+use Rattle.code.proofs.CodeBelow.{timesG-number, rowSymbol-number}
 
 module _ (p : Setting) (S : Sound p) where
   -- The same information blocks send the same symbols, over any field: only symbols below k count.
@@ -67,7 +68,8 @@ module _ (p : Setting) (S : Sound p) where
   -- What information block x at block j of the message contributes, taken out of the residual.
   abbrev pub lessened : List ℕ → (ℕ → ℕ) → ℕ → ℕ → ℕ → ℕ
   lessened residual x j s i =
-      pick (leb j s) (pick (leb (s - j) (p .m)) (sub (opsOf (p .q)) (view (p .n) residual s i) (timesG (codeOf p) x (s - j) i)) (view (p .n) residual s i)) (view (p .n) residual s i)
+      pick (leb j s) (pick (leb (s - j) (p .m)) (sub (opsOf (p .q)) (view (p .n) residual s i) (timesG (codeOf p) x (s - j) i)) (view (p .n) residual s i))
+      (view (p .n) residual s i)
 
   module _ (T : ℕ) (reception g residual h residual' : List ℕ) (R : (i : ℕ) → getD reception i 0 < p .q) (G : (i : ℕ) → getD g i 0 < p .q)
       (H : (i : ℕ) → getD h i 0 < p .q) (is-residual : IsResidual p T reception g residual) (x : ℕ → ℕ) (X : (r : ℕ) → x r < p .q) (j : ℕ)
@@ -77,7 +79,8 @@ module _ (p : Setting) (S : Sound p) where
     x' r = element (p .q) (positive p S) (x r)
 
     differs : (s r : ℕ) → r < p .k
-        → sub (fieldOf p S .ops) (lifted p S (view (p .k) h) s r) (lifted p S (view (p .k) g) s r) ≡ single (fieldOf p S) (rootOf p S) (p .n) (p .k) (p .m) x' j s r
+        → sub (fieldOf p S .ops) (lifted p S (view (p .k) h) s r) (lifted p S (view (p .k) g) s r) ≡ single (fieldOf p S) (rootOf p S) (p .n) (p .k)
+        (p .m) x' j s r
     unfolding lifted x'
     differs s r l = at (ℕ-discrete s j)
       where
@@ -99,11 +102,13 @@ module _ (p : Setting) (S : Sound p) where
             ∙ ap (fieldOf p S .ops .add b) (add-neg (fieldOf p S) a)
             ∙ add-zero (fieldOf p S) b
 
-        at : Dec (s ≡ j) → sub (fieldOf p S .ops) (element (p .q) (positive p S) (view (p .k) h s r)) (element (p .q) (positive p S) (view (p .k) g s r)) ≡ pick (eqb s j) (x' r) zero
+        at : Dec (s ≡ j) → sub (fieldOf p S .ops) (element (p .q) (positive p S) (view (p .k) h s r))
+            (element (p .q) (positive p S) (view (p .k) g s r)) ≡ pick (eqb s j) (x' r) zero
         at (yes e) =
             ap₂ (λ (a b : ℕ). sub (fieldOf p S .ops) (element (p .q) (positive p S) a) (element (p .q) (positive p S) b))
             (ap (λ (t : ℕ). view (p .k) h t r) e ∙ placed r l) (ap (λ (t : ℕ). view (p .k) g t r) e)
-            ∙ ap (λ (t : Element (p .q)). sub (fieldOf p S .ops) t (element (p .q) (positive p S) (view (p .k) g j r))) (element-add (view (p .k) g j r) (x r) (G (j * p .k + r)) (X r))
+            ∙ ap (λ (t : Element (p .q)). sub (fieldOf p S .ops) t (element (p .q) (positive p S) (view (p .k) g j r)))
+            (element-add (view (p .k) g j r) (x r) (G (j * p .k + r)) (X r))
             ∙ take-away (element (p .q) (positive p S) (view (p .k) g j r)) (x' r)
             ∙ sym (ap (λ (t : Bool). pick t (x' r) zero) (eq-eqb s j e))
         at (no d) =
@@ -138,24 +143,29 @@ module _ (p : Setting) (S : Sound p) where
             ≡ number (sub (fieldOf p S .ops) (before s i) (contribution (fieldOf p S) (rootOf p S) (p .n) (p .k) (p .m) x' j s i))
         whole s i =
             sym (number-sub p S (w' s i) (sentSymbol (overField p S) (lifted p S (view (p .k) h)) s i)
-            ∙ ap₂ (sub (opsOf (p .q))) (number-lifted p S (view (p .n) reception) s i (R (s * p .n + i))) (sent-number p S (view (p .k) h) (λ b r. H (b * p .k + r)) s i))
+            ∙ ap₂ (sub (opsOf (p .q))) (number-lifted p S (view (p .n) reception) s i (R (s * p .n + i)))
+            (sent-number p S (view (p .k) h) (λ b r. H (b * p .k + r)) s i))
             ∙ ap (λ (t : Element (p .q)). number (sub (fieldOf p S .ops) (w' s i) t)) (add-of-sub (fieldOf p S) _ _ _ (sent-less s i))
-            ∙ ap number (sub-add (fieldOf p S) (w' s i) (sentSymbol (overField p S) (lifted p S (view (p .k) g)) s i) (contribution (fieldOf p S) (rootOf p S) (p .n) (p .k) (p .m) x' j s i))
+            ∙ ap number (sub-add (fieldOf p S) (w' s i) (sentSymbol (overField p S) (lifted p S (view (p .k) g)) s i)
+            (contribution (fieldOf p S) (rootOf p S) (p .n) (p .k) (p .m) x' j s i))
 
         number-before : (s i : ℕ) → s < T + p .m → i < p .n → number (before s i) ≡ view (p .n) residual s i
         number-before s i l u =
             number-sub p S (w' s i) (sentSymbol (overField p S) (lifted p S (view (p .k) g)) s i)
-            ∙ ap₂ (sub (opsOf (p .q))) (number-lifted p S (view (p .n) reception) s i (R (s * p .n + i))) (sent-number p S (view (p .k) g) (λ b r. G (b * p .k + r)) s i)
+            ∙ ap₂ (sub (opsOf (p .q))) (number-lifted p S (view (p .n) reception) s i (R (s * p .n + i)))
+            (sent-number p S (view (p .k) g) (λ b r. G (b * p .k + r)) s i)
             ∙ sym (is-residual .symbol s i l u)
 
         unchanged : (s i : ℕ) → s < T + p .m → i < p .n → view (p .n) residual s i ≡ number (sub (fieldOf p S .ops) (before s i) zero)
         unchanged s i l u =
-            sym (number-before s i l u) ∙ ap number (sym (ap (fieldOf p S .ops .add (before s i)) (neg-zero (fieldOf p S)) ∙ add-zero (fieldOf p S) (before s i)))
+            sym (number-before s i l u) ∙ ap number (sym
+            (ap (fieldOf p S .ops .add (before s i)) (neg-zero (fieldOf p S)) ∙ add-zero (fieldOf p S) (before s i)))
 
         at : (s i : ℕ) → s < T + p .m → i < p .n → Dec (j ≤ s) → Dec (s - j ≤ p .m)
             → lessened residual x j s i ≡ number (sub (fieldOf p S .ops) (before s i) (contribution (fieldOf p S) (rootOf p S) (p .n) (p .k) (p .m) x' j s i))
         at s i l u (yes a) (yes b) =
-            ap₂ (λ (c d : Bool). pick c (pick d (sub (opsOf (p .q)) (view (p .n) residual s i) (timesG (codeOf p) x (s - j) i)) (view (p .n) residual s i)) (view (p .n) residual s i))
+            ap₂ (λ (c d : Bool). pick c (pick d (sub (opsOf (p .q)) (view (p .n) residual s i) (timesG (codeOf p) x (s - j) i)) (view (p .n) residual s i))
+            (view (p .n) residual s i))
             (le-leb j s a) (le-leb (s - j) (p .m) b)
             ∙ sym (ap₂ (λ (c d : Bool). number (sub (fieldOf p S .ops) (before s i) (pick c (pick d (timesG (overField p S) x' (s - j) i) zero) zero)))
             (le-leb j s a) (le-leb (s - j) (p .m) b)
@@ -163,21 +173,25 @@ module _ (p : Setting) (S : Sound p) where
             ∙ ap₂ (sub (opsOf (p .q))) (number-before s i l u) (timesG-number p S x X (s - j) i))
         at s i l u (yes a) (no b) =
             let past : p .m < s - j = omega arith in
-            ap₂ (λ (c d : Bool). pick c (pick d (sub (opsOf (p .q)) (view (p .n) residual s i) (timesG (codeOf p) x (s - j) i)) (view (p .n) residual s i)) (view (p .n) residual s i))
+            ap₂ (λ (c d : Bool). pick c (pick d (sub (opsOf (p .q)) (view (p .n) residual s i) (timesG (codeOf p) x (s - j) i)) (view (p .n) residual s i))
+            (view (p .n) residual s i))
             (le-leb j s a) (lt-leb (s - j) (p .m) past)
             ∙ unchanged s i l u
             ∙ sym (ap₂ (λ (c d : Bool). number (sub (fieldOf p S .ops) (before s i) (pick c (pick d (timesG (overField p S) x' (s - j) i) zero) zero)))
             (le-leb j s a) (lt-leb (s - j) (p .m) past))
         at s i l u (no a) b =
             let past : s < j = omega arith in
-            ap (λ (c : Bool). pick c (pick (leb (s - j) (p .m)) (sub (opsOf (p .q)) (view (p .n) residual s i) (timesG (codeOf p) x (s - j) i)) (view (p .n) residual s i)) (view (p .n) residual s i))
+            ap (λ (c : Bool). pick c (pick (leb (s - j) (p .m)) (sub (opsOf (p .q)) (view (p .n) residual s i) (timesG (codeOf p) x (s - j) i))
+            (view (p .n) residual s i)) (view (p .n) residual s i))
             (lt-leb j s past)
             ∙ unchanged s i l u
-            ∙ sym (ap (λ (c : Bool). number (sub (fieldOf p S .ops) (before s i) (pick c (pick (leb (s - j) (p .m)) (timesG (overField p S) x' (s - j) i) zero) zero)))
+            ∙ sym (ap (λ (c : Bool). number (sub (fieldOf p S .ops) (before s i)
+            (pick c (pick (leb (s - j) (p .m)) (timesG (overField p S) x' (s - j) i) zero) zero)))
             (lt-leb j s past))
 
   -- The reception itself is the residual of the zero message.
-  pub residual-start : (T : ℕ) (reception g : List ℕ) → ((i : ℕ) → getD reception i 0 < p .q) → ((i : ℕ) → getD g i 0 ≡ 0) → IsResidual p T reception g reception
+  pub residual-start : (T : ℕ) (reception g : List ℕ) → ((i : ℕ) → getD reception i 0 < p .q) → ((i : ℕ) → getD g i 0 ≡ 0)
+      → IsResidual p T reception g reception
   unfolding lifted
   residual-start T reception g R zeros =
       record {
@@ -188,7 +202,8 @@ module _ (p : Setting) (S : Sound p) where
             ∙ sent-zeros (fieldOf p S) (rootOf p S) (p .n) (p .k) (p .m) s i) in
             sym (ap₂ (sub (opsOf (p .q))) (sym (number-lifted p S (view (p .n) reception) s i (R (s * p .n + i)))) sent
             ∙ sym (number-sub p S (lifted p S (view (p .n) reception) s i) (fieldOf p S .ops .zero))
-            ∙ ap number (ap (fieldOf p S .ops .add (lifted p S (view (p .n) reception) s i)) (neg-zero (fieldOf p S)) ∙ add-zero (fieldOf p S) (lifted p S (view (p .n) reception) s i))
+            ∙ ap number (ap (fieldOf p S .ops .add (lifted p S (view (p .n) reception) s i)) (neg-zero (fieldOf p S))
+            ∙ add-zero (fieldOf p S) (lifted p S (view (p .n) reception) s i))
             ∙ number-lifted p S (view (p .n) reception) s i (R (s * p .n + i)));
       }
     where

@@ -26,7 +26,8 @@ use Rattle.code.specs.parts.Information.{BlocksBelow}
 use Rattle.code.specs.parts.Residual.{IsResidual}
 use Rattle.code.proofs.Blocks.{combination-ext}
 use Rattle.code.proofs.Differences.{sent-sub, sent-ahead}
-use Rattle.code.proofs.CodeBelow.{laws, positive, fieldOf, rootOf, overField, keeps, number-zero, number-sub, lifted, number-lifted, sent-number, combination-number, message-below, sent-below}
+use Rattle.code.proofs.CodeBelow.{laws, positive, fieldOf, rootOf, overField, keeps, number-zero, number-sub, lifted, number-lifted, sent-number}
+use Rattle.code.proofs.CodeBelow.{combination-number, message-below, sent-below}
 use Rattle.code.proofs.Cost.{cost-shift}
 use Rattle.code.proofs.WindowBelow.{zero-cost}
 
@@ -52,8 +53,10 @@ module _ (p : Setting) (S : Sound p) where
       → opsOf (p .q) .add a (opsOf (p .q) .mul u x) ≡ sub (opsOf (p .q)) a (opsOf (p .q) .mul v x)
   add-opposite a v u x lv lu lx e =
       let K = fieldOf p S in
-      let opposite : (u, lu) ≡ K .ops .neg (v, lv) = neg-unique K (v, lv) (u, lu) (number-injective _ _ (keeps p S .on-add (v, lv) (u, lu) ∙ e ∙ sym (number-zero p S))) in
-      ap (opsOf (p .q) .add a) (sym (keeps p S .on-mul (u, lu) (x, lx)) ∙ ap (λ (t : Element (p .q)). number (K .ops .mul t (x, lx))) opposite ∙ ap number (neg-mul K (v, lv) (x, lx))
+      let opposite : (u, lu) ≡ K .ops .neg (v, lv) =
+      neg-unique K (v, lv) (u, lu) (number-injective _ _ (keeps p S .on-add (v, lv) (u, lu) ∙ e ∙ sym (number-zero p S))) in
+      ap (opsOf (p .q) .add a) (sym (keeps p S .on-mul (u, lu) (x, lx)) ∙ ap (λ (t : Element (p .q)). number (K .ops .mul t (x, lx))) opposite
+      ∙ ap number (neg-mul K (v, lv) (x, lx))
       ∙ keeps p S .on-neg (K .ops .mul (v, lv) (x, lx)) ∙ ap (opsOf (p .q) .neg) (keeps p S .on-mul (v, lv) (x, lx)))
 
   -- b + (a - b) = a
@@ -108,7 +111,8 @@ module _ (p : Setting) (S : Sound p) where
 
       -- What x has beyond g combines to what x sends less what g sends.
       ahead-sent : (s i : ℕ) → s ≤ p .m
-          → combination (codeOf p) s (ahead p x g j) i ≡ sub (opsOf (p .q)) (sentSymbol (codeOf p) (view (p .k) x) (j + s) i) (sentSymbol (codeOf p) (view (p .k) g) (j + s) i)
+          → combination (codeOf p) s (ahead p x g j) i ≡ sub (opsOf (p .q)) (sentSymbol (codeOf p) (view (p .k) x) (j + s) i)
+          (sentSymbol (codeOf p) (view (p .k) g) (j + s) i)
       unfolding x' g'
       ahead-sent s i low =
           sym (combination-number p S (ahead p x g j) s i (λ b r u v. ahead-small b r))
@@ -117,16 +121,19 @@ module _ (p : Setting) (S : Sound p) where
           ∙ sym (sent-ahead (fieldOf p S) (rootOf p S) (p .n) (p .k) (p .m) (λ t r. sub (fieldOf p S .ops) (x' t r) (g' t r)) j s i low before)
           ∙ sym (sent-sub (fieldOf p S) (rootOf p S) (p .n) (p .k) (p .m) x' g' (j + s) i))
           ∙ number-sub p S (sentSymbol (overField p S) x' (j + s) i) (sentSymbol (overField p S) g' (j + s) i)
-          ∙ ap₂ (sub (opsOf (p .q))) (sent-number p S (view (p .k) x) (message-below p S T x X) (j + s) i) (sent-number p S (view (p .k) g) (λ b r. G (b * p .k + r)) (j + s) i)
+          ∙ ap₂ (sub (opsOf (p .q))) (sent-number p S (view (p .k) x) (message-below p S T x X) (j + s) i)
+          (sent-number p S (view (p .k) g) (λ b r. G (b * p .k + r)) (j + s) i)
 
       -- Window j of the residual costs against what x has beyond g what window j of the reception costs where x was sent.
       pub residual-window : windowCost p (take (windowLength p) (drop (j * p .n) residual)) (p .m) (ahead p x g j) ≡ messageCost p reception x j
       unfolding rebuiltCost blockCost costTo
       residual-window =
           total-ext (suc (p .m)) _ _ (λ s h. total-ext (p .n) _ _ (λ i u.
-          ap₂ (symbolCost (p .q)) (window-view (p .n) (p .m) residual j s i (omega arith) u ∙ is-residual .symbol (j + s) i (omega arith) u) (ahead-sent s i (omega arith))
+          ap₂ (symbolCost (p .q)) (window-view (p .n) (p .m) residual j s i (omega arith) u ∙ is-residual .symbol (j + s) i (omega arith) u)
+          (ahead-sent s i (omega arith))
           ∙ cost-shift p S (view (p .n) reception (j + s) i) (sentSymbol (codeOf p) (view (p .k) x) (j + s) i) (sentSymbol (codeOf p) (view (p .k) g) (j + s) i)
-          (R ((j + s) * p .n + i)) (sent-below p S (view (p .k) x) (message-below p S T x X) (j + s) i) (sent-below p S (view (p .k) g) (λ b r. G (b * p .k + r)) (j + s) i)))
+          (R ((j + s) * p .n + i)) (sent-below p S (view (p .k) x) (message-below p S T x X) (j + s) i)
+          (sent-below p S (view (p .k) g) (λ b r. G (b * p .k + r)) (j + s) i)))
 
     -- Its cost against zeros is the cost where g itself was sent.
     pub residual-zero : Message p T g → length residual ≡ (T + p .m) * p .n → (j : ℕ) → j < T

@@ -37,7 +37,8 @@ pub sent-of-beginning : (c : Code ℕ) (u v : ℕ → ℕ → ℕ) (s i : ℕ) �
 unfolding sentSymbol timesG
 sent-of-beginning c u v s i same =
     sum-ext (c .ops) (suc (c .m)) (λ j. timesG c (earlier (c .ops) u s j) j i) (λ j. timesG c (earlier (c .ops) v s j) j i)
-    (λ j h. sum-ext (c .ops) (c .k) (λ r. c .ops .mul (earlier (c .ops) u s j r) (rowSymbol c j r i)) (λ r. c .ops .mul (earlier (c .ops) v s j r) (rowSymbol c j r i))
+    (λ j h. sum-ext (c .ops) (c .k) (λ r. c .ops .mul (earlier (c .ops) u s j r) (rowSymbol c j r i))
+    (λ r. c .ops .mul (earlier (c .ops) v s j r) (rowSymbol c j r i))
     (λ r l. ap (λ (t : ℕ). c .ops .mul t (rowSymbol c j r i)) (block j r l (leb j s))))
   where
     block : (j r : ℕ) → r < c .k → (t : Bool) → pick t (u (s - j) r) (c .ops .zero) ≡ pick t (v (s - j) r) (c .ops .zero)
@@ -146,7 +147,10 @@ fits-of-test p S T reception message t =
         record {
           blocks = leb→le 1 T (and-left (leb 1 T) (eqb (length message) (T * p .k)) (and-left shape (symbols && (long && windows)) t));
           long = eqb→eq (length message) (T * p .k) (and-right (leb 1 T) (eqb (length message) (T * p .k)) (and-left shape (symbols && (long && windows)) t));
-          symbols = record { below = λ i l. ltb→lt (getD message i 0) (p .q) (all-at (length message) (λ i. ltb (getD message i 0) (p .q)) (and-left symbols (long && windows) rest) i l) };
+          symbols = record {
+            below = λ i l. ltb→lt (getD message i 0) (p .q)
+                (all-at (length message) (λ i. ltb (getD message i 0) (p .q)) (and-left symbols (long && windows) rest) i l);
+          };
         }
 
 -- A message that fits is not dropped.
@@ -199,7 +203,8 @@ module _ (p : Setting) (S : Sound p) (T : ℕ) (reception x : List ℕ) (F : Fit
       T-not (windowsTest p T reception beginning) t
       (subst (λ (l : List ℕ). Passes (windowsTest p T reception l)) (sym (ext-getD 0 beginning x same begins)) windows-near)
   not-dropped (suc left) beginning long begins t =
-      at (not-dropped left (beginning ++ getD x (length beginning) 0 ∷ []) (omega (arith, length-append beginning (getD x (length beginning) 0 ∷ []))) (more-begins beginning begins))
+      at (not-dropped left (beginning ++ getD x (length beginning) 0 ∷ []) (omega (arith, length-append beginning (getD x (length beginning) 0 ∷ [])))
+      (more-begins beginning begins))
       (finishedFar p reception beginning) refl t
     where
       at : (Passes (noneBegins p T reception left (beginning ++ getD x (length beginning) 0 ∷ [])) → ⊥) → (far : Bool) → finishedFar p reception beginning ≡ far

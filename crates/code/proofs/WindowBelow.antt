@@ -26,7 +26,8 @@ use Rattle.code.proofs.Cost.{byteCost, bytes-apart}
 
 module _ (p : Setting) (S : Sound p) where
   -- The costs over the field.
-  level-cost : (block : ℕ → ℕ) (l : ℕ) (y : ℕ → ℕ → ℕ) → BlocksBelow (p .q) y → blockCost (overField p S) (byteCost (p .q)) block l (lifted p S y) ≡ levelCost p block l y
+  level-cost : (block : ℕ → ℕ) (l : ℕ) (y : ℕ → ℕ → ℕ) → BlocksBelow (p .q) y
+      → blockCost (overField p S) (byteCost (p .q)) block l (lifted p S y) ≡ levelCost p block l y
   unfolding blockCost
   level-cost block l y Y = total-ext (p .n) _ _ (λ i h. ap (symbolCost (p .q) (block i)) (combination-number p S y l i (λ b r u v. Y b r)))
 
@@ -40,7 +41,8 @@ module _ (p : Setting) (S : Sound p) where
       ∙ number-zero p S
 
   module _ (window : List ℕ) where
-    window-cost : (l : ℕ) (y : ℕ → ℕ → ℕ) → BlocksBelow (p .q) y → rebuiltCost (overField p S) (byteCost (p .q)) (view (p .n) window) l (lifted p S y) ≡ windowCost p window l y
+    window-cost : (l : ℕ) (y : ℕ → ℕ → ℕ) → BlocksBelow (p .q) y
+        → rebuiltCost (overField p S) (byteCost (p .q)) (view (p .n) window) l (lifted p S y) ≡ windowCost p window l y
     unfolding rebuiltCost
     window-cost l y Y = total-ext (suc l) _ _ (λ s h. level-cost (view (p .n) window s) s y Y)
 
@@ -57,7 +59,8 @@ module _ (p : Setting) (S : Sound p) where
         → windowCost p window l y < distancesTo (p .n) (p .k) l → windowCost p window l z < distancesTo (p .n) (p .k) l → (r : ℕ) → r < p .k → y 0 r ≡ z 0 r
     first-certain y z Y Z l low near good r h =
         sym (number-lifted p S y 0 r (Y 0 r))
-        ∙ ap number (turn-certain (fieldOf p S) (rootOf p S) (p .n) (p .k) (p .m) (orderAt p S) (S .room) (byteCost (p .q)) (bytes-apart (p .q)) (view (p .n) window)
+        ∙ ap number (turn-certain (fieldOf p S) (rootOf p S) (p .n) (p .k) (p .m) (orderAt p S) (S .room) (byteCost (p .q)) (bytes-apart (p .q))
+        (view (p .n) window)
         (lifted p S y) (lifted p S z) l low (rw (window-cost l y Y) near) (rw (window-cost l z Z) good) r h)
         ∙ number-lifted p S z 0 r (Z 0 r)
 

@@ -1,5 +1,6 @@
 -- The generator G_0 + G_1 z + .. + G_m z^m (000, Theorem 3.1; 01, "The transmission").
--- Holds: `points`, the powers α^0 .. α^(r-1); `generatorPolynomial`, 01's f; `rowSymbol`, a symbol of a row of G_j; `timesG`, a symbol of (information block) × G_j.
+-- Holds: `points`, the powers α^0 .. α^(r-1); `generatorPolynomial`, 01's f; `rowSymbol`, a symbol of a row of G_j; `timesG`, a symbol of (information block)
+-- × G_j.
 use mathlib.Core.List.{List, [], _∷_, _++_}
 use Prim.Native.Nat.{ℕ, zero, suc, _-_, _*_}
 use lib.ListN.{getD, replicate}

@@ -1,5 +1,6 @@
 -- The level codes (01, "Level l's block code is spanned by the rows of G_0 to G_l").
--- Holds: `combination`, what information blocks x_0 .. x_l contribute to block l of a window; `InLevel`, `Vanishes`; what is proved of them, `LevelCode`, `LevelBlocks`.
+-- Holds: `combination`, what information blocks x_0 .. x_l contribute to block l of a window; `InLevel`, `Vanishes`; what is proved of them, `LevelCode`,
+-- `LevelBlocks`.
 use mathlib.Core.Path.{_≡_}
 use mathlib.Core.Bool.{not}
 use mathlib.Core.List.{List}

@@ -100,7 +100,8 @@ copied-front held k area source over h =
     ∙ (take-append-add (take held area) ((take (length source) source ++ drop (length source) over) ++ drop k (drop held area)) (length source)
     ∙ ap (λ (l : List ℕ). take held area ++ l)
     (ap (take (length source)) (append-assoc (take (length source) source) (drop (length source) over) (drop k (drop held area)))
-    ∙ (take-at (take (length source) source) (drop (length source) over ++ drop k (drop held area)) (length source) (ap length (take-length source)) ∙ take-length source)))
+    ∙ (take-at (take (length source) source) (drop (length source) over ++ drop k (drop held area)) (length source) (ap length (take-length source))
+    ∙ take-length source)))
 
 held-is : (begun area : List ℕ) (held : ℕ) → Holds begun area held → held ≡ min (length area - 1) (length begun)
 held-is begun area held H =
@@ -199,7 +200,8 @@ output-append none b = b
 output-append {ms = ms} {t = t} (next line text lines rest a o) b =
     subst (Output (line ∷ (lines ++ ms))) (sym (append-assoc text (newline ∷ rest) t)) (next line text (lines ++ ms) (rest ++ t) a (output-append o b))
 
-pub output-more : {ls : List (List ℕ)} {s : List ℕ} (line text : List ℕ) → Output ls s → Answers line text → Output (ls ++ line ∷ []) (s ++ (text ++ newline ∷ []))
+pub output-more : {ls : List (List ℕ)} {s : List ℕ} (line text : List ℕ) → Output ls s → Answers line text
+    → Output (ls ++ line ∷ []) (s ++ (text ++ newline ∷ []))
 output-more line text o a = output-append o (next line text [] [] a none)
 
 -- Nothing was read yet.
@@ -208,7 +210,8 @@ unfolding linesOf restOf
 reached-none begun buffer area held output H = record { kept = H; answered = none }
 
 -- The code looks for the next newline from `from` on, and keeps what comes before it.
-module _ (begun buffer : List ℕ) (from : ℕ) (area : List ℕ) (held : ℕ) (output : List ℕ) (filled : ℕ) (R : Reached begun (take from buffer) area held output filled)
+module _ (begun buffer : List ℕ) (from : ℕ) (area : List ℕ) (held : ℕ) (output : List ℕ) (filled : ℕ)
+    (R : Reached begun (take from buffer) area held output filled)
     (to : ℕ) (found-in : to ≡ from + indexOf newline (slice from (length buffer) buffer)) (area' : List ℕ) (held' : ℕ)
     (H : Holds (restOf begun (take from buffer) ++ take (to - from) (drop from buffer)) area' held') where
   before : List ℕ
@@ -235,7 +238,8 @@ module _ (begun buffer : List ℕ) (from : ℕ) (area : List ℕ) (held : ℕ) (
   unfolding before part
   lines-same =
       ap (linesOf begun) text-is
-      ∙ (lines-append begun before part ∙ (ap (λ (l : List (List ℕ)). linesOf begun before ++ l) (lines-before (restOf begun before) (drop from buffer)) ∙ append-nil (linesOf begun before)))
+      ∙ (lines-append begun before part ∙ (ap (λ (l : List (List ℕ)). linesOf begun before ++ l) (lines-before (restOf begun before) (drop from buffer))
+      ∙ append-nil (linesOf begun before)))
 
   rest-longer : restOf begun (take to buffer) ≡ restOf begun before ++ part
   unfolding before part
@@ -251,7 +255,8 @@ module _ (begun buffer : List ℕ) (from : ℕ) (area : List ℕ) (held : ℕ) (
       }
 
   -- The line ends, and was answered.
-  pub reached-ended : (output' : List ℕ) (filled' : ℕ) → mostCharacters + 1 < length area' → to < length buffer → Behind (take (held' - 0) area') output filled output' filled'
+  pub reached-ended : (output' : List ℕ) (filled' : ℕ) → mostCharacters + 1 < length area' → to < length buffer
+      → Behind (take (held' - 0) area') output filled output' filled'
       → Reached begun (take (to + 1) buffer) area' 0 output' filled'
   unfolding before part linesOf restOf
   reached-ended output' filled' room inside B =
@@ -274,7 +279,8 @@ module _ (begun buffer : List ℕ) (from : ℕ) (area : List ℕ) (held : ℕ) (
           ap (λ (k : ℕ). take k buffer) (add-one to)
           ∙ (take-suc buffer to 0 inside
           ∙ ap (λ (c : ℕ). take to buffer ++ c ∷ [])
-          (ap (λ (k : ℕ). getD buffer k 0) found-at ∙ (sym (getD-drop from buffer (indexOf newline (drop from buffer)) 0) ∙ newline-at (drop from buffer) here)))
+          (ap (λ (k : ℕ). getD buffer k 0) found-at ∙ (sym (getD-drop from buffer (indexOf newline (drop from buffer)) 0)
+          ∙ newline-at (drop from buffer) here)))
 
       lines-new : linesOf begun (take (to + 1) buffer) ≡ linesOf begun before ++ (restOf begun before ++ part) ∷ []
       lines-new =

@@ -213,7 +213,8 @@ module _ {q n : ℕ} {add : ℕ → ℕ → ℕ} {neg double : ℕ → ℕ} {pow
     where
       by : (a b : ℕ) → Element double a → Element double b → product (product a b) c ≡ product a (product b c)
       by a b nought _ = rw (product-nought b, product-nought c, product-nought (product b c))
-      by a b (power-of-alpha i) nought = rw (product-zero (doublings double i 1) (alpha-below i), product-nought c, product-zero (doublings double i 1) (alpha-below i))
+      by a b (power-of-alpha i) nought =
+          rw (product-zero (doublings double i 1) (alpha-below i), product-nought c, product-zero (doublings double i 1) (alpha-below i))
       by a b (power-of-alpha i) (power-of-alpha j) =
           ap (λ (x : ℕ). product x c) (product-power i (doublings double j 1) (alpha-below j) ∙ sym (doublings-sum i j 1))
           ∙ product-power (i + j) c hc ∙ doublings-sum i j c

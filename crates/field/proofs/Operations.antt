@@ -97,5 +97,6 @@ module _ (q a : ℕ) (good : Good q) (ha : a < q) where
   is-inverse r e = symbol q r (opsOf q .inv a) e (lawsOf q good .inv-below a ha)
 
 -- A table's rule over all pairs, by one computed test.
-pub lent-by-test : (q r : ℕ) (products : List (List ℕ)) → q ≡ r → T (all r (λ a. all r (λ b. eqb (getD (getD products a []) b 0) (opsOf r .mul a b)))) → ProductsOf q products
+pub lent-by-test : (q r : ℕ) (products : List (List ℕ)) → q ≡ r → T (all r (λ a. all r (λ b. eqb (getD (getD products a []) b 0) (opsOf r .mul a b))))
+    → ProductsOf q products
 lent-by-test q r products e t = rw e (record { product = same-pairs r (λ a b. getD (getD products a []) b 0) (opsOf r .mul) t })

@@ -1,5 +1,6 @@
 -- One turn at the frame: from what window j says to how far the guess is settled.
--- Holds: `window-clean` (a window near zeros); `search-below`, `search-few`; `advance-none`, `advance-clean`, `advance-found`; `advance-more`, `advance-stopped`, `stopped-none`.
+-- Holds: `window-clean` (a window near zeros); `search-below`, `search-few`; `advance-none`, `advance-clean`, `advance-found`; `advance-more`,
+-- `advance-stopped`, `stopped-none`.
 use mathlib.Core.Path.{_≡_, refl, sym, ap, subst}
 use mathlib.Core.Bool.{Bool, true, false, not}
 use mathlib.Core.List.{List}
@@ -49,10 +50,12 @@ module _ {p : Setting} (S : Sound p) {T : ℕ} {reception : List ℕ} (R : Symbo
       ap (λ (t : ℕ). take t (drop (j * p .n) residual)) wide
 
   -- No information is near: no message fits, whatever the areas hold.
-  pub advance-none : {i found : ℕ} {information message' residual' : List ℕ} → LevelSearch p window information found → found ≡ 0 → Advanced p T reception i message' residual' false
+  pub advance-none : {i found : ℕ} {information message' residual' : List ℕ} → LevelSearch p window information found → found ≡ 0
+      → Advanced p T reception i message' residual' false
   advance-none (served found some few area first) e = absurd (omega arith)
   advance-none (none-serves far) e =
-      stopped (settled-none p S T reception R long j message residual P l (λ y Y near. far y Y (subst (λ (w : List ℕ). Near p w (p .m) y) (sym same-window) near)))
+      stopped (settled-none p S T reception R long j message residual P l
+      (λ y Y near. far y Y (subst (λ (w : List ℕ). Near p w (p .m) y) (sym same-window) near)))
 
   -- The residual of the window is light: the guess of its first block is right.
   pub advance-clean : length window ≡ windowLength p → {cost : ℕ} → cost ≡ zeroCost (p .q) window → cost < distancesTo (p .n) (p .k) (p .m)
@@ -77,7 +80,8 @@ module _ {p : Setting} {T : ℕ} {reception : List ℕ} {j : ℕ} {message resid
   advance-more (stopped far) h = absurd (false-not-true (sym h))
 
   -- .. and one that stopped shows that no message fits, whatever the areas hold.
-  pub advance-stopped : {r : Bool} {i : ℕ} {message' residual' : List ℕ} → Advanced p T reception j message residual r → not r ≡ true → Advanced p T reception i message' residual' false
+  pub advance-stopped : {r : Bool} {i : ℕ} {message' residual' : List ℕ} → Advanced p T reception j message residual r → not r ≡ true
+      → Advanced p T reception i message' residual' false
   advance-stopped (advanced settled) h = absurd (false-not-true h)
   advance-stopped (stopped far) h = stopped far
 

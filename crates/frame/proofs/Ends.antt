@@ -69,14 +69,16 @@ module _ {p : Setting} (S : Sound p) {T : ℕ} {reception message residual : Lis
       (symbol-below (p .q) message (P .areas .message-symbols) (positive p S)) (P .is-residual) whole (P .areas .residual-long)
 
   -- Near in every window: the message fits.
-  pub frame-fits : ((j : ℕ) → j < T → zeroCost (p .q) (take (windowLength p) (drop (j * p .n) residual)) < distancesTo (p .n) (p .k) (p .m)) → FrameRead p T reception message residual true
+  pub frame-fits : ((j : ℕ) → j < T → zeroCost (p .q) (take (windowLength p) (drop (j * p .n) residual)) < distancesTo (p .n) (p .k) (p .m))
+      → FrameRead p T reception message residual true
   frame-fits near =
       fits
       (record { message-of = whole; long = long; near = λ j l. fits-cost p S T reception message whole j l .1 (rw (window-of-residual j l) at (near j l)) })
       (P .areas .residual-symbols) (P .areas .residual-long ∙ sym long) (P .is-residual)
 
   -- Far in one window: no message fits, since it could only be this one.
-  pub frame-none : (j : ℕ) → j < T → distancesTo (p .n) (p .k) (p .m) ≤ zeroCost (p .q) (take (windowLength p) (drop (j * p .n) residual)) → NoneFits p T reception
+  pub frame-none : (j : ℕ) → j < T → distancesTo (p .n) (p .k) (p .m) ≤ zeroCost (p .q) (take (windowLength p) (drop (j * p .n) residual))
+      → NoneFits p T reception
   frame-none j l far x F =
       let same : x ≡ message =
       ext-getD 0 x message (F .message-of .long ∙ sym (P .areas .message-long)) (λ i u. P .begins x F i (omega (arith, F .message-of .long))) in

@@ -1,5 +1,6 @@
 -- Changes of the guessed message, and the residual after them.
--- Holds: `windowAt`, `window-room`, `symbol-room`, `block-room`, `blocks-few`; `revised-none`, `revised-then`; `adjusted`; `Adding` (the first r symbols of a block were added) and its steps; `added-past`, `added-zero`, `added-then`.
+-- Holds: `windowAt`, `window-room`, `symbol-room`, `block-room`, `blocks-few`; `revised-none`, `revised-then`; `adjusted`; `Adding` (the first r symbols of a
+-- block were added) and its steps; `added-past`, `added-zero`, `added-then`.
 use mathlib.Core.Path.{_≡_, refl, sym, ap, ap₂, subst, _∙_}
 use mathlib.Core.Bool.{Bool, true, false}
 use mathlib.Core.List.{List}
@@ -65,7 +66,8 @@ module _ {p : Setting} {T : ℕ} where
 
   -- Changes from block i on, and then from a later block on.
   pub revised-then : {i j : ℕ} {message residual message' residual' message'' residual'' : List ℕ}
-      → Revised p T i message residual message' residual' → Revised p T j message' residual' message'' residual'' → i ≤ j → Revised p T i message residual message'' residual''
+      → Revised p T i message residual message' residual' → Revised p T j message' residual' message'' residual'' → i ≤ j
+      → Revised p T i message residual message'' residual''
   revised-then A B low =
       record {
         areas = B .areas;
@@ -73,7 +75,8 @@ module _ {p : Setting} {T : ℕ} where
         is-residual = λ w W R. B .is-residual w W (A .is-residual w W R);
       }
 
-module _ (p : Setting) (S : Sound p) (T j r v : ℕ) (message residual : List ℕ) (A : FrameAreas p T message residual) (lj : j < T) (lr : r < p .k) (lv : v < p .q)
+module _ (p : Setting) (S : Sound p) (T j r v : ℕ) (message residual : List ℕ) (A : FrameAreas p T message residual) (lj : j < T) (lr : r < p .k)
+    (lv : v < p .q)
     (w : ℕ) (sum : w ≡ opsOf (p .q) .add (getD message (j * p .k + r) 0) v) (u : ℕ) (lu : u < p .q) (opposite : opsOf (p .q) .add v u ≡ 0)
     (window' : List ℕ) (L : RowsAdded p r u (p .m + 1) (windowAt p residual j) window') where
   message-below : (a : ℕ) → getD message a 0 < p .q
@@ -101,7 +104,8 @@ module _ (p : Setting) (S : Sound p) (T j r v : ℕ) (message residual : List �
   h-symbols : Symbols (p .q) h
   unfolding h
   h-symbols =
-      symbols-set (p .q) message (j * p .k + r) w (subst (λ (t : ℕ). t < p .q) (sym sum) (laws p S .add-below _ v (message-below (j * p .k + r)) lv)) (A .message-symbols)
+      symbols-set (p .q) message (j * p .k + r) w (subst (λ (t : ℕ). t < p .q) (sym sum) (laws p S .add-below _ v (message-below (j * p .k + r)) lv))
+      (A .message-symbols)
 
   placed : (a : ℕ) → a < p .k → view (p .k) h j a ≡ opsOf (p .q) .add (view (p .k) message j a) (only r v a)
   unfolding h
@@ -148,7 +152,8 @@ module _ (p : Setting) (S : Sound p) (T j r v : ℕ) (message residual : List �
           ∙ add-opposite p S (view (p .n) residual s i) v u (rowSymbol (codeOf p) (s - j) r i) lv lu
           (rowSymbol-below p S (s - j) r i) opposite
           ∙ ap (sub (opsOf (p .q)) (view (p .n) residual s i)) (sym (timesG-only p S r v (s - j) i lr lv))
-          ∙ sym (ap₂ (λ (c d : Bool). pick c (pick d (sub (opsOf (p .q)) (view (p .n) residual s i) (timesG (codeOf p) x (s - j) i)) (view (p .n) residual s i)) (view (p .n) residual s i))
+          ∙ sym (ap₂ (λ (c d : Bool). pick c (pick d (sub (opsOf (p .q)) (view (p .n) residual s i) (timesG (codeOf p) x (s - j) i))
+          (view (p .n) residual s i)) (view (p .n) residual s i))
           (le-leb j s a) (le-leb (s - j) (p .m) b))
         where
           scaled : (s j n : ℕ) → j ≤ s → s * n ≡ j * n + (s - j) * n
@@ -157,12 +162,14 @@ module _ (p : Setting) (S : Sound p) (T j r v : ℕ) (message residual : List �
           let far : p .m < s - j = omega arith in
           let past : j + (p .m + 1) ≤ s = omega arith in
           put-after (j * p .n) (windowLength p) residual window' residual-room window-long (s * p .n + i) (omega (arith, mul-le-mul-right (p .n) past))
-          ∙ sym (ap₂ (λ (c d : Bool). pick c (pick d (sub (opsOf (p .q)) (view (p .n) residual s i) (timesG (codeOf p) x (s - j) i)) (view (p .n) residual s i)) (view (p .n) residual s i))
+          ∙ sym (ap₂ (λ (c d : Bool). pick c (pick d (sub (opsOf (p .q)) (view (p .n) residual s i) (timesG (codeOf p) x (s - j) i))
+          (view (p .n) residual s i)) (view (p .n) residual s i))
           (le-leb j s a) (lt-leb (s - j) (p .m) far))
       at (no a) b =
           let past : s < j = omega arith in
           put-before (j * p .n) (windowLength p) residual window' residual-room window-long (s * p .n + i) (digits-lt past e)
-          ∙ sym (ap (λ (c : Bool). pick c (pick (leb (s - j) (p .m)) (sub (opsOf (p .q)) (view (p .n) residual s i) (timesG (codeOf p) x (s - j) i)) (view (p .n) residual s i)) (view (p .n) residual s i))
+          ∙ sym (ap (λ (c : Bool). pick c (pick (leb (s - j) (p .m)) (sub (opsOf (p .q)) (view (p .n) residual s i) (timesG (codeOf p) x (s - j) i))
+          (view (p .n) residual s i)) (view (p .n) residual s i))
           (lt-leb j s past))
 
   pub adjusted-exact : Adjusted p T j r v message residual (set message (j * p .k + r) w) (putMid (j * p .n) (windowLength p) residual window')
@@ -177,7 +184,8 @@ module _ (p : Setting) (S : Sound p) (T j r v : ℕ) (message residual : List �
             residual-symbols = put-symbols (j * p .n) (windowLength p) residual window' (p .q) (A .residual-symbols) (L .symbols);
           };
           before = λ a l. getD-set-other message (j * p .k + r) a w 0 (omega arith);
-          is-residual = λ reception R is-residual. residual-step p S T reception message residual h residual' (symbol-below (p .q) reception R (positive p S)) message-below
+          is-residual = λ reception R is-residual. residual-step p S T reception message residual h residual'
+              (symbol-below (p .q) reception R (positive p S)) message-below
               (symbol-below (p .q) h h-symbols (positive p S)) is-residual (only r v) only-below j placed others changed;
         };
         added = ap (set message (j * p .k + r)) sum;
@@ -231,7 +239,8 @@ module _ {p : Setting} {T j : ℕ} {x : ℕ → ℕ} {message residual : List �
         rest = λ a l. ap (λ (t : List ℕ). getD t a 0) (B .added) ∙ getD-set-other message' (j * p .k + r) a _ 0 (omega arith) ∙ D .rest a (omega arith);
       }
 
-  pub adding-all : {r : ℕ} {message' residual' : List ℕ} → Adding p T j x r message residual message' residual' → p .k ≤ r → Added p T j x message residual message' residual'
+  pub adding-all : {r : ℕ} {message' residual' : List ℕ} → Adding p T j x r message residual message' residual' → p .k ≤ r
+      → Added p T j x message residual message' residual'
   adding-all D all = record { revised = D .revised; symbol = λ a l u. D .symbol a (omega arith) }
 
   -- There is no block j.
@@ -249,7 +258,8 @@ module _ {p : Setting} {T j : ℕ} {x : ℕ → ℕ} {message residual : List �
 
   -- Later changes leave block j as it is.
   pub added-then : {i : ℕ} {message' residual' message'' residual'' : List ℕ}
-      → Added p T j x message residual message' residual' → Revised p T i message' residual' message'' residual'' → j + 1 ≤ i → Added p T j x message residual message'' residual''
+      → Added p T j x message residual message' residual' → Revised p T i message' residual' message'' residual'' → j + 1 ≤ i
+      → Added p T j x message residual message'' residual''
   added-then D B later =
       record {
         revised = revised-then (D .revised) B (omega arith);

@@ -1,5 +1,6 @@
 -- The levels of a window in turn, from m down (the chain of refusals; 000, Theorem 3.4).
--- Holds: `LevelsFailed` (how far every near y has come once the levels from l on failed), `levels-failed-start`, `levels-failed-next`, `levels-failed-served`, `levels-failed-none`.
+-- Holds: `LevelsFailed` (how far every near y has come once the levels from l on failed), `levels-failed-start`, `levels-failed-next`,
+-- `levels-failed-served`, `levels-failed-none`.
 use mathlib.Core.Path.{_≡_, sym, ap, subst, _∙_}
 use mathlib.Core.Bool.{Bool, true, false}
 use mathlib.Core.List.{List}
@@ -34,7 +35,8 @@ module _ (p : Setting) (S : Sound p) (window information : List ℕ) where
   levels-failed-next zero (fails heavy) e reached = λ y Y near. level-ends p S window y (reached y Y near) (heavy y Y (reached y Y near))
   levels-failed-next (suc l) (fails heavy) e reached = λ y Y near. level-drops p S window y l (reached y Y near) (heavy y Y (reached y Y near))
 
-  pub levels-failed-served : (l : ℕ) {r : Bool} → l ≤ p .m → LevelTried p window l information r → r ≡ true → LevelsFailed p window (suc l) → LevelSearch p window information (suc l)
+  pub levels-failed-served : (l : ℕ) {r : Bool} → l ≤ p .m → LevelTried p window l information r → r ≡ true → LevelsFailed p window (suc l)
+      → LevelSearch p window information (suc l)
   unfolding LevelsFailed reach
   levels-failed-served l low (serves below good) e reached =
       served (suc l) (omega arith) (omega arith) below (λ y Y near r h.

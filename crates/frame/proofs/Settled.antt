@@ -1,5 +1,6 @@
 -- The windows in turn: residual, zero window and the chain of refusals, put together on bytes.
--- Holds: `settled-start`, `near-of-fits`, `settled-none`, `settled-revised`, `settled-found`; `begin` (an empty message, and the reception itself as its residual).
+-- Holds: `settled-start`, `near-of-fits`, `settled-none`, `settled-revised`, `settled-found`; `begin` (an empty message, and the reception itself as its
+-- residual).
 use mathlib.Core.Path.{_≡_, sym, ap, subst, _∙_}
 use mathlib.Core.List.{List, _++_}
 use Prim.Native.Nat.{ℕ, _+_, _-_, _*_, _≤_, _<_}
@@ -80,7 +81,8 @@ module _ (p : Setting) (S : Sound p) (T : ℕ) (reception : List ℕ) (R : Symbo
             subst (λ (t : ℕ). getD x t 0 ≡ getD h t 0) place (block x F (i - j * p .k) (omega arith))
 
     -- Other guesses from a later block on keep what is known.
-    pub settled-revised : (i : ℕ) (message' residual' : List ℕ) → j ≤ i → Revised p T i message residual message' residual' → Settled p T reception j message' residual'
+    pub settled-revised : (i : ℕ) (message' residual' : List ℕ) → j ≤ i → Revised p T i message residual message' residual'
+        → Settled p T reception j message' residual'
     settled-revised i message' residual' low N =
         record {
           areas = N .areas;
@@ -97,8 +99,10 @@ module _ (p : Setting) (S : Sound p) (T : ℕ) (reception : List ℕ) (R : Symbo
           areas = D .revised .areas;
           is-residual = D .revised .is-residual reception R (P .is-residual);
           begins = begins-more message' (D .revised .before) (λ x F r u.
-              sym (add-back p S (getD x (j * p .k + r) 0) (getD message (j * p .k + r) 0) (symbol-below (p .q) x (F .message-of .symbols) (positive p S) (j * p .k + r)) (found-below (j * p .k + r)))
-              ∙ ap (opsOf (p .q) .add (getD message (j * p .k + r) 0)) (sym (ahead-first x r) ∙ first (ahead p x message j) (fits-below x F) (near-of-fits l x F) r u)
+              sym (add-back p S (getD x (j * p .k + r) 0) (getD message (j * p .k + r) 0)
+              (symbol-below (p .q) x (F .message-of .symbols) (positive p S) (j * p .k + r)) (found-below (j * p .k + r)))
+              ∙ ap (opsOf (p .q) .add (getD message (j * p .k + r) 0))
+              (sym (ahead-first x r) ∙ first (ahead p x message j) (fits-below x F) (near-of-fits l x F) r u)
               ∙ sym (D .symbol r l u));
         }
 

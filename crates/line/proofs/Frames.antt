@@ -1,7 +1,7 @@
 -- The frame of a line that holds one (questions 11, 9, 1, 3 and 10 got "yes"), from decoding to the line's answer.
 -- Holds: `symbols-count`, `symbols-read`, `symbols-long`, `blocks-is` (the reception and T); `decoding-asked` (decoding's questions ask what is left, 4);
--- `refusal-line`, `success-line`; `frame-answered` (what decoding gives), `frame-left`; `any-room`, `room-is` (the working areas); `head-refused`; `answers-most`,
--- `answers-sevenfold` (an output line's length); `answered-shown` (with room for every frame); `answers-kept` (a line too long is answered
+-- `refusal-line`, `success-line`; `frame-answered` (what decoding gives), `frame-left`; `any-room`, `room-is` (the working areas); `head-refused`;
+-- `answers-most`, `answers-sevenfold` (an output line's length); `answered-shown` (with room for every frame); `answers-kept` (a line too long is answered
 -- by its beginning).
 use mathlib.Core.Path.{_≡_, refl, sym, ap, ap₂, subst, _∙_}
 use mathlib.Core.Bool.{Bool, true, false, _&&_}
@@ -23,13 +23,15 @@ use Rattle.code.specs.Settings.{isSetting, settingOf}
 use Rattle.code.specs.Windows.{windowLength}
 use Rattle.code.proofs.Settings.{soundOf, information-fits, Sizes, sizesOf, largestOf}
 use Rattle.question.specs.declared.Answer.{Answer}
-use Rattle.question.specs.Questions.{Question, ask, answer, firstNo, mostBlocks, mostSymbols, mostInformation, blocksOf, symbolQuestion, transmissionQuestion, frameQuestions, decodingQuestions}
+use Rattle.question.specs.Questions.{Question, ask, answer, firstNo, mostBlocks, mostSymbols, mostInformation, blocksOf, symbolQuestion, transmissionQuestion}
+use Rattle.question.specs.Questions.{frameQuestions, decodingQuestions}
 use Rattle.question.proofs.Questions.{true-of, first-no, all-yes, append-yes, message-most, transmission-most}
 use Rattle.link.specs.Decoding.{FrameDecoded, found, none-fits, DecodedIn, Decoded, refused as decoding-refused, well-formed as decoding-well-formed}
 use Rattle.link.proofs.Determined.{parts-long, message-front}
 use Rattle.line.specs.Characters.{digitOf}
 use Rattle.line.specs.Questions.{mostCharacters, settingIn, blocksIn, symbolsIn, digitsTo, characterQuestions, headQuestions, HoldsFrame, lineQuestions}
-use Rattle.line.specs.Answering.{refusal, success, outputLine, messageLength, messageIn, Answers, refused, well-formed, AnswerShown, LineAreas, lineAreas, hasRoom, roomIn, RoomForAll, FrameLeft, Answered, no-frame, no-room, decoded}
+use Rattle.line.specs.Answering.{refusal, success, outputLine, messageLength, messageIn, Answers, refused, well-formed, AnswerShown, LineAreas}
+use Rattle.line.specs.Answering.{lineAreas, hasRoom, roomIn, RoomForAll, FrameLeft, Answered, no-frame, no-room, decoded}
 use Rattle.line.proofs.Asked.{HeadYes, head-yes, after-head, in-head}
 use Rattle.line.proofs.Placed.{six, success-long}
 
@@ -88,7 +90,8 @@ module _ (line : List ℕ) (yes : HeadYes line) where
       append-yes (frameQuestions (settingIn line) (length (symbolsIn line)))
       (symbolQuestion (p .q) (symbolsIn line) ∷ ask 5 (leb (T * p .k) messageRoom) ∷ transmissionQuestion p T transmissionRoom ∷ []) tt
       (ap (λ (a : Answer). a .number) frame-asked)
-      ∙ last (symbolQuestion (p .q) (symbolsIn line)) (leb (T * p .k) messageRoom) (leb ((T + p .m) * p .n) transmissionRoom) (le-leb (T * p .k) messageRoom message)
+      ∙ last (symbolQuestion (p .q) (symbolsIn line)) (leb (T * p .k) messageRoom) (leb ((T + p .m) * p .n) transmissionRoom)
+      (le-leb (T * p .k) messageRoom message)
       (le-leb ((T + p .m) * p .n) transmissionRoom sent)
     where
       last : (x : Question) (a b : Bool) → a ≡ true → b ≡ true → firstNo (x ∷ ask 5 a ∷ ask 6 b ∷ []) ≡ firstNo (x ∷ [])
@@ -116,7 +119,10 @@ module _ (line : List ℕ) (holds : HoldsFrame line) where
   -- Question 7 gives messages of symbols below 16.
   small-symbols : {r : Answer} {x y : List ℕ} → FrameDecoded setting (blocksIn line) (symbolsIn line) r x y → r .number ≡ 0 → Symbols 16 x
   small-symbols (found f e t) z =
-      record { below = λ i l. lt-of-lt-of-le (f .message-of .symbols .below i l) (le-trans (largestOf (λ p. p .q) (settingIn line) (yes-of .setting)) (lit≤ tt)) }
+      record {
+        below = λ i l. lt-of-lt-of-le (f .message-of .symbols .below i l)
+            (le-trans (largestOf (λ p. p .q) (settingIn line) (yes-of .setting)) (lit≤ tt));
+      }
   small-symbols (none-fits far e m t) z = absurd (seven (ap (λ (a : Answer). a .number) (sym e) ∙ z))
     where
       seven : _≡_ {A = ℕ} 7 0 → ⊥
@@ -138,7 +144,8 @@ module _ (line : List ℕ) (holds : HoldsFrame line) where
       subst (λ (T : ℕ). DecodedIn setting T (symbolsIn line) message transmitted r message' transmitted') (blocks-is line yes-of) D in
       let front : messageIn line message' ≡ in-frame .message-part =
       message-front setting (soundOf (settingIn line) (yes-of .setting)) (blocksIn line) (symbolsIn line) in-frame in (
-        well-formed (ap (λ (a : Answer). a .number) (sym same) ∙ h) r (in-frame .message-part) (in-frame .transmission-part) (in-frame .decoded) (ap (outputLine line r) front),
+        well-formed (ap (λ (a : Answer). a .number) (sym same) ∙ h) r (in-frame .message-part) (in-frame .transmission-part) (in-frame .decoded)
+            (ap (outputLine line r) front),
         λ z. subst (Symbols 16) (sym front) (small-symbols (in-frame .decoded) z),
       )
 
@@ -146,7 +153,8 @@ module _ (line : List ℕ) (holds : HoldsFrame line) where
   pub any-room : (w : LineAreas) → RoomForAll w → roomIn line w ≡ true
   any-room w R =
       let symbols : length (symbolsIn line) ≤ mostSymbols =
-      subst (λ (t : ℕ). t ≤ mostSymbols) (sym (symbols-long line yes-of)) (transmission-most (settingIn line) setting (blocksIn line) (yes-of .setting) refl (yes-of .most)) in
+      subst (λ (t : ℕ). t ≤ mostSymbols) (sym (symbols-long line yes-of))
+      (transmission-most (settingIn line) setting (blocksIn line) (yes-of .setting) refl (yes-of .most)) in
       let message : messageLength line ≤ mostInformation = message-most (settingIn line) setting (blocksIn line) (yes-of .setting) refl (yes-of .most) in
       let a : length (symbolsIn line) ≤ length (w .reception) = omega (arith, R .reception) in
       let b : length (symbolsIn line) ≤ length (w .transmission) = omega (arith, R .transmission) in
@@ -183,7 +191,8 @@ frame-left line number front w r message' transmitted' n e D =
       decoded =
           subst (λ (y : List ℕ). Decoded (settingIn line) y (w .message) (w .transmission) r message' transmitted')
           (take-at front (drop (length line - 4) (w .reception)) (length line - 4) (front-long line front e) ∙ is)
-          (subst (λ (x : ℕ). Decoded x (take (length line - 4) (front ++ drop (length line - 4) (w .reception))) (w .message) (w .transmission) r message' transmitted') n D);
+          (subst (λ (x : ℕ). Decoded x (take (length line - 4) (front ++ drop (length line - 4) (w .reception))) (w .message)
+          (w .transmission) r message' transmitted') n D);
     }
 
 -- One of questions 11, 9, 1, 3 and 10 got "no".
@@ -249,7 +258,8 @@ answers-kept room h line text a = at (decLe (length line) room)
     long d (refused asked e) =
         let whole : mostCharacters < length line = omega arith in
         let part : mostCharacters < length (take room line) = omega (arith, length-take-le room line (omega arith)) in
-        refused (λ z. absurd (omega (arith, ap (λ r. r .number) (too-long line whole)))) (e ∙ ap refusal (too-long (take room line) part ∙ sym (too-long line whole)))
+        refused (λ z. absurd (omega (arith, ap (λ r. r .number) (too-long line whole))))
+        (e ∙ ap refusal (too-long (take room line) part ∙ sym (too-long line whole)))
     long d (well-formed asked r x y f e) =
         let part : mostCharacters < length (take room line) = omega (arith, length-take-le room line (omega arith)) in
         absurd (omega (arith, ap (λ r. r .number) (too-long (take room line) part)))

@@ -1,5 +1,6 @@
 -- A text that is written part by part at the front of a lent area.
--- Holds: `placed-none`, `placed-part`, `placed-number`, `placed-long`; `shown-whole`, `shown-none`, `shown-success`; `two`, `six`, `seven`, `opening-long`, `success-long` (lengths of what is written).
+-- Holds: `placed-none`, `placed-part`, `placed-number`, `placed-long`; `shown-whole`, `shown-none`, `shown-success`; `two`, `six`, `seven`, `opening-long`,
+-- `success-long` (lengths of what is written).
 use mathlib.Core.Path.{_≡_, refl, sym, ap, ap₂, subst, _∙_}
 use mathlib.Core.Bool.{Bool, true, false}
 use mathlib.Core.List.{List, [], _++_, map, append-assoc}
@@ -21,7 +22,8 @@ placed-none before = record { is = refl; room = omega arith }
 
 pub placed-long : (done before area : List ℕ) → Placed done before area → length area ≡ length before
 placed-long done before area w =
-    let parts : length (done ++ drop (length done) before) ≡ length done + length (drop (length done) before) = length-append done (drop (length done) before) in
+    let parts : length (done ++ drop (length done) before) ≡ length done + length (drop (length done) before) =
+    length-append done (drop (length done) before) in
     omega (arith, w .room, ap length (w .is), length-drop (length done) before)
 
 -- The next part comes home.

@@ -24,12 +24,14 @@ none-near = getsSeven 1 (2 ∷ 4 ∷ 3 ∷ 1 ∷ 2 ∷ 3 ∷ 2 ∷ 0 ∷ 0 ∷ 0
 
 four-listed : List·Memᴰ four-altered orders
 unfolding orders
-four-listed = List·Memᴰ·tail (List·Memᴰ·tail (List·Memᴰ·tail (List·Memᴰ·tail (List·Memᴰ·tail (List·Memᴰ·tail (List·Memᴰ·tail (List·Memᴰ·tail (List·Memᴰ·head refl))))))))
+four-listed = List·Memᴰ·tail (List·Memᴰ·tail (List·Memᴰ·tail
+    (List·Memᴰ·tail (List·Memᴰ·tail (List·Memᴰ·tail (List·Memᴰ·tail (List·Memᴰ·tail (List·Memᴰ·head refl))))))))
 
 none-listed : List·Memᴰ none-near orders
 unfolding orders
 none-listed =
-    List·Memᴰ·tail (List·Memᴰ·tail (List·Memᴰ·tail (List·Memᴰ·tail (List·Memᴰ·tail (List·Memᴰ·tail (List·Memᴰ·tail (List·Memᴰ·tail (List·Memᴰ·tail (List·Memᴰ·head refl)))))))))
+    List·Memᴰ·tail (List·Memᴰ·tail (List·Memᴰ·tail (List·Memᴰ·tail
+    (List·Memᴰ·tail (List·Memᴰ·tail (List·Memᴰ·tail (List·Memᴰ·tail (List·Memᴰ·tail (List·Memᴰ·head refl)))))))))
 
 -- A reception of setting 1 and one block, decoded in areas that just hold the message and its transmission.
 module _ (reception : List ℕ) (asked : firstNo (decodingQuestions 1 reception 1 12) .number ≡ 0) (long : blocksOf (settingOf 1) (length reception) ≡ 1) where
@@ -48,12 +50,14 @@ pub sample-read : SampleRead
 unfolding digitOf characterOf hex symbolsTo
 sample-read shown (refused asked e) = absurd (asked refl)
 sample-read shown (answered asked r message sent D e) =
-    let kept = orders-kept four-altered four-listed (0 ∷ []) message (replicate 12 0) sent r (lit≤ tt) (lit≤ tt) (decoded-exactly (four-altered .given) refl refl D) in
+    let kept = orders-kept four-altered four-listed (0 ∷ []) message (replicate 12 0) sent r (lit≤ tt) (lit≤ tt)
+    (decoded-exactly (four-altered .given) refl refl D) in
     e ∙ ap₂ (λ (a : Answer) (m : List ℕ). outputLine (map characterOf (1 ∷ 0 ∷ 0 ∷ 1 ∷ four-altered .given)) a m) (kept .0) (kept .1)
 
 pub sample-none : SampleNone
 unfolding digitOf characterOf hex symbolsTo
 sample-none shown (refused asked e) = absurd (asked refl)
 sample-none shown (answered asked r message sent D e) =
-    let kept = orders-kept none-near none-listed (0 ∷ []) message (replicate 12 0) sent r (lit≤ tt) (lit≤ tt) (decoded-exactly (none-near .given) refl refl D) in
+    let kept = orders-kept none-near none-listed (0 ∷ []) message (replicate 12 0) sent r (lit≤ tt) (lit≤ tt)
+    (decoded-exactly (none-near .given) refl refl D) in
     e ∙ ap₂ (λ (a : Answer) (m : List ℕ). outputLine (map characterOf (1 ∷ 0 ∷ 0 ∷ 1 ∷ none-near .given)) a m) (kept .0) (kept .1)

@@ -1,6 +1,6 @@
--- What answering a line promises (01, "Lines at the planning desk"). Holds: `refusal`, `opening` and `success`, the two kinds of output line; `messageLength`, `messageIn`;
--- `outputLine`, `Answers`, which of them a line gets; `Shown`, a text in a lent area; `AnswerShown`; `LineAreas`, `lineAreas`, the working areas,
--- `hasRoom`, `roomIn`, `RoomForAll`, `FrameLeft`; `Answered`, a whole call.
+-- What answering a line promises (01, "Lines at the planning desk"). Holds: `refusal`, `opening` and `success`, the two kinds of output line;
+-- `messageLength`, `messageIn`; `outputLine`, `Answers`, which of them a line gets; `Shown`, a text in a lent area; `AnswerShown`; `LineAreas`, `lineAreas`,
+-- the working areas, `hasRoom`, `roomIn`, `RoomForAll`, `FrameLeft`; `Answered`, a whole call.
 use mathlib.Core.Path.{_≡_}
 use mathlib.Core.Bool.{Bool, true, false, _&&_}
 use mathlib.Core.List.{List, _++_, map}

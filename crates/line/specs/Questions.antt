@@ -1,6 +1,6 @@
 -- The frame in a line, and the questions of a line (01, "Lines at the planning desk" and "Questions, asked in this order").
--- Holds: `settingIn`, `blocksIn`, `symbolsIn`; `digitsTo`; `mostCharacters` with its number; `characterQuestions`, `lengthQuestion`, `headQuestions`, `HoldsFrame`,
--- `lineQuestions`; `line-samples`.
+-- Holds: `settingIn`, `blocksIn`, `symbolsIn`; `digitsTo`; `mostCharacters` with its number; `characterQuestions`, `lengthQuestion`, `headQuestions`,
+-- `HoldsFrame`, `lineQuestions`; `line-samples`.
 use mathlib.Core.Path.{_≡_, refl}
 use mathlib.Core.Bool.{_&&_}
 use mathlib.Core.List.{List, [], _∷_, _++_, map}

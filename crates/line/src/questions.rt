@@ -90,7 +90,7 @@ fn head_questions(line: &[u8]) -> Answer
 }
 
 // Questions 11, 9, 1, 3 and 10.
-pub fn before_symbols(line: &[u8]) -> Answer
+pub fn holds_frame(line: &[u8]) -> Answer
     ensures { λ r. ⌜ r ≡ firstNo (characterQuestions (now (line .entry)) ++ headQuestions (now (line .entry))) ⌝ }
 {
     let first = character_questions(line);

@@ -69,7 +69,8 @@ module _ {p : Setting} {T : ℕ} {reception message residual : List ℕ} where
       (ap (answer 0 0) (counted ∙ (ap (λ (t : ℕ). countOf t (λ i. not (eqb (getD residual i 0) 0))) (same ∙ long)
       ∙ sym (end-altered p S T reception message residual R (F .message-of) is-residual))))
       (ext-getD 0 restored (transmission p message) (back .long ∙ (same ∙ (long ∙ sym (transmission-length p S T message (F .message-of)))))
-      (λ i l. back .inside i (omega (arith, back .long)) ∙ end-back p S T reception message residual R (F .message-of) is-residual i (omega (arith, back .long, same, long))))
+      (λ i l. back .inside i (omega (arith, back .long))
+      ∙ end-back p S T reception message residual R (F .message-of) is-residual i (omega (arith, back .long, same, long))))
 
 -- What decoding knows of the setting p in hand and the reception, once questions 1 to 6 got "yes".
 pub record Receiving (p : Setting) (reception : List ℕ) (messageRoom transmissionRoom : ℕ) : Type 0 where

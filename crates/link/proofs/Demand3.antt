@@ -26,7 +26,8 @@ record Front (number : ℕ) (reception area : List ℕ) : Type 0 where
   is : area ≡ message ++ rest
 
 -- Where some message fits, question 7's answer is one that fits.
-decodable-found : (p : Setting) (T : ℕ) (reception x : List ℕ) {r : Answer} {message sent : List ℕ} → Fits p T reception x → FrameDecoded p T reception r message sent
+decodable-found : (p : Setting) (T : ℕ) (reception x : List ℕ) {r : Answer} {message sent : List ℕ} → Fits p T reception x
+    → FrameDecoded p T reception r message sent
     → Fits p T reception message
 decodable-found p T reception x F (found G e t) = G
 decodable-found p T reception x F (none-fits far e m t) = absurd (far x F)

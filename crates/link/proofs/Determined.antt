@@ -29,20 +29,28 @@ module _ (p : Setting) (S : Sound p) (T : ℕ) (reception : List ℕ) where
       → FrameDecoded p T reception r message sent → FrameDecoded p T reception s other otherSent → Same r s message other sent otherSent
   frame-determined {r} {s} {message} {other} (found F e t) (found G f u) =
       let one : message ≡ other = at-most-one-fits p S T reception message other F G in
-      record { answers = e ∙ (ap (λ (x : List ℕ). answer 0 0 (altered p T reception (transmission p x))) one ∙ sym f); messages = one; transmissions = t ∙ (ap (transmission p) one ∙ sym u) }
+      record {
+        answers = e ∙ (ap (λ (x : List ℕ). answer 0 0 (altered p T reception (transmission p x))) one ∙ sym f);
+        messages = one;
+        transmissions = t
+            ∙ (ap (transmission p) one ∙ sym u);
+      }
   frame-determined {message = message} (found F e t) (none-fits far f m u) = absurd (far message F)
   frame-determined {other = other} (none-fits far e m t) (found G f u) = absurd (far other G)
   frame-determined (none-fits far e m t) (none-fits far' f n u) = record { answers = e ∙ sym f; messages = m ∙ sym n; transmissions = t ∙ sym u }
 
   -- The parts have the lengths of the places that they go to.
-  pub parts-long : {r : Answer} {message sent : List ℕ} → FrameDecoded p T reception r message sent → (length message ≡ T * p .k) × (length sent ≡ (T + p .m) * p .n)
+  pub parts-long : {r : Answer} {message sent : List ℕ} → FrameDecoded p T reception r message sent
+      → (length message ≡ T * p .k) × (length sent ≡ (T + p .m) * p .n)
   parts-long {message = message} (found F e t) = (F .message-of .long, ap length t ∙ transmission-length p S T message (F .message-of))
   parts-long (none-fits far e m t) = (ap length m ∙ length-replicate (T * p .k) 0, ap length t ∙ length-replicate ((T + p .m) * p .n) 0)
 
   -- So the front of each area is its part.
-  pub message-front : {message transmitted : List ℕ} {r : Answer} {message' transmitted' : List ℕ} (D : DecodedIn p T reception message transmitted r message' transmitted')
+  pub message-front : {message transmitted : List ℕ} {r : Answer} {message' transmitted' : List ℕ}
+      (D : DecodedIn p T reception message transmitted r message' transmitted')
       → take (T * p .k) message' ≡ D .message-part
-  message-front {message} D = ap (take (T * p .k)) (D .message-area) ∙ take-at (D .message-part) (drop (T * p .k) message) (T * p .k) (parts-long (D .decoded) .0)
+  message-front {message} D =
+      ap (take (T * p .k)) (D .message-area) ∙ take-at (D .message-part) (drop (T * p .k) message) (T * p .k) (parts-long (D .decoded) .0)
 
   pub transmission-front : {message transmitted : List ℕ} {r : Answer} {message' transmitted' : List ℕ}
       (D : DecodedIn p T reception message transmitted r message' transmitted') → take ((T + p .m) * p .n) transmitted' ≡ D .transmission-part
@@ -82,7 +90,8 @@ module _ (number : ℕ) (reception : List ℕ) where
       → Alike number reception message transmitted r s message' other' transmitted' otherSent'
   decoded-alike message transmitted other otherSent {r} {s} {message'} {transmitted'} {other'} {otherSent'} a b D E = at D E
     where
-      same : firstNo (decodingQuestions number reception (length message) (length transmitted)) ≡ firstNo (decodingQuestions number reception (length other) (length otherSent))
+      same : firstNo (decodingQuestions number reception (length message) (length transmitted)) ≡ firstNo
+          (decodingQuestions number reception (length other) (length otherSent))
       same = ap₂ (λ (x y : ℕ). firstNo (decodingQuestions number reception x y)) a b
 
       number-same : firstNo (decodingQuestions number reception (length message) (length transmitted)) .number
@@ -95,7 +104,8 @@ module _ (number : ℕ) (reception : List ℕ) where
       at (refused h e m t) (well-formed k F) = absurd (h (number-same ∙ k))
       at (well-formed h F) (refused k f n u) = absurd (k (sym number-same ∙ h))
       at (well-formed h F) (well-formed k G) =
-          let one = fronts-determined (settingOf number) (sound (length message) (length transmitted) h) (blocksOf (settingOf number) (length reception)) reception F G in
+          let one = fronts-determined (settingOf number) (sound (length message) (length transmitted) h)
+          (blocksOf (settingOf number) (length reception)) reception F G in
           record { answers = one .answers; fronts = λ z. one }
 
   -- The same areas: one answer, one message area, one transmission area.
@@ -112,5 +122,6 @@ module _ (number : ℕ) (reception : List ℕ) where
       record {
         answers = one .answers;
         messages = F .message-area ∙ (ap (λ (x : List ℕ). x ++ drop (T * p .k) message) (one .messages) ∙ sym (G .message-area));
-        transmissions = F .transmission-area ∙ (ap (λ (x : List ℕ). x ++ drop ((T + p .m) * p .n) transmitted) (one .transmissions) ∙ sym (G .transmission-area));
+        transmissions =
+            F .transmission-area ∙ (ap (λ (x : List ℕ). x ++ drop ((T + p .m) * p .n) transmitted) (one .transmissions) ∙ sym (G .transmission-area));
       }

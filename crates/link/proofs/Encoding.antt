@@ -14,7 +14,8 @@ use Rattle.question.specs.Questions.{firstNo, encodingQuestions}
 use Rattle.link.specs.Encoding.{Encoded, encodedArea}
 
 module _ (number : ℕ) (message before : List ℕ) where
-  pub encoded-refused : (r : Answer) → r ≡ firstNo (encodingQuestions number message (length before)) → (r .number ≡ 0 → ⊥) → Encoded number message before r before
+  pub encoded-refused : (r : Answer) → r ≡ firstNo (encodingQuestions number message (length before)) → (r .number ≡ 0 → ⊥)
+      → Encoded number message before r before
   encoded-refused r e h =
       record { answered = e; area = sym (ap (λ (t : Bool). pick t (encodedArea (settingOf number) message before) before) (ne-eqb (r .number) 0 h)) }
 

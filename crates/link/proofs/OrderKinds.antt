@@ -1,5 +1,6 @@
 -- What is said of an order that was worked through (specs/Orders), of any kind, follows from a computed test.
--- Holds: `ordersTest`, which the checker computes; the lemma of each kind of order, `encoding-order`, `read-order`, `seven-order`; `each-kept`, for a whole list.
+-- Holds: `ordersTest`, which the checker computes; the lemma of each kind of order, `encoding-order`, `read-order`, `seven-order`; `each-kept`, for a whole
+-- list.
 use mathlib.Core.Path.{_≡_, refl, sym, ap, ap₂, subst, _∙_}
 use mathlib.Core.Bool.{Bool, true, false, _&&_}
 use mathlib.Core.List.{List, [], _∷_, _++_, List·Memᴰ, List·Memᴰ·not-nil, List·Memᴰ·cases-cons}
@@ -90,8 +91,19 @@ encoding-room : (number : ℕ) (message : List ℕ) (room room' : ℕ) → first
 encoding-room number message room room' e h =
     let yes-to = all-yes (encodingQuestions number message room) tt e in
     let p = settingOf number in
-    yes-all (encodingQuestions number message room')
-    (yes-to .0, (yes-to .1 .0, (yes-to .1 .1 .0, (yes-to .1 .1 .1 .0, (room-more ((length message / p .k + p .m) * p .n) room room' (yes-to .1 .1 .1 .1 .0) h, tt)))))
+    yes-all (encodingQuestions number message room') (
+      yes-to .0,
+      (
+        yes-to .1 .0,
+        (
+          yes-to .1 .1 .0,
+          (
+            yes-to .1 .1 .1 .0,
+            (room-more ((length message / p .k + p .m) * p .n) room room' (yes-to .1 .1 .1 .1 .0) h, tt),
+          ),
+        ),
+      ),
+    )
 
 decoding-room : (number : ℕ) (reception : List ℕ) (a a' b b' : ℕ) → firstNo (decodingQuestions number reception a b) .number ≡ 0 → a ≤ a' → b ≤ b'
     → firstNo (decodingQuestions number reception a' b') ≡ answer 0 0 0
@@ -117,7 +129,8 @@ same-answer : {r : Answer} {a b c a' b' c' : ℕ} → r ≡ answer a b c → a' 
 same-answer {r} {a} {b} {c} {a'} {b'} {c'} e ea eb ec =
     e ∙ (ap (λ (t : ℕ). answer t b c) (sym ea) ∙ (ap (λ (t : ℕ). answer a' t c) (sym eb) ∙ ap (λ (t : ℕ). answer a' b' t) (sym ec)))
 
-overwritten-by : (front other before after : List ℕ) (a : ℕ) → after ≡ other ++ drop a before → front ≡ other → length front ≡ a → Overwritten front before after
+overwritten-by : (front other before after : List ℕ) (a : ℕ) → after ≡ other ++ drop a before → front ≡ other → length front ≡ a
+    → Overwritten front before after
 overwritten-by front other before after a e same long =
     e ∙ (ap (λ (l : List ℕ). l ++ drop a before) (sym same) ∙ ap (λ (t : ℕ). front ++ drop t before) (sym long))
 
@@ -129,7 +142,8 @@ encoding-order : (o : Order) → Passes (encodingTest o) → Promised encoding o
 unfolding encodingTest
 encoding-order o t before after r room E = (
   same-answer (E .answered ∙ clear) zero-number zero-place zero-count,
-  overwritten-by (o .sent) (transmission p (o .given)) before after ((length (o .given) / p .k + p .m) * p .n) written sent-is (ap length sent-is ∙ transmission-long p (o .given)),
+  overwritten-by (o .sent) (transmission p (o .given)) before after ((length (o .given) / p .k + p .m) * p .n) written sent-is
+      (ap length sent-is ∙ transmission-long p (o .given)),
 )
   where
     p : Setting
@@ -169,7 +183,8 @@ encoding-order o t before after r room E = (
 
     written : after ≡ encodedArea p (o .given) before
     written =
-        E .area ∙ ap (λ (b : Bool). pick b (encodedArea p (o .given) before) before) (eq-eqb (r .number) 0 (ap (λ (a : Answer). a .number) (E .answered ∙ clear)))
+        E .area ∙ ap (λ (b : Bool). pick b (encodedArea p (o .given) before) before)
+        (eq-eqb (r .number) 0 (ap (λ (a : Answer). a .number) (E .answered ∙ clear)))
 
 -- Question 7's answer and parts are the order's.
 record Parts (o : Order) (r : Answer) (message sent : List ℕ) : Type 0 where
@@ -178,7 +193,8 @@ record Parts (o : Order) (r : Answer) (message sent : List ℕ) : Type 0 where
   sent-is : o .sent ≡ sent
 
 -- Questions 1 to 6 get "yes" of the order's reception with these areas.
-module _ (o : Order) (asked : firstNo (decodingQuestions (o .setting) (o .given) (length (o .message)) (length (o .sent))) .number ≡ 0) (clear-place : o .place ≡ 0) where
+module _ (o : Order) (asked : firstNo (decodingQuestions (o .setting) (o .given) (length (o .message)) (length (o .sent))) .number ≡ 0)
+    (clear-place : o .place ≡ 0) where
   abbrev p : Setting
   p = settingOf (o .setting)
 
@@ -188,7 +204,8 @@ module _ (o : Order) (asked : firstNo (decodingQuestions (o .setting) (o .given)
   never-refused : (message sent : List ℕ) → length (o .message) ≤ length message → length (o .sent) ≤ length sent
       → (firstNo (decodingQuestions (o .setting) (o .given) (length message) (length sent)) .number ≡ 0 → ⊥) → ⊥
   never-refused message sent hm hs no-to =
-      no-to (ap (λ (a : Answer). a .number) (decoding-room (o .setting) (o .given) (length (o .message)) (length message) (length (o .sent)) (length sent) asked hm hs))
+      no-to (ap (λ (a : Answer). a .number) (decoding-room (o .setting) (o .given) (length (o .message)) (length message) (length (o .sent))
+      (length sent) asked hm hs))
 
   -- Of the whole call it is enough to know question 7's answer and parts.
   whole : (message message' sent sent' : List ℕ) (r : Answer) → length (o .message) ≤ length message → length (o .sent) ≤ length sent
@@ -244,7 +261,8 @@ module _ (o : Order) (asked : firstNo (decodingQuestions (o .setting) (o .given)
   seven-order : o .number ≡ 7 → Passes (sevenTest o) → Promised decoding o
   unfolding sevenTest
   seven-order seven t message message' sent sent' r hm hs D =
-      whole message message' sent sent' r hm hs (zeros-long (blocks o * p .k) (o .message) message-is) (zeros-long ((blocks o + p .m) * p .n) (o .sent) sent-is) frame D
+      whole message message' sent sent' r hm hs (zeros-long (blocks o * p .k) (o .message) message-is)
+      (zeros-long ((blocks o + p .m) * p .n) (o .sent) sent-is) frame D
     where
       none : Bool
       none = noneFits p (blocks o) (o .given)
@@ -272,7 +290,8 @@ module _ (o : Order) (asked : firstNo (decodingQuestions (o .setting) (o .given)
 
       frame : (x y : List ℕ) → FrameDecoded p (blocks o) (o .given) r x y → Parts o r x y
       frame x y (found F e g) = absurd (no-message-fits p sound (blocks o) (o .given) (and-left none (no-message && (no-sent && no-count)) t) x F)
-      frame x y (none-fits far e f g) = record { answered = same-answer e seven clear-place count-is; message-is = message-is ∙ sym f; sent-is = sent-is ∙ sym g }
+      frame x y (none-fits far e f g) =
+          record { answered = same-answer e seven clear-place count-is; message-is = message-is ∙ sym f; sent-is = sent-is ∙ sym g }
 
 order-kept : (c : Call) (o : Order) → Passes (testOf c o) → Promised c o
 unfolding decodingTest

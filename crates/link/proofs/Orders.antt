@@ -18,8 +18,9 @@ use Rattle.link.specs.Sample.{orders, OrdersKept}
 use Rattle.link.proofs.OrderKinds.{sameList, encodingTest, readTest, sevenTest, decodingTest, ordersTest, each-kept}
 
 orders-pass : Passes (ordersTest orders)
-unfolding ordersTest orders encodingTest decodingTest readTest sevenTest sameList fitsTest noneFits noneBegins finishedFar windowsTest windowTest windowFrom all total
-    distancesTo symbolsTo transmission tabulate sentSymbol sum timesG rowSymbol generatorPolynomial points fromRoots timesRootAfter power opsOf five eight modular binary timesBits timesAlpha
+unfolding ordersTest orders encodingTest decodingTest readTest sevenTest sameList fitsTest noneFits noneBegins finishedFar windowsTest windowTest
+    windowFrom all total distancesTo symbolsTo transmission tabulate sentSymbol sum timesG rowSymbol generatorPolynomial points fromRoots
+    timesRootAfter power opsOf five eight modular binary timesBits timesAlpha
 orders-pass = tt
 
 pub orders-kept : OrdersKept

@@ -46,7 +46,8 @@ module _ (p : Setting) (S : Sound p) (T : ℕ) (message : List ℕ) (M : Message
           symbol = λ s i l u.
               zeros (s * p .n + i)
               ∙ sym (ap (λ (t : ℕ). sub (opsOf (p .q)) t (sentSymbol (codeOf p) (view (p .k) message) s i)) (transmission-view p S T message M s i l u)
-              ∙ laws p S .plus-neg (sentSymbol (codeOf p) (view (p .k) message) s i) (sent-below p S (view (p .k) message) (message-below p S T message M) s i));
+              ∙ laws p S .plus-neg (sentSymbol (codeOf p) (view (p .k) message) s i)
+              (sent-below p S (view (p .k) message) (message-below p S T message M) s i));
         };
       }
     where
@@ -95,7 +96,8 @@ module _ (p : Setting) (S : Sound p) (T : ℕ) (message : List ℕ) (M : Message
   -- All was sent: the rest is zero, and so is its transmission.
   pub sent-all : (area : List ℕ) → SentTo p T message (T * p .k) area → area ≡ transmission p message
   sent-all area sending =
-      ext-getD 0 area (transmission p message) (sending .areas .residual-long ∙ sym (transmission-length p S T message M)) (λ a l. at a (omega (arith, sending .areas .residual-long)))
+      ext-getD 0 area (transmission p message) (sending .areas .residual-long ∙ sym (transmission-length p S T message M))
+      (λ a l. at a (omega (arith, sending .areas .residual-long)))
     where
       zeros : (a : ℕ) → getD (sending .rest) a 0 ≡ 0
       zeros a = past a (decLt a (T * p .k))
@@ -107,6 +109,7 @@ module _ (p : Setting) (S : Sound p) (T : ℕ) (message : List ℕ) (M : Message
       at : (a : ℕ) → a < (T + p .m) * p .n → getD area a 0 ≡ getD (transmission p message) a 0
       at a l =
           let place = place-in-blocks (T + p .m) a (p .n) (block-positive p S) l in
-          let whole = residual-start p S T (transmission p message) (sending .rest) (symbol-below (p .q) (transmission p message) (transmission-symbols p S T message M) (positive p S)) zeros in
+          let whole = residual-start p S T (transmission p message) (sending .rest)
+          (symbol-below (p .q) (transmission p message) (transmission-symbols p S T message M) (positive p S)) zeros in
           subst (λ (t : ℕ). getD area t 0 ≡ getD (transmission p message) t 0) (place .2)
           (sending .is-residual .symbol (a / p .n) (a % p .n) (place .0) (place .1) ∙ sym (whole .symbol (a / p .n) (a % p .n) (place .0) (place .1)))

@@ -1,5 +1,5 @@
--- What is said of an order that was worked through (01; order, message: the information word). Holds: `Call`, `Order`; `Overwritten`, `Promised`, `OrderKept`; `encodes`, `reads` and `getsSeven`, the
--- three kinds of order. The orders themselves stand in specs/Sample.
+-- What is said of an order that was worked through (01; order, message: the information word). Holds: `Call`, `Order`; `Overwritten`, `Promised`,
+-- `OrderKept`; `encodes`, `reads` and `getsSeven`, the three kinds of order. The orders themselves stand in specs/Sample.
 use mathlib.Core.Path.{_≡_}
 use mathlib.Core.List.{List}
 use Prim.Native.Nat.{ℕ, _≤_}
@@ -47,7 +47,8 @@ encodes setting message sent = record { call = encoding; setting = setting; give
 
 -- A reception, its message, the message's transmission and the altered count.
 abbrev pub reads : ℕ → List ℕ → List ℕ → List ℕ → ℕ → Order
-reads setting reception message sent count = record { call = decoding; setting = setting; given = reception; number = 0; place = 0; count = count; message = message; sent = sent }
+reads setting reception message sent count =
+    record { call = decoding; setting = setting; given = reception; number = 0; place = 0; count = count; message = message; sent = sent }
 
 -- A reception that gets number 7, and how many zeros come back in each area.
 abbrev pub getsSeven : ℕ → List ℕ → ℕ → ℕ → Order

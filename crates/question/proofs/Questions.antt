@@ -25,7 +25,8 @@ use Rattle.code.specs.Settings.{isSetting, settingOf}
 use Rattle.code.specs.Windows.{windowLength, Message}
 use Rattle.code.proofs.Settings.{largestOf, Sizes, sizesOf}
 use Rattle.question.specs.declared.Answer.{Answer}
-use Rattle.question.specs.Questions.{Question, ask, answer, symbolQuestion, transmissionQuestion, firstNo, mostBlocks, mostSymbols, mostInformation, blocksOf, symbolsTo, frameQuestions, decodingQuestions, encodingQuestions, displayQuestions, marksQuestions}
+use Rattle.question.specs.Questions.{Question, ask, answer, symbolQuestion, transmissionQuestion, firstNo, mostBlocks, mostSymbols, mostInformation}
+use Rattle.question.specs.Questions.{blocksOf, symbolsTo, frameQuestions, decodingQuestions, encodingQuestions, displayQuestions, marksQuestions}
 
 pub true-of : (t : Bool) → Passes t → t ≡ true
 true-of true h = refl
@@ -226,7 +227,8 @@ blocks-of-length n m long positive whole room =
     let all : long / n * n ≡ long = omega (arith, div-add-mod' long n) in
     (omega arith, sym (ap (λ (t : ℕ). t * n) back ∙ all))
 
-frame-of : (p : Setting) (long : ℕ) → Sizes p → Passes (eqb (long % p .n) 0 && leb (windowLength p) long) → Passes (leb (blocksOf p long) mostBlocks) → Frame p long
+frame-of : (p : Setting) (long : ℕ) → Sizes p → Passes (eqb (long % p .n) 0 && leb (windowLength p) long) → Passes (leb (blocksOf p long) mostBlocks)
+    → Frame p long
 frame-of p long sizes shape few =
     let whole : long % p .n ≡ 0 = eqb→eq (long % p .n) 0 (and-left (eqb (long % p .n) 0) (leb (windowLength p) long) shape) in
     let room : windowLength p ≤ long = leb→le (windowLength p) long (and-right (eqb (long % p .n) 0) (leb (windowLength p) long) shape) in
@@ -246,12 +248,14 @@ pub frame-of-setting : {number long : ℕ} {p : Setting} → FrameYes number lon
 frame-of-setting {number} {long} {p} known e = subst (λ (t : Setting). Frame t long) (sym e) (known .frame)
 
 -- The areas that a frame of any setting needs, over the setting p in hand.
-pub message-most : (number : ℕ) (p : Setting) (blocks : ℕ) → Passes (isSetting number) → p ≡ settingOf number → blocks ≤ mostBlocks → blocks * p .k ≤ mostInformation
+pub message-most : (number : ℕ) (p : Setting) (blocks : ℕ) → Passes (isSetting number) → p ≡ settingOf number → blocks ≤ mostBlocks
+    → blocks * p .k ≤ mostInformation
 message-most number p blocks known e h =
     subst (λ (s : Setting). blocks * s .k ≤ mostInformation) (sym e)
     (le-trans (mul-le-mul-right (settingOf number .k) h) (largestOf (λ p. mostBlocks * p .k) number known))
 
-pub transmission-most : (number : ℕ) (p : Setting) (blocks : ℕ) → Passes (isSetting number) → p ≡ settingOf number → blocks ≤ mostBlocks → (blocks + p .m) * p .n ≤ mostSymbols
+pub transmission-most : (number : ℕ) (p : Setting) (blocks : ℕ) → Passes (isSetting number) → p ≡ settingOf number → blocks ≤ mostBlocks
+    → (blocks + p .m) * p .n ≤ mostSymbols
 transmission-most number p blocks known e h =
     let top : blocks + settingOf number .m ≤ mostBlocks + settingOf number .m = omega arith in
     subst (λ (s : Setting). (blocks + s .m) * s .n ≤ mostSymbols) (sym e)
@@ -303,7 +307,8 @@ encoding-yes number message transmissionRoom e =
     let all = all-yes (encodingQuestions number message transmissionRoom) tt e in
     let p = settingOf number in
     let T = length message / p .k in
-    let whole : length message % p .k ≡ 0 = eqb→eq (length message % p .k) 0 (and-left (eqb (length message % p .k) 0) (leb (p .k) (length message)) (all .1 .0)) in
+    let whole : length message % p .k ≡ 0 =
+    eqb→eq (length message % p .k) 0 (and-left (eqb (length message % p .k) 0) (leb (p .k) (length message)) (all .1 .0)) in
     let least : p .k ≤ length message = leb→le (p .k) (length message) (and-right (eqb (length message % p .k) 0) (leb (p .k) (length message)) (all .1 .0)) in
     let once : 1 * p .k ≤ length message = omega arith in
     record {

@@ -1,6 +1,7 @@
 -- The questions of each call (01, "Questions, asked in this order"): a call's answer is the first "no".
--- Holds: `Question`, `ask`, `askAt`, `answer`, `firstNo`; `mostBlocks`, `mostSymbols`, `mostInformation`; `blocksOf` (T), `symbolsTo`; `frameQuestions`, `symbolQuestion`,
--- `transmissionQuestion`, and from them the questions of decoding, encoding, display and marks; `encoding-samples`, `decoding-samples`, `marks-samples`.
+-- Holds: `Question`, `ask`, `askAt`, `answer`, `firstNo`; `mostBlocks`, `mostSymbols`, `mostInformation`; `blocksOf` (T), `symbolsTo`; `frameQuestions`,
+-- `symbolQuestion`, `transmissionQuestion`, and from them the questions of decoding, encoding, display and marks; `encoding-samples`, `decoding-samples`,
+-- `marks-samples`.
 use mathlib.Core.Path.{_≡_, refl}
 use mathlib.Core.Bool.{Bool, _&&_}
 use mathlib.Core.List.{List, [], _∷_, _++_}

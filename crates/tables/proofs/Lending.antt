@@ -10,10 +10,12 @@ use Rattle.code.specs.Settings.{isSetting, settingOf}
 use Rattle.code.proofs.Settings.{soundOf, largestOf}
 use Rattle.tables.specs.parts.Rows.{rowsLength, Narrow, RowsOf, Ready}
 
-pub readyOf : (s : ℕ) (p : Setting) → Passes (isSetting s) → p ≡ settingOf s → (products : Products) (rows : List ℕ) → ProductsOf (p .q) products → RowsOf (settingOf s) rows
+pub readyOf : (s : ℕ) (p : Setting) → Passes (isSetting s) → p ≡ settingOf s → (products : Products) (rows : List ℕ) → ProductsOf (p .q) products
+    → RowsOf (settingOf s) rows
     → Ready p products rows
 readyOf s p t e products rows lent R =
-    subst (λ (x : Setting). Ready x products rows) (sym e) (record { sound = soundOf s t; products = subst (λ (x : Setting). ProductsOf (x .q) products) e lent; rows = R })
+    subst (λ (x : Setting). Ready x products rows) (sym e)
+    (record { sound = soundOf s t; products = subst (λ (x : Setting). ProductsOf (x .q) products) e lent; rows = R })
 
 pub narrowOf : (s : ℕ) (p : Setting) → Passes (isSetting s) → p ≡ settingOf s → Narrow p
 narrowOf s p t e = subst Narrow (sym e) (record { rows = largestOf rowsLength s t; block = largestOf (λ x. x .n) s t })

@@ -63,7 +63,8 @@ module _ (p : Setting) (S : Sound p) (rows : List ℕ) (R : RowsOf p rows) (j r 
             subst (λ (t : ℕ). t < p .q) (sym (row-symbol i inside)) (rowSymbol-below p S j r i);
       }
 
-  pub row-added : (v : ℕ) (before after : List ℕ) → length before ≡ p .n → MultipleAdded (p .q) v (length before) row before after → RowAdded p r v j before after
+  pub row-added : (v : ℕ) (before after : List ℕ) → length before ≡ p .n → MultipleAdded (p .q) v (length before) row before after
+      → RowAdded p r v j before after
   row-added v before after long M =
       record {
         long = M .long;

@@ -29,13 +29,22 @@ loop-holds c = (omega arith, omega arith, total-none (nonzero (now (c .args .sym
 
 loop-again : tie.Need-loop-again Inv-loop μ-loop
 loop-again c =
-    let l = c .before .before .before .loop in
-    (omega arith, omega arith, l .inv .2 ∙ total-same (nonzero (now (c .before .before .before .before .args .symbols))) (l .i) (ap (λ (t : Bool). pick (not t) 1 0) (eq-eqb _ _ (c .if1 .taken))))
+    let l = c .before .before .before .loop in (
+      omega arith,
+      omega arith,
+      l .inv .2 ∙ total-same (nonzero (now (c .before .before .before .before .args .symbols))) (l .i)
+          (ap (λ (t : Bool). pick (not t) 1 0) (eq-eqb _ _ (c .if1 .taken))),
+    )
 
 loop-again-2 : tie.Need-loop-again-2 Inv-loop μ-loop
 loop-again-2 c =
-    let l = c .before .before .before .loop in
-    (omega arith, omega arith, ap (λ (t : ℕ). t + 1) (l .inv .2) ∙ total-more (nonzero (now (c .before .before .before .before .args .symbols))) (l .i) 1 (ap (λ (t : Bool). pick (not t) 1 0) (ne-eqb _ _ (c .if1 .left))))
+    let l = c .before .before .before .loop in (
+      omega arith,
+      omega arith,
+      ap (λ (t : ℕ). t + 1) (l .inv .2)
+          ∙ total-more (nonzero (now (c .before .before .before .before .args .symbols))) (l .i) 1
+          (ap (λ (t : Bool). pick (not t) 1 0) (ne-eqb _ _ (c .if1 .left))),
+    )
 
 returns : tie.Need-returns Inv-loop μ-loop
 returns c =

@@ -8,53 +8,88 @@ use Rattle.block.proofs.Step.{step-long, step-near, step-far}
 use Rattle.block.proofs.repair.Statement.{statement}
 use Rattle.block.proofs.repair.Tie as tie
 
+-- Stages of the call, each from a later one.
+abbrev entry-of-add-distance : tie.After-slice-known4 → tie.Start
+entry-of-add-distance c = c .before .before .before .before .before .before
+
+abbrev entry-of-begin : tie.After-begin → tie.Start
+entry-of-begin c = c .before .before .before .before .before .before .before .before .before .before .before .before .before
+
+abbrev before-if1 : tie.After-struct-known3 → tie.After-begin
+before-if1 c = c .before .before .before .before .before .before .before .before .before
+
+abbrev entry-of-if1 : tie.After-struct-known3 → tie.Start
+entry-of-if1 c = entry-of-begin (before-if1 c)
+
+abbrev before-read-candidate-call : tie.After-read-candidate-arg4 → tie.After-begin
+before-read-candidate-call c = c .before .before .before .before .before .before .before .before .before .before .before .before .before .before
+
+abbrev entry-of-read-candidate-call : tie.After-read-candidate-arg4 → tie.Start
+entry-of-read-candidate-call c = entry-of-begin (before-read-candidate-call c)
+
+abbrev before-read-candidate : tie.After-read-candidate → tie.After-begin
+before-read-candidate c = c .before .before .before .before .before .before .before .before .before .before .before .before .before .before .before
+
+abbrev before-cost-call : tie.After-cost-arg → tie.After-read-candidate
+before-cost-call c = c .before .before .before .before .before .before .before
+
+abbrev entry-of-cost-call : tie.After-cost-arg → tie.Start
+entry-of-cost-call c = entry-of-read-candidate-call (before-cost-call c .before)
+
+abbrev before-cost : tie.After-cost → tie.After-read-candidate
+before-cost c = c .before .before .before .before .before .before .before .before
+
 add-distance : tie.Need-add-distance
-add-distance c = let entry = c .before .before .before .before .before .before in omega (arith, entry .pre .3, sizes (entry .args .p) (entry .pre .0 .sound) .memory-most)
+add-distance c = let entry = entry-of-add-distance c in omega (arith, entry .pre .3, sizes (entry .args .p) (entry .pre .0 .sound) .memory-most)
 
 mul-distance : tie.Need-mul-distance
-mul-distance c = let entry = c .before .before .before .before .before .before .before in omega (arith, level-fits (entry .args .p) (entry .pre .0 .sound) (entry .args .l) (entry .pre .3), sizes (entry .args .p) (entry .pre .0 .sound) .symbols-most)
+mul-distance c = let entry = entry-of-add-distance (c .before) in omega
+    (arith, level-fits (entry .args .p) (entry .pre .0 .sound) (entry .args .l) (entry .pre .3), sizes (entry .args .p) (entry .pre .0 .sound) .symbols-most)
 
 sub-distance : tie.Need-sub-distance
-sub-distance c = let entry = c .before .before .before .before .before .before .before .before in level-fits (entry .args .p) (entry .pre .0 .sound) (entry .args .l) (entry .pre .3)
+sub-distance c = let entry = entry-of-add-distance (c .before .before) in level-fits (entry .args .p) (entry .pre .0 .sound) (entry .args .l) (entry .pre .3)
 
 mul-if1 : tie.Need-mul-if1
 mul-if1 c =
-    let entry = c .before .before .before .before .before .before .before .before .before .before .before .before .before .before .before .before .before .before .before .before .before .before in
-    let located = c .before .before .before .before .before .before .before .before .before .begin .ensures .located .pair .located in
+    let entry = entry-of-if1 c in
+    let located = before-if1 c .begin .ensures .located .pair .located in
     omega (arith, located .grown, located .placed, sizes (entry .args .p) (entry .pre .0 .sound) .symbols-most)
 
 returns : tie.Need-returns
 returns c =
-    let entry = c .before .before .before .before .before .before .before .before .before .before .before .before .before .before .before .before .before .before .before .before .before .before .before in
-    step-long (entry .pre .0 .sound) (entry .pre .3) (entry .pre .1) (entry .pre .2) (c .before .before .before .before .before .before .before .before .before .before .begin .ensures) (omega arith)
+    let entry = entry-of-if1 (c .before) in
+    step-long (entry .pre .0 .sound) (entry .pre .3) (entry .pre .1) (entry .pre .2) (before-if1 (c .before) .begin .ensures) (omega arith)
 
 read-candidate-requires : tie.Need-read-candidate-requires
 read-candidate-requires c κs =
-    let entry = c .before .before .before .before .before .before .before .before .before .before .before .before .before .before .before .before .before .before .before .before .before .before .before .before .before .before .before in
-    let kept = c .before .before .before .before .before .before .before .before .before .before .before .before .before .before .begin .kept in (
+    let entry = entry-of-read-candidate-call c in
+    let kept = before-read-candidate-call c .begin .kept in (
       entry .pre .0,
       entry .pre .2,
       entry .pre .3,
       block-areas-kept (entry .pre .4) (kept .1 .1 .1 .1 .0) (kept .1 .1 .1 .1 .1 .0) (kept .1 .1 .1 .1 .1 .1 .0) (kept .1 .1 .1 .1 .1 .1 .1 .0),
-      c .before .before .before .before .before .before .before .before .before .before .before .before .before .before .begin .ensures,
+      before-read-candidate-call c .begin .ensures,
     )
 
 cost-requires : tie.Need-cost-requires
 cost-requires c κs =
-    let entry = c .before .before .before .before .before .before .before .before .before .before .before .before .before .before .before .before .before .before .before .before .before .before .before .before .before .before .before .before .before .before .before .before .before .before .before in
+    let entry = entry-of-cost-call c in
     let fits = level-fits (entry .args .p) (entry .pre .0 .sound) (entry .args .l) (entry .pre .3) in
-    let long = c .before .before .before .before .before .before .before .read-candidate .kept .1 .1 .1 .1 .1 .1 .1 .1 .1 .0 ∙ (c .before .before .before .before .before .before .before .before .before .before .before .before .before .before .before .before .before .before .before .before .before .before .begin .kept .1 .1 .1 .1 .1 .1 .1 .0 ∙ entry .pre .4 .information-long) in
-    (entry .pre .0, c .before .before .before .before .before .before .before .read-candidate .ensures .reads .below, omega (arith, fits, long), entry .pre .3, entry .pre .1)
+    let long = before-cost-call c .read-candidate .kept .1 .1 .1 .1 .1 .1 .1 .1 .1 .0
+    ∙ (before-read-candidate (before-cost-call c) .begin .kept .1 .1 .1 .1 .1 .1 .1 .0 ∙ entry .pre .4 .information-long) in
+    (entry .pre .0, before-cost-call c .read-candidate .ensures .reads .below, omega (arith, fits, long), entry .pre .3, entry .pre .1)
 
 returns-2 : tie.Need-returns-2
 returns-2 c =
-    let entry = c .before .before .before .before .before .before .before .before .before .before .before .before .before .before .before .before .before .before .before .before .before .before .before .before .before .before .before .before .before .before .before .before .before .before .before .before .before in
-    step-near (entry .pre .0 .sound) (entry .pre .3) (entry .pre .1) (entry .pre .2) (c .before .before .before .before .before .before .before .before .before .before .before .before .before .before .before .before .before .before .before .before .before .before .before .before .begin .ensures) (c .before .before .before .before .before .before .before .before .before .read-candidate .ensures) (c .before .cost .ensures) (omega arith)
+    let entry = entry-of-cost-call (c .before .before) in
+    step-near (entry .pre .0 .sound) (entry .pre .3) (entry .pre .1) (entry .pre .2) (before-read-candidate (before-cost (c .before)) .begin .ensures)
+    (before-cost (c .before) .read-candidate .ensures) (c .before .cost .ensures) (omega arith)
 
 returns-3 : tie.Need-returns-3
 returns-3 c =
-    let entry = c .before .before .before .before .before .before .before .before .before .before .before .before .before .before .before .before .before .before .before .before .before .before .before .before .before .before .before .before .before .before .before .before .before .before .before .before .before in
-    step-far (entry .pre .0 .sound) (entry .pre .3) (entry .pre .1) (entry .pre .2) (c .before .before .before .before .before .before .before .before .before .before .before .before .before .before .before .before .before .before .before .before .before .before .before .before .begin .ensures) (c .before .before .before .before .before .before .before .before .before .read-candidate .ensures) (c .before .cost .ensures) (omega arith)
+    let entry = entry-of-cost-call (c .before .before) in
+    step-far (entry .pre .0 .sound) (entry .pre .3) (entry .pre .1) (entry .pre .2) (before-read-candidate (before-cost (c .before)) .begin .ensures)
+    (before-cost (c .before) .read-candidate .ensures) (c .before .cost .ensures) (omega arith)
 
 pub repair-spec : {M : Type 1} → statement M
 repair-spec =

@@ -17,7 +17,8 @@ use Rattle.code.specs.Settings.{codeOf}
 abbrev pub lacking : Setting → List ℕ → ℕ → ℕ → List ℕ → ℕ → ℕ
 lacking p values from point information j =
     opsOf (p .q) .add (at information (from + (p .k - j)))
-    (sub (opsOf (p .q)) (opsOf (p .q) .neg (falling (opsOf (p .q)) (p .k) (λ e. at values (from + e)) point)) (timesG (codeOf p) (λ r. at information (from + r)) 0 (p .n - j)))
+    (sub (opsOf (p .q)) (opsOf (p .q) .neg (falling (opsOf (p .q)) (p .k) (λ e. at values (from + e)) point))
+    (timesG (codeOf p) (λ r. at information (from + r)) 0 (p .n - j)))
 
 -- The last `count` symbols of the information block at `from` were recovered from the values there; what stood before `from` still does.
 pub record BlockRead (p : Setting) (from count : ℕ) (values before after : List ℕ) : Type 0 where

@@ -15,7 +15,8 @@ convolution o a b j = sum o (suc j) (λ i. o .mul (a i) (b (j - i)))
 unfoldable pub tail : {F : Type 0} → Ops F → ℕ → (ℕ → F) → (ℕ → F) → ℕ → F
 tail o L σ c j = sum o L (λ a. o .mul (σ (a + 1)) (c (j - (a + 1))))
 
--- σ is a locator of degree at most L for c_0 .. c_s, and τ the former one, of degree at most p - L, that fails first at place p; `scale` undoes its discrepancy.
+-- σ is a locator of degree at most L for c_0 .. c_s, and τ the former one, of degree at most p - L, that fails first at place p; `scale` undoes its
+-- discrepancy.
 pub record Located {F : Type 0} (o : Ops F) (c : ℕ → F) (s L p : ℕ) (scale : F) (σ τ : ℕ → F) : Type 0 where
   pub grown : L ≤ p
   pub placed : p ≤ s

@@ -6,7 +6,8 @@ use Rattle.block_test.proofs.compare.Statement.{statement}
 use Rattle.block_test.proofs.compare.Tie as tie
 
 abbrev Inv-loop : tie.InvT-loop
-Inv-loop p products rows l distance count stride end blocks₀ near₀ agree₀ number₀ blocks near agree number = (number ≤ end + stride) × (blocks ≤ number) × (near ≤ blocks) × (agree ≤ blocks)
+Inv-loop p products rows l distance count stride end blocks₀ near₀ agree₀ number₀ blocks near agree number =
+    (number ≤ end + stride) × (blocks ≤ number) × (near ≤ blocks) × (agree ≤ blocks)
 
 abbrev μ-loop : tie.MeasureT-loop
 μ-loop p products rows l distance count stride end blocks₀ near₀ agree₀ number₀ blocks near agree number = end + stride - number

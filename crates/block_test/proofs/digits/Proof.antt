@@ -25,7 +25,11 @@ rem-symbols : tie.Need-rem-symbols Inv-loop μ-loop
 rem-symbols c = omega (arith, zero-below (c .before .before .args .q) (c .before .before .pre))
 
 cast-symbols : tie.Need-cast-symbols Inv-loop μ-loop
-cast-symbols c = omega (arith, mod-lt (c .before .loop .rest) (zero-below (c .before .before .args .q) (c .before .before .pre)), good-small (c .before .before .args .q) (c .before .before .pre))
+cast-symbols c = omega (
+  arith,
+  mod-lt (c .before .loop .rest) (zero-below (c .before .before .args .q) (c .before .before .pre)),
+  good-small (c .before .before .args .q) (c .before .before .pre),
+)
 
 div-rest : tie.Need-div-rest Inv-loop μ-loop
 div-rest c = omega (arith, zero-below (c .before .before .args .q) (c .before .before .pre))

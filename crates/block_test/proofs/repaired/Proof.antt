@@ -6,6 +6,10 @@ use borrow.Author.Needs.{needs}
 use Rattle.block_test.proofs.repaired.Statement.{statement}
 use Rattle.block_test.proofs.repaired.Tie as tie
 
+-- Stages of the call, each from a later one.
+abbrev entry-of-information : tie.After-information → tie.Start
+entry-of-information c = c .before .before .before .before .before .before .before
+
 slice-aggregate-repaired-in : tie.Need-slice-aggregate-repaired-in
 slice-aggregate-repaired-in c = sym (length-take-le _ _ (omega arith))
 
@@ -20,7 +24,7 @@ slice-aggregate-repaired-in-4 c = sym (length-take-le _ _ (omega arith))
 
 repaired-in-requires : tie.Need-repaired-in-requires
 repaired-in-requires c κs =
-    let p = c .before .before .before .before .before .before .before .pre in (
+    let p = entry-of-information c .pre in (
       p .0,
       p .2,
       p .3,

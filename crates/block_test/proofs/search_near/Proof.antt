@@ -11,8 +11,12 @@ Inv-loop p products rows l received distance count x₀ x = x ≤ count
 abbrev μ-loop : tie.MeasureT-loop
 μ-loop p products rows l received distance count x₀ x = count - x
 
+-- Stages of the call, each from a later one.
+abbrev entry-of-information : tie.After-information Inv-loop μ-loop → tie.Start Inv-loop μ-loop
+entry-of-information c = c .before .before .before .before .before .before
+
 near-requires : tie.Need-near-requires Inv-loop μ-loop
-near-requires c κs = let p = c .before .before .before .before .before .before .pre in (p .0, c .before .digits .ensures .1, omega arith, p .2, p .3)
+near-requires c κs = let p = entry-of-information c .pre in (p .0, c .before .digits .ensures .1, omega arith, p .2, p .3)
 
 pub search-near-spec : {M : Type 1} → statement M
 search-near-spec =

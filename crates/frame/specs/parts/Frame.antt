@@ -59,5 +59,7 @@ pub data FrameRead (p : Setting) (T : ℕ) (reception message residual : List �
 
 -- The last comparison: every window of the residual costs at most d against zeros, that is less than d_0 + .. + d_m; or one costs more.
 pub data Compared (p : Setting) (T : ℕ) (residual : List ℕ) : Bool → Type 0 where
-  all-near : ((j : ℕ) → j < T → zeroCost (p .q) (take (windowLength p) (drop (j * p .n) residual)) < distancesTo (p .n) (p .k) (p .m)) → Compared p T residual true
-  one-far : (j : ℕ) → j < T → distancesTo (p .n) (p .k) (p .m) ≤ zeroCost (p .q) (take (windowLength p) (drop (j * p .n) residual)) → Compared p T residual false
+  all-near : ((j : ℕ) → j < T → zeroCost (p .q) (take (windowLength p) (drop (j * p .n) residual)) < distancesTo (p .n) (p .k) (p .m))
+      → Compared p T residual true
+  one-far : (j : ℕ) → j < T → distancesTo (p .n) (p .k) (p .m) ≤ zeroCost (p .q) (take (windowLength p) (drop (j * p .n) residual))
+      → Compared p T residual false

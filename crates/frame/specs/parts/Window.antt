@@ -25,5 +25,6 @@ pub data LevelTried (p : Setting) (window : List ℕ) (l : ℕ) (information : L
 -- The information near a window, so many blocks: every near y begins with it; or none, and no y is near.
 pub data LevelSearch (p : Setting) (window information : List ℕ) : ℕ → Type 0 where
   served : (blocks : ℕ) → 1 ≤ blocks → blocks ≤ p .m + 1 → AllBelow (p .q) information
-      → ((y : ℕ → ℕ → ℕ) → BlocksBelow (p .q) y → Near p window (p .m) y → (r : ℕ) → r < p .k → y 0 r ≡ getD information r 0) → LevelSearch p window information blocks
+      → ((y : ℕ → ℕ → ℕ) → BlocksBelow (p .q) y → Near p window (p .m) y → (r : ℕ) → r < p .k → y 0 r ≡ getD information r 0)
+      → LevelSearch p window information blocks
   none-serves : ((y : ℕ → ℕ → ℕ) → BlocksBelow (p .q) y → Near p window (p .m) y → ⊥) → LevelSearch p window information 0

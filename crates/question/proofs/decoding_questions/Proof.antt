@@ -7,9 +7,14 @@ use lib.ListN.{length, drop}
 use borrow.Author.Tests.{eq-eqb, ne-eqb, le-leb, lt-leb}
 use Rattle.code.specs.Settings.{settingOf}
 use Rattle.question.specs.Questions.{answer, frameQuestions, decodingQuestions}
-use Rattle.question.proofs.Questions.{Left, left-yes, says-no, says-yes, first-says-no, after-frame, decodingLater, FrameYes, frame-yes, frame-of-setting, Frame, message-most, transmission-most}
+use Rattle.question.proofs.Questions.{Left, left-yes, says-no, says-yes, first-says-no, after-frame, decodingLater, FrameYes, frame-yes}
+use Rattle.question.proofs.Questions.{frame-of-setting, Frame, message-most, transmission-most}
 use Rattle.question.proofs.decoding_questions.Statement.{statement}
 use Rattle.question.proofs.decoding_questions.Tie as tie
+
+-- Stages of the call, each from a later one.
+abbrev entry-of-setting-of : tie.After-setting-of → tie.Start
+entry-of-setting-of c = c .before .before .before .before .before
 
 returns : tie.Need-returns
 returns c =
@@ -21,19 +26,19 @@ returns c =
 asked : (c : tie.Else1) → FrameYes (c .before .before .before .before .args .number) (length (now (c .before .before .before .before .args .reception)))
 asked c = frame-yes _ _ (c .before .before .frame-questions .ensures) (c .if1 .left)
 
-frame : (c : tie.After-setting-of) → Frame (c .setting-of .result) (length (now (c .before .before .before .before .before .args .reception)))
+frame : (c : tie.After-setting-of) → Frame (c .setting-of .result) (length (now (entry-of-setting-of c .args .reception)))
 frame c = frame-of-setting (asked (c .before)) (c .setting-of .ensures)
 
 -- What is left after questions 1 to 3 and some more, over the setting in hand.
 abbrev After : tie.After-setting-of → ℕ → Type 0
 After c more =
-    let a = c .before .before .before .before .before .args in
+    let a = entry-of-setting-of c .args in
     Left (decodingQuestions (a .number) (now (a .reception)) (a .message-room) (a .transmission-room))
     (drop more (decodingLater (now (a .reception)) (a .message-room) (a .transmission-room) (c .setting-of .result)))
 
 three : (c : tie.After-setting-of) → After c 0
 three c =
-    let a = c .before .before .before .before .before .args in
+    let a = entry-of-setting-of c .args in
     after-frame (a .number) (length (now (a .reception))) (c .setting-of .result) (decodingLater (now (a .reception)) (a .message-room) (a .transmission-room))
     (c .before .before .before .frame-questions .ensures) (c .before .if1 .left) (c .setting-of .ensures)
 
@@ -48,7 +53,7 @@ four c = left-yes (three (c .before .before)) (eq-eqb _ _ (sym (c .before .first
 mul-if3 : tie.Need-mul-if3
 mul-if3 c =
     let p = c .before .before in
-    let number = p .before .before .before .before .before .args .number in
+    let number = entry-of-setting-of (c .before .before) .args .number in
     omega (arith, message-most number (p .setting-of .result) _ (asked (p .before) .setting) (p .setting-of .ensures) (frame p .most))
 
 returns-3 : tie.Need-returns-3
@@ -60,7 +65,7 @@ five c = left-yes (four (c .before)) (le-leb _ _ (c .if3 .left))
 mul-if4 : tie.Need-mul-if4
 mul-if4 c =
     let p = c .before .before .before in
-    let number = p .before .before .before .before .before .args .number in
+    let number = entry-of-setting-of (c .before .before .before) .args .number in
     omega (arith, transmission-most number (p .setting-of .result) _ (asked (p .before) .setting) (p .setting-of .ensures) (frame p .most))
 
 returns-4 : tie.Need-returns-4

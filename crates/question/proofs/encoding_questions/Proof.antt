@@ -10,12 +10,17 @@ use borrow.Author.Tests.{eq-eqb, ne-eqb, le-leb, lt-leb, not-true}
 use Rattle.code.specs.Settings.{isSetting}
 use Rattle.code.proofs.Settings.{Sizes}
 use Rattle.question.specs.Questions.{Question, answer, encodingQuestions}
-use Rattle.question.proofs.Questions.{Left, left-all, left-yes, says-no, says-yes, after-first, encodingLater, setting-known, setting-sizes, transmission-most}
+use Rattle.question.proofs.Questions.{Left, left-all, left-yes, says-no, says-yes, after-first, encodingLater, setting-known, setting-sizes}
+use Rattle.question.proofs.Questions.{transmission-most}
 use Rattle.question.proofs.encoding_questions.Statement.{statement}
 use Rattle.question.proofs.encoding_questions.Tie as tie
 
 abbrev questions : tie.Start → List Question
 questions c = encodingQuestions (c .args .number) (now (c .args .message)) (c .args .transmission-room)
+
+-- Stages of the call, each from a later one.
+abbrev before-first-not-below : tie.After-first-not-below → tie.After-setting-of
+before-first-not-below c = c .before .before .before .before
 
 returns : tie.Need-returns
 returns c =
@@ -59,15 +64,15 @@ returns-5 c =
     let e = c .before .before .first-not-below .ensures in
     says-no (three (c .before .before .before)) (ne-eqb _ _ (λ z. c .before .if5 .taken (e ∙ z))) (c .no5 .ensures ∙ ap (λ (t : ℕ). answer 4 t 0) e)
 
-four : (c : tie.Else5) → After (c .before .before .before .before .before) 3
+four : (c : tie.Else5) → After (before-first-not-below (c .before)) 3
 four c = left-yes (three (c .before .before)) (eq-eqb _ _ (sym (c .before .first-not-below .ensures) ∙ c .if5 .left))
 
 add-if6 : tie.Need-add-if6
-add-if6 c = omega (arith, c .before .before .if4 .left, sizes (c .before .before .before .before .before) .memory-most)
+add-if6 c = omega (arith, c .before .before .if4 .left, sizes (before-first-not-below (c .before)) .memory-most)
 
 mul-if6 : tie.Need-mul-if6
 mul-if6 c =
-    let p = c .before .before .before .before .before in
+    let p = before-first-not-below (c .before) in
     let number = p .before .before .before .before .args .number in
     omega (arith, transmission-most number (p .setting-of .result) _ (known (p .before)) (p .setting-of .ensures) (c .before .before .if4 .left))
 

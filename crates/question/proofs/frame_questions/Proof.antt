@@ -17,6 +17,10 @@ use Rattle.question.proofs.frame_questions.Tie as tie
 abbrev questions : tie.Start → List Question
 questions c = frameQuestions (c .args .number) (c .args .long)
 
+-- Stages of the call, each from a later one.
+abbrev entry-of-else2 : tie.Else2 → tie.Start
+entry-of-else2 c = c .before .before .before .before
+
 returns : tie.Need-returns
 returns c =
     let unknown = sym (c .before .before .is-setting .ensures) ∙ not-true _ (c .before .if1 .taken) in
@@ -48,7 +52,7 @@ two c = left-yes (one (c .before .before)) (simp (eq-eqb _ _ (c .before .if2 .le
 
 sub-if4 : tie.Need-sub-if4
 sub-if4 c =
-    let enough : c .before .before .setting-of .result .m + 1 ≤ c .before .before .before .before .before .args .long / c .before .before .setting-of .result .n =
+    let enough : c .before .before .setting-of .result .m + 1 ≤ entry-of-else2 (c .before) .args .long / c .before .before .setting-of .result .n =
     le-div-iff-mul-le (sizes (c .before .before) .symbols) .1 (c .if3 .left) in
     omega arith
 

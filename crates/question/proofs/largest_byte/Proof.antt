@@ -23,13 +23,17 @@ one-more bytes i most next before grown here a h = at (ℕ-discrete a i)
     at (yes e) = subst (λ (t : ℕ). getD bytes t 0 ≤ next) (sym e) here
     at (no d) = omega (arith, before a (omega arith))
 
+-- Stages of the call, each from a later one.
+abbrev entry-of-larger : tie.After-larger Inv-loop μ-loop → tie.Start Inv-loop μ-loop
+entry-of-larger c = c .before .before .before .before .before
+
 loop-holds : tie.Need-loop-holds Inv-loop μ-loop
 loop-holds c = (omega arith, λ a h. absurd (omega arith))
 
 loop-again : tie.Need-loop-again Inv-loop μ-loop
 loop-again c =
     let l = c .before .before .before .loop in
-    (omega arith, one-more (now (c .before .before .before .before .before .args .bytes)) (l .i) (l .most) _ (l .inv .1) (c .larger .ensures .0) (c .larger .ensures .1))
+    (omega arith, one-more (now (entry-of-larger c .args .bytes)) (l .i) (l .most) _ (l .inv .1) (c .larger .ensures .0) (c .larger .ensures .1))
 
 returns : tie.Need-returns Inv-loop μ-loop
 returns c = record { below = λ a h. omega (arith, c .before .loop .inv .1 a (omega arith)) }

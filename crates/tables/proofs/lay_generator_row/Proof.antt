@@ -17,6 +17,16 @@ use Rattle.tables.proofs.lay_generator_row.Tie as tie
 abbrev Inside : tie.Start → ℕ → Type 0
 Inside c s = (c .args .j < settingOf s .m + 1) × (c .args .r < settingOf s .k) × (c .args .at + settingOf s .n ≤ length (now (c .args .area)))
 
+-- Stages of the call, each from a later one.
+abbrev before-end : tie.After-slice-known2 → tie.After-generator-1
+before-end c = c .before .before .before .before .before .before
+
+abbrev before-end-2 : tie.After-slice-known3 → tie.After-generator-2
+before-end-2 c = c .before .before .before .before .before .before
+
+abbrev before-end-3 : tie.After-slice-known4 → tie.After-generator-3
+before-end-3 c = c .before .before .before .before .before .before
+
 inside : (c : tie.Start) (s : ℕ) → c .args .number ≡ s → Inside c s
 inside c s e = subst (Inside c) e (c .pre .1, c .pre .2, c .pre .3)
 
@@ -38,7 +48,7 @@ in-first c = inside (c .before .before .before) 1 (first c)
 
 returns : tie.Need-returns
 returns c =
-    let known = c .before .before .before .before .before .before in
+    let known = before-end c in
     laid (known .before .before .before) 1 (first known) _ (known .generator-1 .ensures) _ (c .before .before .lay-row .ensures)
 
 second : (c : tie.After-generator-2) → c .before .before .before .before .args .number ≡ 2
@@ -49,7 +59,7 @@ in-second c = inside (c .before .before .before .before) 2 (second c)
 
 returns-2 : tie.Need-returns-2
 returns-2 c =
-    let known = c .before .before .before .before .before .before in
+    let known = before-end-2 c in
     laid (known .before .before .before .before) 2 (second known) _ (known .generator-2 .ensures) _ (c .before .before .lay-row2 .ensures)
 
 third : (c : tie.After-generator-3) → c .before .before .before .before .args .number ≡ 3
@@ -60,7 +70,7 @@ in-third c = inside (c .before .before .before .before) 3 (third c)
 
 returns-3 : tie.Need-returns-3
 returns-3 c =
-    let known = c .before .before .before .before .before .before in
+    let known = before-end-3 c in
     laid (known .before .before .before .before) 3 (third known) _ (known .generator-3 .ensures) _ (c .before .before .lay-row3 .ensures)
 
 pub lay-generator-row-spec : {M : Type 1} → statement M

@@ -20,6 +20,16 @@ Inv-loop number area₀ k n count a₀ area a = (a ≤ count) × (length area �
 abbrev μ-loop : tie.MeasureT-loop
 μ-loop number area₀ k n count a₀ area a = count - a
 
+-- Stages of the call, each from a later one.
+abbrev entry-of-setting-of : tie.After-setting-of Inv-loop μ-loop → tie.Start Inv-loop μ-loop
+entry-of-setting-of c = c .before .before
+
+abbrev before-add-a : tie.After-slice-known2 Inv-loop μ-loop → tie.After-setting-of Inv-loop μ-loop
+before-add-a c = c .before .before .before .before .before .before .before
+
+abbrev entry-of-add-a : tie.After-slice-known2 Inv-loop μ-loop → tie.Start Inv-loop μ-loop
+entry-of-add-a c = entry-of-setting-of (before-add-a c)
+
 setting-of-requires : tie.Need-setting-of-requires Inv-loop μ-loop
 setting-of-requires c κs = c .before .pre .0
 
@@ -47,11 +57,11 @@ rem-lay-generator-row c = omega (arith, sound (c .before .before .before) .infor
 
 -- Row a is one of the generator's, and has room.
 within : (c : tie.In-loop Inv-loop μ-loop)
-    → let p : Setting = settingOf (c .before .before .before .before .before .args .number) in
+    → let p : Setting = settingOf (entry-of-setting-of (c .before .before .before) .args .number) in
     let a : ℕ = c .before .loop .a in
     (a / p .k < p .m + 1) × (a % p .k < p .k) × (a * p .n + p .n ≤ length (c .before .loop .area))
 within c =
-    let entry = c .before .before .before .before .before in
+    let entry = entry-of-setting-of (c .before .before .before) in
     let s = entry .args .number in
     row-within (settingOf s) (soundOf s (entry .pre .0)) (c .before .loop .a) (c .before .loop .area)
     (subst (λ (x : Setting). c .before .loop .a < (x .m + 1) * x .k) (c .before .before .before .setting-of .ensures) (c .loop-test .taken))
@@ -59,12 +69,12 @@ within c =
 
 -- The same, with the figures of the setting in hand where the code has them.
 requires-of : (c : tie.In-loop Inv-loop μ-loop)
-    → let p : Setting = settingOf (c .before .before .before .before .before .args .number) in
+    → let p : Setting = settingOf (entry-of-setting-of (c .before .before .before) .args .number) in
     let x : Setting = c .before .before .before .setting-of .result in
     let a : ℕ = c .before .loop .a in
     (a / x .k < p .m + 1) × (a % x .k < p .k) × (a * x .n + p .n ≤ length (c .before .loop .area))
 requires-of c =
-    let p : Setting = settingOf (c .before .before .before .before .before .args .number) in
+    let p : Setting = settingOf (entry-of-setting-of (c .before .before .before) .args .number) in
     let a : ℕ = c .before .loop .a in
     subst (λ (x : Setting). (a / x .k < p .m + 1) × (a % x .k < p .k) × (a * x .n + p .n ≤ length (c .before .loop .area)))
     (sym (c .before .before .before .setting-of .ensures)) (within c)
@@ -75,16 +85,16 @@ mul-lay-generator-row c = omega (arith, requires-of c .2)
 lay-generator-row-requires : tie.Need-lay-generator-row-requires Inv-loop μ-loop
 lay-generator-row-requires c κs =
     let w = requires-of (c .before) in
-    (c .before .before .before .before .before .before .pre .0, w .0, w .1, w .2)
+    (entry-of-setting-of (c .before .before .before .before) .pre .0, w .0, w .1, w .2)
 
 add-a : tie.Need-add-a Inv-loop μ-loop
-add-a c = omega (arith, few (c .before .before .before .before .before .before .before))
+add-a c = omega (arith, few (before-add-a c))
 
 loop-again : tie.Need-loop-again Inv-loop μ-loop
 loop-again c =
     let turn = c .before .before .before .before in
     let l = turn .before .loop in
-    let p : Setting = settingOf (turn .before .before .before .before .before .args .number) in
+    let p : Setting = settingOf (entry-of-add-a c .args .number) in
     let after = c .before .before .lay-generator-row .last .1 .1 .1 .1 .0 in
     let laid : after ≡ paste (l .area) (l .a * p .n) (generatorRow p (l .a / p .k) (l .a % p .k)) (p .n) =
     subst (λ (x : Setting). after ≡ paste (l .area) (l .a * x .n) (generatorRow p (l .a / x .k) (l .a % x .k)) (p .n))
@@ -96,7 +106,7 @@ loop-again c =
 
 returns : tie.Need-returns Inv-loop μ-loop
 returns c =
-    let entry = c .before .before .before .before .before in
+    let entry = entry-of-setting-of (c .before .before .before) in
     let p : Setting = settingOf (entry .args .number) in
     let l = c .before .loop in
     let x : Setting = c .before .before .before .setting-of .result in

@@ -28,36 +28,48 @@ Inv-loop p products rows information l block n cost₀ i₀ cost i = (i ≤ n) �
 abbrev μ-loop : tie.MeasureT-loop
 μ-loop p products rows information l block n cost₀ i₀ cost i = n - i
 
+-- Stages of the call, each from a later one.
+abbrev entry-of-after-loop : tie.After-loop Inv-loop μ-loop → tie.Start Inv-loop μ-loop
+entry-of-after-loop c = c .before .before .before .before .before
+
+abbrev entry-of-in-loop : tie.In-loop Inv-loop μ-loop → tie.Start Inv-loop μ-loop
+entry-of-in-loop c = c .before .before .before .before .before
+
 loop-holds : tie.Need-loop-holds Inv-loop μ-loop
 loop-holds c = let a = c .before .before .before .args in (omega arith, omega arith, total-none (symbol (a .p) (now (a .information)) (a .l) (now (a .block))))
 
 combination-requires : tie.Need-combination-requires Inv-loop μ-loop
-combination-requires c κs = let p = c .before .before .before .before .before .pre in (p .0, all-symbols (p .1), p .2, p .3, omega arith)
+combination-requires c κs = let p = entry-of-in-loop c .pre in (p .0, all-symbols (p .1), p .2, p .3, omega arith)
 
 loop-again : tie.Need-loop-again Inv-loop μ-loop
 loop-again c =
     let l = c .before .before .before .before .loop in
-    let a = c .before .before .before .before .before .before .before .before .args in
-    (omega arith, omega arith, l .inv .2 ∙ total-same (symbol (a .p) (now (a .information)) (a .l) (now (a .block))) (l .i) (cost-same (a .p .q) _ _ (c .if1 .taken ∙ c .before .before .combination .ensures .same)))
+    let a = entry-of-in-loop (c .before .before .before) .args in (
+      omega arith,
+      omega arith,
+      l .inv .2 ∙ total-same (symbol (a .p) (now (a .information)) (a .l) (now (a .block))) (l .i)
+          (cost-same (a .p .q) _ _ (c .if1 .taken ∙ c .before .before .combination .ensures .same)),
+    )
 
 add-cost : tie.Need-add-cost Inv-loop μ-loop
-add-cost c = let entry = c .before .before .before .before .before .before .before .before in omega (arith, sizes (entry .args .p) (entry .pre .0 .sound) .symbols-most)
+add-cost c = let entry = entry-of-in-loop (c .before .before .before) in omega (arith, sizes (entry .args .p) (entry .pre .0 .sound) .symbols-most)
 
 loop-again-2 : tie.Need-loop-again-2 Inv-loop μ-loop
 loop-again-2 c =
     let l = c .before .before .before .before .loop in
-    let a = c .before .before .before .before .before .before .before .before .args in (
+    let a = entry-of-in-loop (c .before .before .before) .args in (
       omega arith,
       omega arith,
       ap (λ (t : ℕ). t + 2) (l .inv .2)
-          ∙ total-more (symbol (a .p) (now (a .information)) (a .l) (now (a .block))) (l .i) 2 (cost-differ (a .p .q) _ _ (λ e. c .if1 .left (e ∙ sym (c .before .before .combination .ensures .same)))),
+          ∙ total-more (symbol (a .p) (now (a .information)) (a .l) (now (a .block))) (l .i) 2
+          (cost-differ (a .p .q) _ _ (λ e. c .if1 .left (e ∙ sym (c .before .before .combination .ensures .same)))),
     )
 
 returns : tie.Need-returns Inv-loop μ-loop
 unfolding blockCost
 returns c =
     let l = c .before .loop in
-    let done : l .i ≡ c .before .before .before .before .before .args .p .n = omega arith in
+    let done : l .i ≡ entry-of-after-loop c .args .p .n = omega arith in
     rw done at (l .inv .2)
 
 pub cost-spec : {M : Type 1} → statement M

@@ -16,6 +16,10 @@ Inv-loop q products k values from y sum₀ e₀ sum e = (e ≤ k) × Is q sum (f
 abbrev μ-loop : tie.MeasureT-loop
 μ-loop q products k values from y sum₀ e₀ sum e = k - e
 
+-- Stages of the call, each from a later one.
+abbrev entry-of-add : tie.After-add Inv-loop μ-loop → tie.Start Inv-loop μ-loop
+entry-of-add c = c .before .before .before .before .before
+
 loop-holds : tie.Need-loop-holds Inv-loop μ-loop
 loop-holds c = (omega arith, falling-none _ (c .before .pre .0) _ _)
 
@@ -27,11 +31,11 @@ add-requires c κs =
     (p .0, l .inv .1 .below, p .2 (a .from + l .e))
 
 multiply-requires : tie.Need-multiply-requires Inv-loop μ-loop
-multiply-requires c κs = let p = c .before .before .before .before .before .pre in (p .0, p .1, c .add .ensures .below, p .4)
+multiply-requires c κs = let p = entry-of-add c .pre in (p .0, p .1, c .add .ensures .below, p .4)
 
 loop-again : tie.Need-loop-again Inv-loop μ-loop
 loop-again c =
-    let p = c .before .before .before .before .before .before .pre in
+    let p = entry-of-add (c .before) .pre in
     let l = c .before .before .before .before .loop in
     (omega arith, falling-more _ (p .0) _ _ (l .e) (l .sum) _ _ (l .inv .1) (c .before .add .ensures) (c .multiply .ensures))
 

@@ -17,15 +17,19 @@ Inv-loop q products degree locator series j sum₀ a₀ sum a = (a ≤ degree) �
 abbrev μ-loop : tie.MeasureT-loop
 μ-loop q products degree locator series j sum₀ a₀ sum a = degree - a
 
+-- Stages of the call, each from a later one.
+abbrev entry-of-add-product-call : tie.After-shared-slice-known4 Inv-loop μ-loop → tie.Start Inv-loop μ-loop
+entry-of-add-product-call c = c .before .before .before .before .before .before
+
 loop-holds : tie.Need-loop-holds Inv-loop μ-loop
 unfolding tail
 loop-holds c = (search needs, sum-none _ _ (c .before .before .pre .0))
 
 add-product-requires : tie.Need-add-product-requires Inv-loop μ-loop
 add-product-requires c κs =
-    let p = c .before .before .before .before .before .before .pre in
+    let p = entry-of-add-product-call c .pre in
     let l = c .before .before .before .loop in
-    (p .0, p .1, l .inv .1 .below, p .2 (l .a + 1), p .4 (c .before .before .before .before .before .before .args .j - (l .a + 1)))
+    (p .0, p .1, l .inv .1 .below, p .2 (l .a + 1), p .4 (entry-of-add-product-call c .args .j - (l .a + 1)))
 
 loop-again : tie.Need-loop-again Inv-loop μ-loop
 unfolding tail

@@ -20,11 +20,15 @@ unit-of w l h e =
       rest = λ i l. getD-set-other (replicate w 0) 0 i 1 0 (omega arith) ∙ getD-zeros w i;
     })
 
+-- Stages of the call, each from a later one.
+abbrev entry-of-end : tie.After-slice-known2 → tie.Start
+entry-of-end c = c .before .before .before .before .before
+
 same-length : tie.Need-same-length
 same-length c = search needs
 
 returns : tie.Need-returns
-returns c = unit-of _ _ (c .before .before .before .before .before .pre) (c .before .before .clear .ensures)
+returns c = unit-of _ _ (entry-of-end c .pre) (c .before .before .clear .ensures)
 
 pub unit-spec : {M : Type 1} → statement M
 unit-spec = tie.close (tie.spec (λ c κs. search needs) (search needs) same-length returns)

@@ -13,10 +13,15 @@ use Rattle.block.proofs.spectrum.add_values.Statement.{statement}
 use Rattle.block.proofs.spectrum.add_values.Tie as tie
 
 abbrev Inv-loop : tie.InvT-loop
-Inv-loop q products block from to start series₀ point₀ s₀ series point s = (s ≤ to) × (length series ≡ length series₀) × Is q point (power (opsOf q) alpha s) × SpectrumOf q block s series
+Inv-loop q products block from to start series₀ point₀ s₀ series point s =
+    (s ≤ to) × (length series ≡ length series₀) × Is q point (power (opsOf q) alpha s) × SpectrumOf q block s series
 
 abbrev μ-loop : tie.MeasureT-loop
 μ-loop q products block from to start series₀ point₀ s₀ series point s = to - s
+
+-- Stages of the call, each from a later one.
+abbrev entry-of-value : tie.After-value Inv-loop μ-loop → tie.Start Inv-loop μ-loop
+entry-of-value c = c .before .before .before .before .before
 
 loop-holds : tie.Need-loop-holds Inv-loop μ-loop
 loop-holds c = let p = c .before .before .pre in (p .3, refl, p .5, p .6)
@@ -25,19 +30,23 @@ value-requires : tie.Need-value-requires Inv-loop μ-loop
 value-requires c κs = let p = c .before .before .before .before .pre in (p .0, p .1, p .2, c .before .loop .inv .2 .below)
 
 multiply-requires : tie.Need-multiply-requires Inv-loop μ-loop
-multiply-requires c κs = let p = c .before .before .before .before .before .pre in (p .0, p .1, alpha-below _ (p .0), c .before .before .loop .inv .2 .below)
+multiply-requires c κs = let p = entry-of-value c .pre in (p .0, p .1, alpha-below _ (p .0), c .before .before .loop .inv .2 .below)
 
 add-s : tie.Need-add-s Inv-loop μ-loop
-add-s c = let p = c .before .before .before .before .before .before .pre in omega (arith, p .4)
+add-s c = let p = entry-of-value (c .before) .pre in omega (arith, p .4)
 
 slice-write-series : tie.Need-slice-write-series Inv-loop μ-loop
-slice-write-series c = let p = c .before .before .before .before .before .before .pre in omega (arith, p .4, c .before .before .before .loop .inv .1)
+slice-write-series c = let p = entry-of-value (c .before) .pre in omega (arith, p .4, c .before .before .before .loop .inv .1)
 
 loop-again : tie.Need-loop-again Inv-loop μ-loop
 loop-again c =
-    let p = c .before .before .before .before .before .before .pre in
-    let l = c .before .before .before .loop in
-    (omega arith, simp length-set (l .inv .1), point-more _ _ _ _ (l .inv .2) (c .multiply .ensures), spectrum-more _ _ _ _ _ _ (l .inv .3) (omega (arith, p .4, l .inv .1)) (l .inv .2) (c .before .value .ensures))
+    let p = entry-of-value (c .before) .pre in
+    let l = c .before .before .before .loop in (
+      omega arith,
+      simp length-set (l .inv .1),
+      point-more _ _ _ _ (l .inv .2) (c .multiply .ensures),
+      spectrum-more _ _ _ _ _ _ (l .inv .3) (omega (arith, p .4, l .inv .1)) (l .inv .2) (c .before .value .ensures),
+    )
 
 returns : tie.Need-returns Inv-loop μ-loop
 returns c =

@@ -15,36 +15,59 @@ Inv-loop q products degree locator r count series₀ values₀ u₀ series value
 abbrev μ-loop : tie.MeasureT-loop
 μ-loop q products degree locator r count series₀ values₀ u₀ series values u = count - u
 
+-- Stages of the call, each from a later one.
+abbrev entry-of-at-loop : tie.At-loop Inv-loop μ-loop → tie.Start Inv-loop μ-loop
+entry-of-at-loop c = c .before .before .before .before
+
+abbrev before-add-call : tie.After-slice-known3 Inv-loop μ-loop → tie.At-loop Inv-loop μ-loop
+before-add-call c = c .before .before .before .before .before
+
+abbrev entry-of-add-call : tie.After-slice-known3 Inv-loop μ-loop → tie.Start Inv-loop μ-loop
+entry-of-add-call c = entry-of-at-loop (before-add-call c)
+
+abbrev before-add : tie.After-add Inv-loop μ-loop → tie.At-loop Inv-loop μ-loop
+before-add c = c .before .before .before .before .before .before
+
 loop-holds : tie.Need-loop-holds Inv-loop μ-loop
 loop-holds c = let p = c .before .before .before .pre in (omega arith, refl, refl, continued-none _ _ _ _ _ _ (p .4) (p .7))
 
 tail-requires : tie.Need-tail-requires Inv-loop μ-loop
-tail-requires c κs = let p = c .before .before .before .before .before .before .pre in let l = c .before .before .loop in (p .0, p .1, p .2, p .3, l .inv .3 .below, omega arith, omega (arith, l .inv .1))
+tail-requires c κs = let p = entry-of-at-loop (c .before .before) .pre in let l = c .before .before .loop in
+    (p .0, p .1, p .2, p .3, l .inv .3 .below, omega arith, omega (arith, l .inv .1))
 
 negate-requires : tie.Need-negate-requires Inv-loop μ-loop
-negate-requires c κs = (c .before .before .before .before .before .before .before .pre .0, c .tail .ensures .below)
+negate-requires c κs = (entry-of-at-loop (c .before .before .before) .pre .0, c .tail .ensures .below)
 
 slice-read-add : tie.Need-slice-read-add Inv-loop μ-loop
-slice-read-add c = omega (arith, c .before .before .before .before .before .loop .inv .1)
+slice-read-add c = omega (arith, before-add-call c .loop .inv .1)
 
 add-requires : tie.Need-add-requires Inv-loop μ-loop
-add-requires c κs = let l = c .before .before .before .before .before .loop in (c .before .before .before .before .before .before .before .before .before .pre .0, l .inv .3 .below (c .before .before .before .before .before .before .before .before .before .args .r + 1 + l .u), c .before .before .tail .ensures .below)
+add-requires c κs = let l = before-add-call c .loop in (
+  entry-of-add-call c .pre .0,
+  l .inv .3 .below (entry-of-add-call c .args .r + 1 + l .u),
+  c .before .before .tail .ensures .below,
+)
 
 slice-write-values : tie.Need-slice-write-values Inv-loop μ-loop
-slice-write-values c = omega (arith, c .before .before .before .before .before .before .loop .inv .2)
+slice-write-values c = omega (arith, before-add c .loop .inv .2)
 
 slice-write-series : tie.Need-slice-write-series Inv-loop μ-loop
-slice-write-series c = omega (arith, c .before .before .before .before .before .before .loop .inv .1)
+slice-write-series c = omega (arith, before-add c .loop .inv .1)
 
 loop-again : tie.Need-loop-again Inv-loop μ-loop
 loop-again c =
-    let l = c .before .before .before .before .before .before .loop in
-    (omega arith, simp length-set (l .inv .1), simp length-set (l .inv .2), continued-more _ _ _ _ _ _ _ _ _ _ _ (l .inv .3) (omega (arith, l .inv .1)) (omega (arith, l .inv .2)) (c .before .before .before .tail .ensures) (c .add .ensures) (c .before .before .negate .ensures))
+    let l = before-add c .loop in (
+      omega arith,
+      simp length-set (l .inv .1),
+      simp length-set (l .inv .2),
+      continued-more _ _ _ _ _ _ _ _ _ _ _ (l .inv .3) (omega (arith, l .inv .1)) (omega (arith, l .inv .2)) (c .before .before .before .tail .ensures)
+          (c .add .ensures) (c .before .before .negate .ensures),
+    )
 
 returns : tie.Need-returns Inv-loop μ-loop
 returns c =
     let l = c .before .loop in
-    let done : l .u ≡ c .before .before .before .before .before .args .count = omega arith in
+    let done : l .u ≡ entry-of-at-loop (c .before) .args .count = omega arith in
     rw done at (l .inv .3)
 
 pub extend-spec : {M : Type 1} → statement M

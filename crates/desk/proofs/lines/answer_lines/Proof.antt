@@ -20,9 +20,19 @@ abbrev μ-loop : tie.MeasureT-loop
 μ-loop buffer line₀ held reception₀ message₀ transmission₀ output₀ progress₀ line reception message transmission output progress =
     length buffer - progress .from
 
+-- Stages of the call, each from a later one.
+abbrev entry-of-loop-holds : tie.After-slice-known5 Inv-loop μ-loop → tie.Start Inv-loop μ-loop
+entry-of-loop-holds c = c .before .before .before .before .before .before
+
+abbrev before-step : tie.After-step Inv-loop μ-loop → tie.At-loop Inv-loop μ-loop
+before-step c = c .before .before .before .before .before .before .before .before
+
+abbrev before-loop-less : tie.After-slice-known10 Inv-loop μ-loop → tie.After-step Inv-loop μ-loop
+before-loop-less c = c .before .before .before .before .before .before .before .before .before .before
+
 loop-holds : tie.Need-loop-holds Inv-loop μ-loop
 loop-holds c =
-    let a = c .before .before .before .before .before .before .args in (
+    let a = entry-of-loop-holds c .args in (
       omega arith,
       record { place = omega arith; characters = omega arith; waiting = omega arith },
       λ begun H. reached-none begun (now (a .buffer)) (now (a .line)) (a .held) (now (a .output)) H,
@@ -41,8 +51,8 @@ step-requires c κs = (
 
 loop-again : tie.Need-loop-again Inv-loop μ-loop
 loop-again c =
-    let stepped = c .before .before .before .before .before .before .before .before .before .before in
-    let l = stepped .before .before .before .before .before .before .before .before .loop in (
+    let stepped = before-loop-less c in
+    let l = before-step (before-loop-less c) .loop in (
       omega arith,
       record { place = omega arith; characters = omega arith; waiting = omega arith },
       λ begun H. stepped .step .ensures .reached begun (l .inv .2 begun H),
@@ -50,7 +60,7 @@ loop-again c =
 
 returns : tie.Need-returns Inv-loop μ-loop
 returns c =
-    let a = c .before .before .before .before .before .before .before .before .before .args in
+    let a = entry-of-loop-holds (c .before .before .before) .args in
     let l = c .before .before .loop in
     let p = l .progress in
     record {

@@ -11,9 +11,16 @@ use Rattle.desk.proofs.Texts.{held-copied}
 use Rattle.desk.proofs.lines.keep.Statement.{statement}
 use Rattle.desk.proofs.lines.keep.Tie as tie
 
+-- Stages of the call, each from a later one.
+abbrev entry-of-end-2 : tie.After-slice-known3 → tie.Start
+entry-of-end-2 c = c .before .before .before .before .before .before .before
+
+abbrev entry-of-end : tie.After-slice-known2 → tie.Start
+entry-of-end c = c .before .before .before .before .before .before .before .before
+
 returns : tie.Need-returns
 returns c =
-    let entry = c .before .before .before .before .before .before .before .before in
+    let entry = entry-of-end c in
     let part = now (entry .args .part) in
     let area = now (entry .args .line) in
     let held = entry .args .held in
@@ -31,7 +38,7 @@ returns c =
 
 returns-2 : tie.Need-returns-2
 returns-2 c =
-    let entry = c .before .before .before .before .before .before .before in
+    let entry = entry-of-end-2 c in
     let part = now (entry .args .part) in
     let area = now (entry .args .line) in
     let held = entry .args .held in

@@ -12,36 +12,46 @@ use Rattle.desk.proofs.Texts.{answer-few, put-behind}
 use Rattle.desk.proofs.lines.put.Statement.{statement}
 use Rattle.desk.proofs.lines.put.Tie as tie
 
+-- Stages of the call, each from a later one.
+abbrev entry-of-answer-line : tie.After-answer-line → tie.Start
+entry-of-answer-line c = c .before .before .before .before .before .before .before .before .before .before
+
+abbrev before-end : tie.After-slice-known8 → tie.After-answer-line
+before-end c = c .before .before .before .before .before .before .before .before
+
+abbrev entry-of-end : tie.After-slice-known8 → tie.Start
+entry-of-end c = entry-of-answer-line (before-end c)
+
 -- The answer was not longer than there was room for.
 few : (c : tie.After-answer-line)
-    → let entry = c .before .before .before .before .before .before .before .before .before .before in
+    → let entry = entry-of-answer-line c in
     c .answer-line .result + 1 ≤ answersRoom (length (now (entry .args .line)) + 1)
 few c =
-    let entry = c .before .before .before .before .before .before .before .before .before .before in
+    let entry = entry-of-answer-line c in
     answer-few _ _ _ _ (answered-shown _ _ _ _ _ _ (entry .pre .1) (c .answer-line .ensures))
 
 add-end : tie.Need-add-end
 add-end c =
-    let answered = c .before .before .before .before .before .before .before .before in
-    let entry = answered .before .before .before .before .before .before .before .before .before .before in
+    let answered = before-end c in
+    let entry = entry-of-end c in
     omega (arith, few answered, entry .pre .0)
 
 slice-write-output : tie.Need-slice-write-output
 slice-write-output c =
-    let answered = c .before .before .before .before .before .before .before .before in
-    let entry = answered .before .before .before .before .before .before .before .before .before .before in
+    let answered = before-end c in
+    let entry = entry-of-end c in
     omega (arith, few answered, entry .pre .0)
 
 add-result : tie.Need-add-result
 add-result c =
-    let answered = c .before .before .before .before .before .before .before .before in
-    let entry = answered .before .before .before .before .before .before .before .before .before .before in
+    let answered = before-end c in
+    let entry = entry-of-end c in
     omega (arith, few answered, entry .pre .0)
 
 returns : tie.Need-returns
 returns c =
-    let answered = c .before .before .before .before .before .before .before .before in
-    let entry = answered .before .before .before .before .before .before .before .before .before .before in
+    let answered = before-end c in
+    let entry = entry-of-end c in
     let a = entry .args in
     let done = answered .answer-line in
     let room = length (now (a .output)) - a .filled in

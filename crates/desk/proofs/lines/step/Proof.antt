@@ -9,10 +9,26 @@ use Rattle.desk.proofs.Texts.{room-after, reached-unended, reached-ende
 use Rattle.desk.proofs.lines.step.Statement.{statement}
 use Rattle.desk.proofs.lines.step.Tie as tie
 
+-- Stages of the call, each from a later one.
+abbrev entry-of-find : tie.After-find → tie.Start
+entry-of-find c = c .before .before .before .before .before .before .before
+
+abbrev before-if1 : tie.After-slice-known6 → tie.After-find
+before-if1 c = c .before .before .before .before .before
+
+abbrev entry-of-if1 : tie.After-slice-known6 → tie.Start
+entry-of-if1 c = entry-of-find (before-if1 c)
+
+abbrev before-put : tie.After-put → tie.Else1
+before-put c = c .before .before .before .before .before .before .before
+
+abbrev before-end-2 : tie.After-slice-known10 → tie.After-put
+before-end-2 c = c .before .before .before .before .before .before .before .before
+
 returns : tie.Need-returns
 returns c =
-    let found-at = c .before .before .before .before .before .before in
-    let entry = found-at .before .before .before .before .before .before .before in
+    let found-at = before-if1 (c .before) in
+    let entry = entry-of-if1 (c .before) in
     let a = entry .args in
     let p = a .progress in
     let found = found-at .find in
@@ -26,11 +42,11 @@ returns c =
 
 returns-2 : tie.Need-returns-2
 returns-2 c =
-    let put = c .before .before .before .before .before .before .before .before .put in
-    let tested = c .before .before .before .before .before .before .before .before .before .before .before .before .before .before .before in
+    let put = before-end-2 c .put in
+    let tested = before-put (before-end-2 c) in
     let kept-at = tested .before .before .before in
     let found-at = kept-at .before .before .before in
-    let entry = found-at .before .before .before .before .before .before .before in
+    let entry = entry-of-find found-at in
     let a = entry .args in
     let p = a .progress in
     let buffer = now (a .buffer) in

@@ -23,23 +23,33 @@ Inv-loop reception transmission from long set₀ left₀ set left =
 abbrev μ-loop : tie.MeasureT-loop
 μ-loop reception transmission from long set₀ left₀ set left = left
 
+-- Stages of the call, each from a later one.
+abbrev entry-of-differ : tie.After-differ Inv-loop μ-loop → tie.Start Inv-loop μ-loop
+entry-of-differ c = c .before .before .before .before .before .before .before
+
 loop-holds : tie.Need-loop-holds Inv-loop μ-loop
 unfolding bits
 loop-holds c =
     let entry = c .before .before in
-    let none : entry .args .long - entry .args .long ≡ 0 = omega arith in
-    (omega arith, sym (ap (λ (t : ℕ). bits t (λ i. test (now (entry .args .reception)) (now (entry .args .transmission)) (entry .args .from) (entry .args .long + i))) none))
+    let none : entry .args .long - entry .args .long ≡ 0 = omega arith in (
+      omega arith,
+      sym (ap (λ (t : ℕ). bits t (λ i. test (now (entry .args .reception)) (now (entry .args .transmission)) (entry .args .from)
+          (entry .args .long + i))) none),
+    )
 
 -- One more place before those already taken: its mark is the lowest bit, and the number still fits.
 more : (c : tie.After-differ Inv-loop μ-loop)
     → (c .before .before .before .before .loop .set * 2 + c .differ .result
-    ≡ bits (c .before .before .before .before .before .before .before .args .long - (c .before .before .before .before .loop .left - 1))
-    (λ i. test (now (c .before .before .before .before .before .before .before .args .reception)) (now (c .before .before .before .before .before .before .before .args .transmission)) (c .before .before .before .before .before .before .before .args .from) (c .before .before .before .before .loop .left - 1 + i)))
+    ≡ bits (entry-of-differ c .args .long - (c .before .before .before .before .loop .left - 1))
+    (λ i. test (now (entry-of-differ c .args .reception)) (now (entry-of-differ c .args .transmission)) (entry-of-differ c .args .from)
+    (c .before .before .before .before .loop .left - 1 + i)))
     × (c .before .before .before .before .loop .set * 2 + c .differ .result < 2 ^ 32)
 more c =
-    let entry = c .before .before .before .before .before .before .before in
-    bits-more (entry .args .long) (c .before .before .before .before .loop .left) (test (now (entry .args .reception)) (now (entry .args .transmission)) (entry .args .from))
-    (c .before .before .before .before .loop .set) (c .differ .result) (c .before .before .before .loop-test .taken) (c .before .before .before .before .loop .inv .0) (entry .pre .0) (c .before .before .before .before .loop .inv .1) (c .differ .ensures)
+    let entry = entry-of-differ c in
+    bits-more (entry .args .long) (c .before .before .before .before .loop .left)
+    (test (now (entry .args .reception)) (now (entry .args .transmission)) (entry .args .from))
+    (c .before .before .before .before .loop .set) (c .differ .result) (c .before .before .before .loop-test .taken)
+    (c .before .before .before .before .loop .inv .0) (entry .pre .0) (c .before .before .before .before .loop .inv .1) (c .differ .ensures)
 
 mul-set : tie.Need-mul-set Inv-loop μ-loop
 mul-set c = omega (arith, more c .1)
@@ -54,7 +64,8 @@ returns : tie.Need-returns Inv-loop μ-loop
 returns c =
     let entry = c .before .before .before .before in
     let done : c .before .loop .left ≡ 0 = omega arith in
-    c .before .loop .inv .1 ∙ bits-whole (entry .args .long) (c .before .loop .left) (test (now (entry .args .reception)) (now (entry .args .transmission)) (entry .args .from)) done
+    c .before .loop .inv .1 ∙ bits-whole (entry .args .long) (c .before .loop .left)
+    (test (now (entry .args .reception)) (now (entry .args .transmission)) (entry .args .from)) done
 
 pub differences-spec : {M : Type 1} → statement M
 differences-spec =

@@ -8,28 +8,32 @@ use Rattle.display.proofs.Display.{Window, window-yes, marked-refused, 
 use Rattle.display.proofs.mark.marks.Statement.{statement}
 use Rattle.display.proofs.mark.marks.Tie as tie
 
+-- Stages of the call, each from a later one.
+abbrev entry-of-if1 : tie.After-struct-known → tie.Start
+entry-of-if1 c = c .before .before .before .before
+
 returns : tie.Need-returns
 returns c =
-    let a = c .before .before .before .before .before .args in
+    let a = entry-of-if1 (c .before) .args in
     let asked = c .before .before .marks-questions in
     marked-refused (a .setting) (now (a .reception)) (now (a .transmission)) (a .j) (asked .result) (asked .ensures) (c .if1 .taken)
 
 -- Every question got "yes".
 known : (c : tie.Else1)
-    → let a = c .before .before .before .before .before .args in
+    → let a = entry-of-if1 (c .before) .args in
     WindowYes (a .setting) (length (now (a .reception))) (a .j) × (length (now (a .reception)) ≡ length (now (a .transmission)))
 known c =
-    let a = c .before .before .before .before .before .args in
+    let a = entry-of-if1 (c .before) .args in
     marks-yes (a .setting) (length (now (a .reception))) (length (now (a .transmission))) (a .j)
     (ap (λ a. a .number) (sym (c .before .before .marks-questions .ensures)) ∙ c .if1 .left)
 
 inside : (c : tie.After-setting-of)
-    → let a = c .before .before .before .before .before .before .args in Window (c .setting-of .result) (length (now (a .reception))) (a .j)
+    → let a = entry-of-if1 (c .before .before) .args in Window (c .setting-of .result) (length (now (a .reception))) (a .j)
 inside c = window-yes _ _ _ (c .setting-of .result) (c .setting-of .ensures) (known (c .before) .0)
 
 returns-2 : tie.Need-returns-2
 returns-2 c =
-    let a = c .before .before .before .before .before .before .before .args in
+    let a = entry-of-if1 (c .before .before .before) .args in
     let asked = c .before .before .before .before .marks-questions in
     marked-found (a .setting) (now (a .reception)) (now (a .transmission)) (a .j) (asked .result) (asked .ensures)
     (c .before .setting-of .result) (c .differences .result) (c .before .before .if1 .left) (c .before .setting-of .ensures) (c .differences .ensures)

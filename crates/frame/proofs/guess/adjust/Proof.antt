@@ -15,6 +15,16 @@ use Rattle.frame.proofs.Guesses.{window-room, symbol-room, adjusted}
 use Rattle.frame.proofs.guess.adjust.Statement.{statement}
 use Rattle.frame.proofs.guess.adjust.Tie as tie
 
+-- Stages of the call, each from a later one.
+abbrev entry-of-add-size : tie.After-struct-known2 → tie.Start
+entry-of-add-size c = c .before .before .before .before .before
+
+abbrev before-end : tie.After-slice-known4 → tie.After-add
+before-end c = c .before .before .before .before .before
+
+abbrev entry-of-end : tie.After-slice-known4 → tie.Start
+entry-of-end c = entry-of-add-size (before-end c .before .before)
+
 room : (c : tie.Start) → c .args .i * c .args .p .n + windowLength (c .args .p) ≤ length (now (c .args .residual))
 room c =
     let a = c .args in
@@ -32,38 +42,42 @@ add-place : tie.Need-add-place
 add-place c = omega (arith, inside (c .before .before .before .before))
 
 add-size : tie.Need-add-size
-add-size c = let entry = c .before .before .before .before .before in omega (arith, sizes (entry .args .p) (entry .pre .0 .sound) .memory-most)
+add-size c = let entry = entry-of-add-size c in omega (arith, sizes (entry .args .p) (entry .pre .0 .sound) .memory-most)
 
 mul-size : tie.Need-mul-size
-mul-size c = omega (arith, room (c .before .before .before .before .before))
+mul-size c = omega (arith, room (entry-of-add-size c))
 
 mul-start : tie.Need-mul-start
-mul-start c = omega (arith, room (c .before .before .before .before .before))
+mul-start c = omega (arith, room (entry-of-add-size c))
 
 add-end : tie.Need-add-end
-add-end c = omega (arith, room (c .before .before .before .before .before))
+add-end c = omega (arith, room (entry-of-add-size c))
 
 slice-read-add : tie.Need-slice-read-add
-slice-read-add c = inside (c .before .before .before .before .before .before)
+slice-read-add c = inside (entry-of-add-size (c .before))
 
 add-requires : tie.Need-add-requires
 add-requires c κs =
-    let entry = c .before .before .before .before .before .before in
-    let a = entry .args in
-    (entry .pre .0 .sound .good, symbol-below (a .p .q) (now (a .message)) (entry .pre .4 .message-symbols) (positive (a .p) (entry .pre .0 .sound)) (a .i * a .p .k + a .r), entry .pre .3)
+    let entry = entry-of-add-size (c .before) in
+    let a = entry .args in (
+      entry .pre .0 .sound .good,
+      symbol-below (a .p .q) (now (a .message)) (entry .pre .4 .message-symbols) (positive (a .p) (entry .pre .0 .sound))
+          (a .i * a .p .k + a .r),
+      entry .pre .3,
+    )
 
 slice-write-message : tie.Need-slice-write-message
-slice-write-message c = inside (c .before .before .before .before .before .before .before)
+slice-write-message c = inside (entry-of-add-size (c .before .before))
 
 negate-requires : tie.Need-negate-requires
-negate-requires c κs = let entry = c .before .before .before .before .before .before .before in (entry .pre .0 .sound .good, entry .pre .3)
+negate-requires c κs = let entry = entry-of-add-size (c .before .before) in (entry .pre .0 .sound .good, entry .pre .3)
 
 part-add-rows-end : tie.Need-part-add-rows-end
-part-add-rows-end c = room (c .before .before .before .before .before .before .before .before)
+part-add-rows-end c = room (entry-of-add-size (c .before .before .before))
 
 add-rows-requires : tie.Need-add-rows-requires
 add-rows-requires c κs =
-    let entry = c .before .before .before .before .before .before .before .before .before in
+    let entry = entry-of-add-size (c .before .before .before .before) in
     let a = entry .args in (
       entry .pre .0,
       entry .pre .2,
@@ -74,11 +88,12 @@ add-rows-requires c κs =
 
 returns : tie.Need-returns
 returns c =
-    let entry = c .before .before .before .before .before .before .before .before .before .before .before .before in
+    let entry = entry-of-end c in
     let a = entry .args in
     let less = c .before .before .before .before .negate in
-    adjusted (a .p) (entry .pre .0 .sound) (a .blocks) (a .i) (a .r) (a .v) (now (a .message)) (now (a .residual)) (entry .pre .4) (entry .pre .1) (entry .pre .2) (entry .pre .3)
-    (c .before .before .before .before .before .add .result) (c .before .before .before .before .before .add .ensures .same)
+    adjusted (a .p) (entry .pre .0 .sound) (a .blocks) (a .i) (a .r) (a .v) (now (a .message)) (now (a .residual)) (entry .pre .4) (entry .pre .1)
+    (entry .pre .2) (entry .pre .3)
+    (before-end c .add .result) (before-end c .add .ensures .same)
     (less .result) (less .ensures .below)
     (ap (opsOf (a .p .q) .add (a .v)) (less .ensures .same) ∙ laws (a .p) (entry .pre .0 .sound) .plus-neg (a .v) (entry .pre .3))
     (c .before .before .add-rows .last .1 .1 .1 .1 .1 .0) (c .before .before .add-rows .ensures)

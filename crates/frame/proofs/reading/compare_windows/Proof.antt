@@ -31,10 +31,20 @@ inside T m n size long j e f l =
     let top : j + (m + 1) ≤ T + m = omega arith in
     omega (arith, mul-le-mul-right n top)
 
-window-room : (c : tie.In-loop Inv-loop μ-loop) → c .before .loop .start + windowLength (c .before .before .before .before .args .p) ≤ length (now (c .before .before .before .before .args .residual))
+-- Stages of the call, each from a later one.
+abbrev entry-of-zero-cost : tie.After-zero-cost Inv-loop μ-loop → tie.Start Inv-loop μ-loop
+entry-of-zero-cost c = c .before .before .before .before .before .before
+
+window-room : (c : tie.In-loop Inv-loop μ-loop) → c .before .loop .start + windowLength (c .before .before .before .before .args .p) ≤ length
+    (now (c .before .before .before .before .args .residual))
 window-room c =
     let a = c .before .before .before .before .args in
-    omega (arith, inside (a .blocks) (a .p .m) (a .p .n) (windowLength (a .p)) (length (now (a .residual))) (c .before .loop .j) refl (c .before .before .before .before .pre .2) (c .loop-test .taken), c .before .loop .inv .1)
+    omega (
+      arith,
+      inside (a .blocks) (a .p .m) (a .p .n) (windowLength (a .p)) (length (now (a .residual))) (c .before .loop .j) refl
+          (c .before .before .before .before .pre .2) (c .loop-test .taken),
+      c .before .loop .inv .1,
+    )
 
 add-size : tie.Need-add-size Inv-loop μ-loop
 add-size c = let entry = c .before .before in omega (arith, sizes (entry .args .p) (entry .pre .0) .memory-most)
@@ -59,18 +69,22 @@ zero-cost-requires : tie.Need-zero-cost-requires Inv-loop μ-loop
 zero-cost-requires c κs = tt
 
 -- The cost that was counted is the window's.
-counted : (q : ℕ) (c : tie.After-zero-cost Inv-loop μ-loop) → c .zero-cost .result ≡ costAt q (c .before .before .before .before .before .before .args .p .n) (windowLength (c .before .before .before .before .before .before .args .p)) (now (c .before .before .before .before .before .before .args .residual)) (c .before .before .before .loop .j)
+counted : (q : ℕ) (c : tie.After-zero-cost Inv-loop μ-loop)
+    → c .zero-cost .result ≡ costAt q (entry-of-zero-cost c .args .p .n) (windowLength (entry-of-zero-cost c .args .p))
+    (now (entry-of-zero-cost c .args .residual)) (c .before .before .before .loop .j)
 counted q c =
-    let a = c .before .before .before .before .before .before .args in
+    let a = entry-of-zero-cost c .args in
     c .zero-cost .ensures q
-    ∙ ap (λ (t : ℕ). zeroCost q (take t (drop (c .before .before .before .loop .start) (now (a .residual))))) (part-size (windowLength (a .p)) (c .before .before .before .loop .start) (now (a .residual)))
+    ∙ ap (λ (t : ℕ). zeroCost q (take t (drop (c .before .before .before .loop .start) (now (a .residual)))))
+    (part-size (windowLength (a .p)) (c .before .before .before .loop .start) (now (a .residual)))
     ∙ ap (λ (t : ℕ). zeroCost q (take (windowLength (a .p)) (drop t (now (a .residual))))) (c .before .before .before .loop .inv .1)
 
 returns : tie.Need-returns Inv-loop μ-loop
 returns c =
-    let entry = c .before .before .before .before .before .before .before in
+    let entry = entry-of-zero-cost (c .before) in
     let a = entry .args in
-    one-far (c .before .before .before .before .loop .j) (c .before .before .before .loop-test .taken) (omega (arith, c .if1 .taken, counted (a .p .q) (c .before), entry .pre .1))
+    one-far (c .before .before .before .before .loop .j) (c .before .before .before .loop-test .taken)
+    (omega (arith, c .if1 .taken, counted (a .p .q) (c .before), entry .pre .1))
 
 add-start : tie.Need-add-start Inv-loop μ-loop
 add-start c = omega (arith, window-room (c .before .before .before))
@@ -80,11 +94,14 @@ loop-again c =
     let l = c .before .before .before .before .loop in
     (omega arith, omega (arith, l .inv .1), λ q i u. more q i u (decLt i (l .j)))
   where
-    more : (q i : ℕ) → i < c .before .before .before .before .loop .j + 1 → Dec (i < c .before .before .before .before .loop .j) → costAt q (c .before .before .before .before .before .before .before .args .p .n) (windowLength (c .before .before .before .before .before .before .before .args .p)) (now (c .before .before .before .before .before .before .before .args .residual)) i < c .before .before .before .before .before .before .before .args .bound
+    more : (q i : ℕ) → i < c .before .before .before .before .loop .j + 1 → Dec (i < c .before .before .before .before .loop .j)
+        → costAt q (entry-of-zero-cost (c .before) .args .p .n) (windowLength (entry-of-zero-cost (c .before) .args .p))
+        (now (entry-of-zero-cost (c .before) .args .residual)) i < entry-of-zero-cost (c .before) .args .bound
     more q i u (yes h) = c .before .before .before .before .loop .inv .2 q i h
     more q i u (no d) =
         let here : c .before .before .before .before .loop .j ≡ i = omega arith in
-        subst (λ (t : ℕ). costAt q (c .before .before .before .before .before .before .before .args .p .n) (windowLength (c .before .before .before .before .before .before .before .args .p)) (now (c .before .before .before .before .before .before .before .args .residual)) t < c .before .before .before .before .before .before .before .args .bound) here
+        subst (λ (t : ℕ). costAt q (entry-of-zero-cost (c .before) .args .p .n) (windowLength (entry-of-zero-cost (c .before) .args .p))
+        (now (entry-of-zero-cost (c .before) .args .residual)) t < entry-of-zero-cost (c .before) .args .bound) here
         (omega (arith, c .if1 .left, counted q (c .before)))
 
 returns-2 : tie.Need-returns-2 Inv-loop μ-loop

@@ -13,6 +13,32 @@ use Rattle.frame.proofs.Advance.{search-below, search-few, advance-clea
 use Rattle.frame.proofs.reading.settle.Statement.{statement}
 use Rattle.frame.proofs.reading.settle.Tie as tie
 
+-- Stages of the call, each from a later one.
+abbrev entry-of-mul-start : tie.After-struct-known → tie.Start
+entry-of-mul-start c = c .before .before .before .before .before .before .before .before .before
+
+abbrev entry-of-zero-cost : tie.After-zero-cost → tie.Start
+entry-of-zero-cost c = c .before .before .before .before .before .before .before .before .before .before .before .before .before .before
+
+abbrev entry-of-find-level-call : tie.After-find-level-arg5 → tie.Start
+entry-of-find-level-call c = c .before .before .before .before .before .before .before .before .before .before .before .before .before .before .before
+    .before .before .before .before .before .before
+
+abbrev before-if2 : tie.After-slice-known10 → tie.After-find-level
+before-if2 c = c .before .before .before .before .before .before .before .before
+
+abbrev entry-of-if2 : tie.After-slice-known10 → tie.Start
+entry-of-if2 c = entry-of-find-level-call (before-if2 c .before)
+
+abbrev before-else2 : tie.Else2 → tie.After-find-level
+before-else2 c = c .before .before .before .before .before .before .before .before .before
+
+abbrev before-end-3 : tie.After-slice-known12 → tie.Else2
+before-end-3 c = c .before .before .before .before .before .before .before .before
+
+abbrev entry-of-end-3 : tie.After-slice-known12 → tie.Start
+entry-of-end-3 c = entry-of-if2 (before-end-3 c .before)
+
 -- The window lies within the residual.
 room : (c : tie.Start) → c .args .j * c .args .p .n + windowLength (c .args .p) ≤ length (now (c .args .residual))
 room c =
@@ -20,32 +46,34 @@ room c =
     window-room (a .p) (a .blocks) (a .j) (now (a .message)) (now (a .residual)) (c .pre .5 .areas) (c .pre .4)
 
 mul-start : tie.Need-mul-start
-mul-start c = omega (arith, room (c .before .before .before .before .before .before .before .before .before))
+mul-start c = omega (arith, room (entry-of-mul-start c))
 
 add-end : tie.Need-add-end
-add-end c = let entry = c .before .before .before .before .before .before .before .before .before .before in omega (arith, sizes (entry .args .p) (entry .pre .0 .sound) .memory-most)
+add-end c = let entry = entry-of-mul-start (c .before) in omega (arith, sizes (entry .args .p) (entry .pre .0 .sound) .memory-most)
 
 mul-end : tie.Need-mul-end
-mul-end c = omega (arith, room (c .before .before .before .before .before .before .before .before .before .before .before))
+mul-end c = omega (arith, room (entry-of-mul-start (c .before .before)))
 
 add-end-2 : tie.Need-add-end-2
-add-end-2 c = omega (arith, room (c .before .before .before .before .before .before .before .before .before .before .before))
+add-end-2 c = omega (arith, room (entry-of-mul-start (c .before .before)))
 
 part-zero-cost-end : tie.Need-part-zero-cost-end
-part-zero-cost-end c = omega (arith, room (c .before .before .before .before .before .before .before .before .before .before .before .before))
+part-zero-cost-end c = omega (arith, room (entry-of-mul-start (c .before .before .before)))
 
 returns : tie.Need-returns
 returns c =
-    let entry = c .before .before .before .before .before .before .before .before .before .before .before .before .before .before .before in
+    let entry = entry-of-zero-cost (c .before) in
     let a = entry .args in
-    advance-clean (entry .pre .0 .sound) (entry .pre .3) (entry .pre .2) (entry .pre .5) (entry .pre .4) (part-length (windowLength (a .p)) (a .j * a .p .n) (now (a .residual)) (room entry)) (c .before .zero-cost .ensures (a .p .q)) (omega (arith, c .if1 .taken, entry .pre .1))
+    advance-clean (entry .pre .0 .sound) (entry .pre .3) (entry .pre .2) (entry .pre .5) (entry .pre .4)
+    (part-length (windowLength (a .p)) (a .j * a .p .n) (now (a .residual)) (room entry)) (c .before .zero-cost .ensures (a .p .q))
+    (omega (arith, c .if1 .taken, entry .pre .1))
 
 part-find-level-end : tie.Need-part-find-level-end
-part-find-level-end c = omega (arith, room (c .before .before .before .before .before .before .before .before .before .before .before .before .before .before .before .before))
+part-find-level-end c = omega (arith, room (entry-of-zero-cost (c .before .before)))
 
 find-level-requires : tie.Need-find-level-requires
 find-level-requires c κs =
-    let entry = c .before .before .before .before .before .before .before .before .before .before .before .before .before .before .before .before .before .before .before .before .before in
+    let entry = entry-of-find-level-call c in
     let a = entry .args in (
       entry .pre .0,
       part-length (windowLength (a .p)) (a .j * a .p .n) (now (a .residual)) (room entry),
@@ -55,13 +83,14 @@ find-level-requires c κs =
 
 returns-2 : tie.Need-returns-2
 returns-2 c =
-    let entry = c .before .before .before .before .before .before .before .before .before .before .before .before .before .before .before .before .before .before .before .before .before .before .before .before .before .before .before .before .before .before .before in
-    advance-none (entry .pre .0 .sound) (entry .pre .3) (entry .pre .2) (entry .pre .5) (entry .pre .4) (c .before .before .before .before .before .before .before .before .before .find-level .ensures) (c .if2 .taken)
+    let entry = entry-of-if2 (c .before) in
+    advance-none (entry .pre .0 .sound) (entry .pre .3) (entry .pre .2) (entry .pre .5) (entry .pre .4) (before-if2 (c .before) .find-level .ensures)
+    (c .if2 .taken)
 
 add-found-requires : tie.Need-add-found-requires
 add-found-requires c κs =
-    let entry = c .before .before .before .before .before .before .before .before .before .before .before .before .before .before .before .before .before .before .before .before .before .before .before .before .before .before .before .before .before .before .before .before .before .before in
-    let found = c .before .before .before .before .before .before .before .before .before .before .before .before .find-level in
+    let entry = entry-of-if2 (c .before .before .before .before) in
+    let found = before-else2 (c .before .before .before) .find-level in
     let below = search-below (found .ensures) (c .before .before .before .if2 .left) in (
       entry .pre .0,
       record { below = λ i l. below i },
@@ -73,8 +102,9 @@ add-found-requires c κs =
 
 returns-3 : tie.Need-returns-3
 returns-3 c =
-    let entry = c .before .before .before .before .before .before .before .before .before .before .before .before .before .before .before .before .before .before .before .before .before .before .before .before .before .before .before .before .before .before .before .before .before .before .before .before .before .before .before in
-    advance-found (entry .pre .0 .sound) (entry .pre .3) (entry .pre .2) (entry .pre .5) (entry .pre .4) (c .before .before .before .before .before .before .before .before .before .before .before .before .before .before .before .before .before .find-level .ensures) (c .before .before .before .before .before .before .before .before .if2 .left) (c .before .before .before .before .add-found .ensures)
+    let entry = entry-of-end-3 c in
+    advance-found (entry .pre .0 .sound) (entry .pre .3) (entry .pre .2) (entry .pre .5) (entry .pre .4) (before-else2 (before-end-3 c) .find-level .ensures)
+    (before-end-3 c .if2 .left) (c .before .before .before .before .add-found .ensures)
 
 pub settle-spec : {M : Type 1} → statement M
 settle-spec =

@@ -12,6 +12,28 @@ use Rattle.frame.proofs.LevelTried.{step-below, tried-far, tried-refuse
 use Rattle.frame.proofs.window.try_level.Statement.{statement}
 use Rattle.frame.proofs.window.try_level.Tie as tie
 
+-- Stages of the call, each from a later one.
+abbrev entry-of-mul-start : tie.After-slice-known4 → tie.Start
+entry-of-mul-start c = c .before .before .before .before .before .before
+
+abbrev entry-of-repair-call : tie.After-repair-arg5 → tie.Start
+entry-of-repair-call c = c .before .before .before .before .before .before .before .before .before .before .before
+
+abbrev before-if1 : tie.After-slice-known8 → tie.After-repair
+before-if1 c = c .before .before .before .before .before .before .before .before
+
+abbrev entry-of-if1 : tie.After-slice-known8 → tie.Start
+entry-of-if1 c = entry-of-repair-call (before-if1 c .before)
+
+abbrev before-rebuilt-cost-call : tie.After-rebuilt-cost-arg → tie.After-repair
+before-rebuilt-cost-call c = c .before .before .before .before .before .before .before .before .before .before
+
+abbrev before-distances-to : tie.After-distances-to → tie.After-repair
+before-distances-to c = c .before .before .before .before .before .before .before .before .before .before .before .before
+
+abbrev entry-of-distances-to : tie.After-distances-to → tie.Start
+entry-of-distances-to c = entry-of-repair-call (before-distances-to c .before)
+
 -- Block l lies within the window.
 inside : (c : tie.Start) → c .args .l * c .args .p .n + c .args .p .n ≤ length (now (c .args .window))
 inside c =
@@ -19,17 +41,17 @@ inside c =
     omega (arith, mul-le-mul-right (c .args .p .n) top, c .pre .1)
 
 mul-start : tie.Need-mul-start
-mul-start c = omega (arith, inside (c .before .before .before .before .before .before))
+mul-start c = omega (arith, inside (entry-of-mul-start c))
 
 add-end : tie.Need-add-end
-add-end c = omega (arith, inside (c .before .before .before .before .before .before))
+add-end c = omega (arith, inside (entry-of-mul-start c))
 
 part-repair-end : tie.Need-part-repair-end
-part-repair-end c = inside (c .before .before .before .before .before .before)
+part-repair-end c = inside (entry-of-mul-start c)
 
 repair-requires : tie.Need-repair-requires
 repair-requires c κs =
-    let entry = c .before .before .before .before .before .before .before .before .before .before .before in
+    let entry = entry-of-repair-call c in
     let a = entry .args in (
       entry .pre .0,
       part-length (a .p .n) (a .l * a .p .n) (now (a .window)) (inside entry),
@@ -40,30 +62,35 @@ repair-requires c κs =
 
 returns : tie.Need-returns
 returns c =
-    let entry = c .before .before .before .before .before .before .before .before .before .before .before .before .before .before .before .before .before .before .before .before .before in
-    tried-far (entry .pre .0 .sound) (entry .pre .3) (c .before .before .before .before .before .before .before .before .before .repair .ensures) (c .if1 .taken)
+    let entry = entry-of-if1 (c .before) in
+    tried-far (entry .pre .0 .sound) (entry .pre .3) (before-if1 (c .before) .repair .ensures) (c .if1 .taken)
 
 rebuilt-cost-requires : tie.Need-rebuilt-cost-requires
 rebuilt-cost-requires c κs =
-    let entry = c .before .before .before .before .before .before .before .before .before .before .before .before .before .before .before .before .before .before .before .before .before .before in
+    let entry = entry-of-if1 (c .before .before) in
     let a = entry .args in (
       entry .pre .0,
-      step-below (c .before .before .before .before .before .before .before .before .before .before .repair .ensures) (c .before .if1 .left),
-      omega (arith, level-fits (a .p) (entry .pre .0 .sound) (a .l) (entry .pre .3), c .before .before .before .before .before .before .before .before .before .before .repair .kept .1 .1 .1 .1 .1 .1 .1 .1 .0, entry .pre .4 .information-long),
+      step-below (before-rebuilt-cost-call c .repair .ensures) (c .before .if1 .left),
+      omega (
+        arith,
+        level-fits (a .p) (entry .pre .0 .sound) (a .l) (entry .pre .3),
+        before-rebuilt-cost-call c .repair .kept .1 .1 .1 .1 .1 .1 .1 .1 .0,
+        entry .pre .4 .information-long,
+      ),
       entry .pre .3,
       entry .pre .1,
     )
 
 returns-2 : tie.Need-returns-2
 returns-2 c =
-    let entry = c .before .before .before .before .before .before .before .before .before .before .before .before .before .before .before .before .before .before .before .before .before .before .before .before .before in
-    tried-serves (entry .pre .0 .sound) (entry .pre .3) (c .before .before .before .before .before .before .before .before .before .before .before .before .before .repair .ensures) (c .before .before .before .before .if1 .left)
+    let entry = entry-of-distances-to (c .before) in
+    tried-serves (entry .pre .0 .sound) (entry .pre .3) (before-distances-to (c .before) .repair .ensures) (c .before .before .before .before .if1 .left)
     (omega (arith, c .if2 .taken, c .before .before .rebuilt-cost .ensures, c .before .distances-to .ensures))
 
 returns-3 : tie.Need-returns-3
 returns-3 c =
-    let entry = c .before .before .before .before .before .before .before .before .before .before .before .before .before .before .before .before .before .before .before .before .before .before .before .before .before in
-    tried-refused (entry .pre .0 .sound) (entry .pre .3) (c .before .before .before .before .before .before .before .before .before .before .before .before .before .repair .ensures) (c .before .before .before .before .if1 .left)
+    let entry = entry-of-distances-to (c .before) in
+    tried-refused (entry .pre .0 .sound) (entry .pre .3) (before-distances-to (c .before) .repair .ensures) (c .before .before .before .before .if1 .left)
     (omega (arith, c .if2 .left, c .before .before .rebuilt-cost .ensures, c .before .distances-to .ensures))
 
 pub try-level-spec : {M : Type 1} → statement M

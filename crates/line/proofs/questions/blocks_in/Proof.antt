@@ -9,9 +9,13 @@ use Rattle.line.proofs.Digits.{digit-most}
 use Rattle.line.proofs.questions.blocks_in.Statement.{statement}
 use Rattle.line.proofs.questions.blocks_in.Tie as tie
 
+-- Stages of the call, each from a later one.
+abbrev entry-of-value3 : tie.After-value3 → tie.Start
+entry-of-value3 c = c .before .before .before .before .before .before .before
+
 -- No digit is above 16.
-small : (c : tie.After-value3) (i : ℕ) → digitOf (getD (now (c .before .before .before .before .before .before .before .args .line)) i 0) ≤ 16
-small c i = digit-most (getD (now (c .before .before .before .before .before .before .before .args .line)) i 0)
+small : (c : tie.After-value3) (i : ℕ) → digitOf (getD (now (entry-of-value3 c .args .line)) i 0) ≤ 16
+small c i = digit-most (getD (now (entry-of-value3 c .args .line)) i 0)
 
 mul-result : tie.Need-mul-result
 mul-result c = omega (arith, c .before .before .before .before .value .ensures, small c 1)
@@ -23,7 +27,15 @@ mul-result-2 : tie.Need-mul-result-2
 mul-result-2 c = omega (arith, c .before .before .before .before .value .ensures, c .before .before .value2 .ensures, small c 1, small c 2)
 
 add-result-2 : tie.Need-add-result-2
-add-result-2 c = omega (arith, c .before .before .before .before .value .ensures, c .before .before .value2 .ensures, c .value3 .ensures, small c 1, small c 2, small c 3)
+add-result-2 c = omega (
+  arith,
+  c .before .before .before .before .value .ensures,
+  c .before .before .value2 .ensures,
+  c .value3 .ensures,
+  small c 1,
+  small c 2,
+  small c 3,
+)
 
 pub blocks-in-spec : {M : Type 1} → statement M
 blocks-in-spec =

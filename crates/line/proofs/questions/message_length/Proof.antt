@@ -29,7 +29,8 @@ setting-of-requires c κs = is-setting c
 
 few : (c : tie.After-setting-of) → c .before .blocks-in .result * c .setting-of .result .k ≤ mostInformation
 few c =
-    message-most (c .before .before .setting-in .result) (c .setting-of .result) (c .before .blocks-in .result) (is-setting (c .before)) (c .setting-of .ensures)
+    message-most (c .before .before .setting-in .result) (c .setting-of .result) (c .before .blocks-in .result) (is-setting (c .before))
+    (c .setting-of .ensures)
     (omega (arith, c .before .blocks-in .ensures, known (c .before .before .before .before) .most))
 
 mul-result : tie.Need-mul-result
@@ -37,7 +38,8 @@ mul-result c = omega (arith, few (c .before))
 
 returns : tie.Need-returns
 returns c = (
-  ap₂ (λ (t : ℕ) (p : Setting). t * p .k) (c .before .before .blocks-in .ensures) (c .before .setting-of .ensures ∙ ap settingOf (c .before .before .before .setting-in .ensures)),
+  ap₂ (λ (t : ℕ) (p : Setting). t * p .k) (c .before .before .blocks-in .ensures)
+      (c .before .setting-of .ensures ∙ ap settingOf (c .before .before .before .setting-in .ensures)),
   few (c .before),
 )
 

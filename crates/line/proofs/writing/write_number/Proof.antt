@@ -34,7 +34,8 @@ returns : tie.Need-returns Inv-loop μ-loop
 returns c =
     let entry = c .before .before .before in
     let none : c .before .loop .i ≡ 0 = omega arith in
-    hex-all (c .before .loop .i) (c .before .loop .left) (hex (length (now (entry .args .area))) (entry .args .number)) (c .before .loop .area) none (c .before .loop .inv .2)
+    hex-all (c .before .loop .i) (c .before .loop .left) (hex (length (now (entry .args .area))) (entry .args .number)) (c .before .loop .area) none
+    (c .before .loop .inv .2)
 
 pub write-number-spec : {M : Type 1} → statement M
 write-number-spec =

@@ -10,6 +10,10 @@ use Rattle.line.proofs.Placed.{placed-none, shown-whole, shown-none, tw
 use Rattle.line.proofs.writing.write_refusal.Statement.{statement}
 use Rattle.line.proofs.writing.write_refusal.Tie as tie
 
+-- Stages of the call, each from a later one.
+abbrev before-end-2 : tie.After-slice-known3 → tie.After-put-number
+before-end-2 c = c .before .before .before .before .before .before
+
 returns : tie.Need-returns
 returns c =
     let answer = c .before .before .args .answer in
@@ -19,7 +23,7 @@ returns c =
 
 returns-2 : tie.Need-returns-2
 returns-2 c =
-    let number = c .before .before .before .before .before .before .put-number .ensures .behind refl (placed-none _) in
+    let number = before-end-2 c .put-number .ensures .behind refl (placed-none _) in
     let place = c .before .before .put-number2 .ensures .behind (two _) number in
     shown-whole _ _ _ 6 (six _ _) place
 

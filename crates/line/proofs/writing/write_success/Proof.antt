@@ -9,6 +9,16 @@ use Rattle.line.proofs.Placed.{shown-success, shown-none, success-long}
 use Rattle.line.proofs.writing.write_success.Statement.{statement}
 use Rattle.line.proofs.writing.write_success.Tie as tie
 
+-- Stages of the call, each from a later one.
+abbrev entry-of-write-opening : tie.After-write-opening → tie.Start
+entry-of-write-opening c = c .before .before .before .before .before
+
+abbrev before-end-2 : tie.After-slice-known3 → tie.After-write-opening
+before-end-2 c = c .before .before .before .before .before .before
+
+abbrev entry-of-end-2 : tie.After-slice-known3 → tie.Start
+entry-of-end-2 c = entry-of-write-opening (before-end-2 c)
+
 returns : tie.Need-returns
 returns c =
     let args = c .before .before .before .args in
@@ -20,8 +30,9 @@ returns c =
 
 returns-2 : tie.Need-returns-2
 returns-2 c =
-    let args = c .before .before .before .before .before .before .before .before .before .before .before .args in
-    shown-success (args .count) (args .number) (args .blocks) (now (args .message)) (now (args .output)) _ (c .before .before .before .before .before .before .before .before .if1 .left) (c .before .before .write-symbols .ensures) (c .before .before .before .before .before .before .write-opening .ensures)
+    let args = entry-of-end-2 c .args in
+    shown-success (args .count) (args .number) (args .blocks) (now (args .message)) (now (args .output)) _ (before-end-2 c .before .before .if1 .left)
+    (c .before .before .write-symbols .ensures) (before-end-2 c .write-opening .ensures)
 
 pub write-success-spec : {M : Type 1} → statement M
 write-success-spec =

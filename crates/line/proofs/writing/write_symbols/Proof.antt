@@ -13,11 +13,15 @@ Inv-loop symbols area₀ i₀ area i = MapFilled characterOf symbols i area
 abbrev μ-loop : tie.MeasureT-loop
 μ-loop symbols area₀ i₀ area i = length symbols - i
 
+-- Stages of the call, each from a later one.
+abbrev entry-of-character-call : tie.After-shared-slice-known2 Inv-loop μ-loop → tie.Start Inv-loop μ-loop
+entry-of-character-call c = c .before .before .before .before .before
+
 loop-holds : tie.Need-loop-holds Inv-loop μ-loop
 loop-holds c = map-filled-none (c .before .before .pre .1)
 
 character-requires : tie.Need-character-requires Inv-loop μ-loop
-character-requires c κs = c .before .before .before .before .before .pre .0 .below (c .before .before .loop .i) (c .before .loop-test .taken)
+character-requires c κs = entry-of-character-call c .pre .0 .below (c .before .before .loop .i) (c .before .loop-test .taken)
 
 loop-again : tie.Need-loop-again Inv-loop μ-loop
 loop-again c = map-filled-more (c .before .before .before .loop .inv) (c .before .before .loop-test .taken) (c .character .ensures)

@@ -12,24 +12,37 @@ use Rattle.link.proofs.Decoding.{Receiving, receiving, decoded-refused,
 use Rattle.link.proofs.decode.decode.Statement.{statement}
 use Rattle.link.proofs.decode.decode.Tie as tie
 
+-- Stages of the call, each from a later one.
+abbrev entry-of-if1 : tie.After-struct-known → tie.Start
+entry-of-if1 c = c .before .before .before .before .before
+
+abbrev before-end-2 : tie.After-slice-known4 → tie.After-setting-of
+before-end-2 c = c .before .before .before .before .before .before .before
+
+abbrev entry-of-end-2 : tie.After-slice-known4 → tie.Start
+entry-of-end-2 c = entry-of-if1 (before-end-2 c .before .before)
+
 returns : tie.Need-returns
 returns c =
-    let a = c .before .before .before .before .before .before .args in
-    decoded-refused (a .setting) (now (a .reception)) (now (a .message)) (now (a .transmission)) (c .before .before .decoding-questions .result) (c .before .before .decoding-questions .ensures) (c .if1 .taken)
+    let a = entry-of-if1 (c .before) .args in
+    decoded-refused (a .setting) (now (a .reception)) (now (a .message)) (now (a .transmission)) (c .before .before .decoding-questions .result)
+    (c .before .before .decoding-questions .ensures) (c .if1 .taken)
 
 -- Questions 1 to 6 got "yes".
 asked : (c : tie.Else1)
-    → firstNo (decodingQuestions (c .before .before .before .before .before .before .args .setting) (now (c .before .before .before .before .before .before .args .reception)) (length (now (c .before .before .before .before .before .before .args .message))) (length (now (c .before .before .before .before .before .before .args .transmission)))) .number ≡ 0
+    → firstNo (decodingQuestions (entry-of-if1 (c .before) .args .setting) (now (entry-of-if1 (c .before) .args .reception))
+    (length (now (entry-of-if1 (c .before) .args .message))) (length (now (entry-of-if1 (c .before) .args .transmission)))) .number ≡ 0
 asked c = ap (λ a. a .number) (sym (c .before .before .decoding-questions .ensures)) ∙ c .if1 .left
 
 setting-of-requires : tie.Need-setting-of-requires
 setting-of-requires c κs =
-    let a = c .before .before .before .before .before .before .args in
+    let a = entry-of-if1 (c .before) .args in
     decoding-yes (a .setting) (now (a .reception)) (length (now (a .message))) (length (now (a .transmission))) (asked c) .setting
 
-known : (c : tie.After-setting-of) → Receiving (c .setting-of .result) (now (c .before .before .before .before .before .before .before .args .reception)) (length (now (c .before .before .before .before .before .before .before .args .message))) (length (now (c .before .before .before .before .before .before .before .args .transmission)))
+known : (c : tie.After-setting-of) → Receiving (c .setting-of .result) (now (entry-of-if1 (c .before .before) .args .reception))
+    (length (now (entry-of-if1 (c .before .before) .args .message))) (length (now (entry-of-if1 (c .before .before) .args .transmission)))
 known c =
-    let a = c .before .before .before .before .before .before .before .args in
+    let a = entry-of-if1 (c .before .before) .args in
     receiving (a .setting) (now (a .reception)) (now (a .message)) (now (a .transmission)) (c .setting-of .result) (c .setting-of .ensures) (asked (c .before))
 
 div-blocks : tie.Need-div-blocks
@@ -61,9 +74,10 @@ slice-aggregate-decode-frame-2 c = sym (length-take-le _ _ (known (c .before .be
 
 decode-frame-requires : tie.Need-decode-frame-requires
 decode-frame-requires c κs =
-    let a = c .before .before .before .before .before .before .before .before .before .args in
+    let a = entry-of-if1 (c .before .before .before .before) .args in
     let k = known (c .before .before) in
-    let is-setting = decoding-yes (a .setting) (now (a .reception)) (length (now (a .message))) (length (now (a .transmission))) (asked (c .before .before .before)) .setting in (
+    let is-setting = decoding-yes (a .setting) (now (a .reception)) (length (now (a .message))) (length (now (a .transmission)))
+    (asked (c .before .before .before)) .setting in (
       is-setting,
       c .before .before .setting-of .ensures,
       narrowOf (a .setting) (c .before .before .setting-of .result) is-setting (c .before .before .setting-of .ensures),
@@ -77,8 +91,9 @@ decode-frame-requires c κs =
 
 returns-2 : tie.Need-returns-2
 returns-2 c =
-    let a = c .before .before .before .before .before .before .before .before .before .before .before .before .before .before .args in
-    decoded-asked (a .setting) (now (a .reception)) (now (a .message)) (now (a .transmission)) (c .before .before .before .before .before .before .before .setting-of .result) (c .before .before .before .before .before .before .before .setting-of .ensures) (asked (c .before .before .before .before .before .before .before .before)) (c .before .before .before .before .decode-frame .ensures)
+    let a = entry-of-end-2 c .args in
+    decoded-asked (a .setting) (now (a .reception)) (now (a .message)) (now (a .transmission)) (before-end-2 c .setting-of .result)
+    (before-end-2 c .setting-of .ensures) (asked (before-end-2 c .before)) (c .before .before .before .before .decode-frame .ensures)
 
 pub decode-spec : {M : Type 1} → statement M
 decode-spec =

@@ -12,18 +12,46 @@ use Rattle.link.proofs.Decoding.{residual-symbols, residual-long, frame
 use Rattle.link.proofs.decode.decode_lent.Statement.{statement}
 use Rattle.link.proofs.decode.decode_lent.Tie as tie
 
+-- Stages of the call, each from a later one.
+abbrev entry-of-read : tie.After-read → tie.Start
+entry-of-read c = c .before .before .before .before .before .before .before .before .before .before .before .before .before .before .before
+
+abbrev before-else1 : tie.Else1 → tie.After-read
+before-else1 c = c .before .before .before .before .before .before .before .before .before .before .before .before .before
+
+abbrev entry-of-else1 : tie.Else1 → tie.Start
+entry-of-else1 c = entry-of-read (before-else1 c)
+
+abbrev before-clear : tie.After-clear → tie.After-read
+before-clear c = c .before .before .before .before .before .before .before .before .before .before .before .before .before .before .before
+
+abbrev entry-of-clear : tie.After-clear → tie.Start
+entry-of-clear c = entry-of-read (before-clear c)
+
+abbrev before-end-2 : tie.After-slice-known15 → tie.Else1
+before-end-2 c = c .before .before .before .before .before .before
+
+abbrev entry-of-end-2 : tie.After-slice-known15 → tie.Start
+entry-of-end-2 c = entry-of-else1 (before-end-2 c)
+
+abbrev before-no : tie.After-no → tie.After-clear
+before-no c = c .before .before .before .before .before .before .before
+
+abbrev entry-of-no : tie.After-no → tie.Start
+entry-of-no c = entry-of-clear (before-no c)
+
 returns : tie.Need-returns
 returns c =
-    let entry = c .before .before .before .before .before .before .before .before .before .before .before .before .before .before .before .before .before .before .before .before .before .before .before .before .before .before .before .before .before .before .before .before .before .before .before .before .before in
-    let read = c .before .before .before .before .before .before .before .before .before .before .before .before .before .before .before .before .before .before .before .before .before .before .read in
-    frame-decoded-none (read .ensures) (c .before .before .before .before .before .before .before .before .before .if1 .taken) (c .no .ensures)
-    (c .before .before .before .before .before .before .before .clear .ensures ∙ ap (λ (t : ℕ). replicate t 0) (read .kept .1 .1 .1 .1 .1 .0 ∙ entry .pre .5))
+    let entry = entry-of-no c in
+    let read = before-clear (before-no c) .read in
+    frame-decoded-none (read .ensures) (before-no c .before .before .if1 .taken) (c .no .ensures)
+    (before-no c .clear .ensures ∙ ap (λ (t : ℕ). replicate t 0) (read .kept .1 .1 .1 .1 .1 .0 ∙ entry .pre .5))
     (c .before .before .before .clear2 .ensures ∙ ap (λ (t : ℕ). replicate t 0) (read .kept .1 .1 .1 .1 .1 .1 .0 ∙ (entry .pre .6 ∙ entry .pre .3)))
 
 restore-requires : tie.Need-restore-requires
 restore-requires c κs =
-    let entry = c .before .before .before .before .before .before .before .before .before .before .before .before .before .before .before .before .before .before .before .before .before .before .before .before .before .before .before .before .before .before .before in
-    let read = c .before .before .before .before .before .before .before .before .before .before .before .before .before .before .before .before .read in (
+    let entry = entry-of-else1 (c .before .before .before) in
+    let read = before-else1 (c .before .before .before) .read in (
       entry .pre .0 .sound .good,
       entry .pre .4,
       residual-symbols (read .ensures) (c .before .before .before .if1 .left),
@@ -32,12 +60,13 @@ restore-requires c κs =
 
 cast-t37 : tie.Need-cast-t37
 cast-t37 c =
-    let entry = c .before .before .before .before .before .before .before .before .before .before .before .before .before .before .before .before .before .before .before .before .before .before .before .before .before .before .before .before .before .before .before .before .before .before in
+    let entry = entry-of-end-2 c in
     let a = entry .args in
-    let read = c .before .before .before .before .before .before .before .before .before .before .before .before .before .before .before .before .before .before .before .read in
+    let read = before-else1 (before-end-2 c) .read in
     omega (
       arith,
-      distance-le (length (read .last .1 .1 .1 .1 .1 .1 .0)) (at (read .last .1 .1 .1 .1 .1 .1 .0)) (λ _. 0) (c .before .before .before .before .weight .ensures),
+      distance-le (length (read .last .1 .1 .1 .1 .1 .1 .0)) (at (read .last .1 .1 .1 .1 .1 .1 .0)) (λ _. 0)
+          (c .before .before .before .before .weight .ensures),
       read .kept .1 .1 .1 .1 .1 .1 .0,
       entry .pre .6,
       entry .pre .3,
@@ -47,9 +76,10 @@ cast-t37 c =
 
 returns-2 : tie.Need-returns-2
 returns-2 c =
-    let entry = c .before .before .before .before .before .before .before .before .before .before .before .before .before .before .before .before .before .before .before .before .before .before .before .before .before .before .before .before .before .before .before .before .before .before in
-    let read = c .before .before .before .before .before .before .before .before .before .before .before .before .before .before .before .before .before .before .before .read in
-    frame-decoded-found (entry .pre .0 .sound) (entry .pre .4) (entry .pre .3) (read .ensures) (c .before .before .before .before .before .before .if1 .left) (c .before .before .before .before .weight .ensures) (c .before .before .restore .ensures)
+    let entry = entry-of-end-2 c in
+    let read = before-else1 (before-end-2 c) .read in
+    frame-decoded-found (entry .pre .0 .sound) (entry .pre .4) (entry .pre .3) (read .ensures) (before-end-2 c .if1 .left)
+    (c .before .before .before .before .weight .ensures) (c .before .before .restore .ensures)
 
 pub decode-lent-spec : {M : Type 1} → statement M
 decode-lent-spec =

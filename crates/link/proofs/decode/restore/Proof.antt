@@ -15,18 +15,22 @@ Inv-loop q reception residual₀ i₀ residual i = (i ≤ length residual₀) ×
 abbrev μ-loop : tie.MeasureT-loop
 μ-loop q reception residual₀ i₀ residual i = length residual₀ - i
 
+-- Stages of the call, each from a later one.
+abbrev entry-of-shared-slice-read-subtract : tie.After-shared-slice-known2 Inv-loop μ-loop → tie.Start Inv-loop μ-loop
+entry-of-shared-slice-read-subtract c = c .before .before .before .before .before
+
 loop-holds : tie.Need-loop-holds Inv-loop μ-loop
 loop-holds c = (omega arith, restored-none (c .before .before .args .q) (now (c .before .before .args .reception)) (now (c .before .before .args .residual)))
 
 shared-slice-read-subtract : tie.Need-shared-slice-read-subtract Inv-loop μ-loop
-shared-slice-read-subtract c = omega (arith, c .before .before .before .before .before .pre .3, c .before .before .loop .inv .1 .long)
+shared-slice-read-subtract c = omega (arith, entry-of-shared-slice-read-subtract c .pre .3, c .before .before .loop .inv .1 .long)
 
 slice-read-subtract : tie.Need-slice-read-subtract Inv-loop μ-loop
 slice-read-subtract c = omega (arith, c .before .before .before .loop .inv .1 .long)
 
 subtract-requires : tie.Need-subtract-requires Inv-loop μ-loop
 subtract-requires c κs =
-    let entry = c .before .before .before .before .before .before in
+    let entry = entry-of-shared-slice-read-subtract (c .before) in
     let l = c .before .before .before .loop in
     let least : l .i ≤ l .i = omega arith in (
       entry .pre .0,
@@ -45,10 +49,11 @@ loop-less c = omega (arith, c .before .before .before .before .loop .inv .1 .lon
 
 loop-again : tie.Need-loop-again Inv-loop μ-loop
 loop-again c =
-    let a = c .before .before .before .before .before .before .before .args in
+    let a = entry-of-shared-slice-read-subtract (c .before .before) .args in
     let l = c .before .before .before .before .loop in (
       omega (arith, l .inv .1 .long),
-      restored-more (a .q) (now (a .reception)) (now (a .residual)) (l .i) (l .residual) (c .subtract .result) (l .inv .1) (omega (arith, l .inv .1 .long)) (c .subtract .ensures .same),
+      restored-more (a .q) (now (a .reception)) (now (a .residual)) (l .i) (l .residual) (c .subtract .result) (l .inv .1) (omega (arith, l .inv .1 .long))
+          (c .subtract .ensures .same),
     )
 
 returns : tie.Need-returns Inv-loop μ-loop

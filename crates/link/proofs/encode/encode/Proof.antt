@@ -16,27 +16,45 @@ use Rattle.link.proofs.Encoding.{encoded-refused, encoded-sent}
 use Rattle.link.proofs.encode.encode.Statement.{statement}
 use Rattle.link.proofs.encode.encode.Tie as tie
 
+-- Stages of the call, each from a later one.
+abbrev entry-of-if1 : tie.After-struct-known → tie.Start
+entry-of-if1 c = c .before .before .before .before
+
+abbrev before-end-2 : tie.After-slice-known2 → tie.After-setting-of
+before-end-2 c = c .before .before .before .before .before
+
+abbrev entry-of-end-2 : tie.After-slice-known2 → tie.Start
+entry-of-end-2 c = entry-of-if1 (before-end-2 c .before .before)
+
 -- Every question got "yes".
-known : (c : tie.Else1) → EncodingYes (c .before .before .before .before .before .args .setting) (now (c .before .before .before .before .before .args .message)) (length (now (c .before .before .before .before .before .args .transmission)))
+known : (c : tie.Else1) → EncodingYes (entry-of-if1 (c .before) .args .setting) (now (entry-of-if1 (c .before) .args .message))
+    (length (now (entry-of-if1 (c .before) .args .transmission)))
 known c =
-    let entry = c .before .before .before .before .before in
-    encoding-yes (entry .args .setting) (now (entry .args .message)) (length (now (entry .args .transmission))) (ap (λ a. a .number) (sym (c .before .before .encoding-questions .ensures)) ∙ c .if1 .left)
+    let entry = entry-of-if1 (c .before) in
+    encoding-yes (entry .args .setting) (now (entry .args .message)) (length (now (entry .args .transmission)))
+    (ap (λ a. a .number) (sym (c .before .before .encoding-questions .ensures)) ∙ c .if1 .left)
 
 -- Of the setting in hand.
 information : (c : tie.After-setting-of) → 1 ≤ c .setting-of .result .k
-information c = subst (λ (p : Setting). 1 ≤ p .k) (sym (c .setting-of .ensures)) (sizesOf (c .before .before .before .before .before .before .args .setting) (known (c .before) .setting) .information)
+information c = subst (λ (p : Setting). 1 ≤ p .k) (sym (c .setting-of .ensures))
+    (sizesOf (entry-of-if1 (c .before .before) .args .setting) (known (c .before) .setting) .information)
 
-room : (c : tie.After-setting-of) → (length (now (c .before .before .before .before .before .before .args .message)) / c .setting-of .result .k + c .setting-of .result .m) * c .setting-of .result .n ≤ length (now (c .before .before .before .before .before .before .args .transmission))
+room : (c : tie.After-setting-of) → (length (now (entry-of-if1
+    (c .before .before) .args .message)) / c .setting-of .result .k + c .setting-of .result .m) * c .setting-of .result .n ≤ length
+    (now (entry-of-if1 (c .before .before) .args .transmission))
 room c =
-    subst (λ (p : Setting). (length (now (c .before .before .before .before .before .before .args .message)) / p .k + p .m) * p .n ≤ length (now (c .before .before .before .before .before .before .args .transmission))) (sym (c .setting-of .ensures)) (known (c .before) .room)
+    subst (λ (p : Setting). (length (now (entry-of-if1 (c .before .before) .args .message)) / p .k + p .m) * p .n ≤ length
+    (now (entry-of-if1 (c .before .before) .args .transmission))) (sym (c .setting-of .ensures)) (known (c .before) .room)
 
-few : (c : tie.After-setting-of) → length (now (c .before .before .before .before .before .before .args .message)) / c .setting-of .result .k + c .setting-of .result .m ≤ mostBlocks + 255
+few : (c : tie.After-setting-of) → length (now (entry-of-if1
+    (c .before .before) .args .message)) / c .setting-of .result .k + c .setting-of .result .m ≤ mostBlocks + 255
 few c =
-    subst (λ (p : Setting). length (now (c .before .before .before .before .before .before .args .message)) / p .k + p .m ≤ mostBlocks + 255) (sym (c .setting-of .ensures))
-    (omega (arith, known (c .before) .most, sizesOf (c .before .before .before .before .before .before .args .setting) (known (c .before) .setting) .memory-most))
+    subst (λ (p : Setting). length (now (entry-of-if1 (c .before .before) .args .message)) / p .k + p .m ≤ mostBlocks + 255) (sym (c .setting-of .ensures))
+    (omega (arith, known (c .before) .most, sizesOf (entry-of-if1 (c .before .before) .args .setting) (known (c .before) .setting) .memory-most))
 
 returns : tie.Need-returns
-returns c = let entry = c .before .before .before .before .before in encoded-refused (entry .args .setting) (now (entry .args .message)) (now (entry .args .transmission)) (c .before .before .encoding-questions .result) (c .before .before .encoding-questions .ensures) (c .if1 .taken)
+returns c = let entry = entry-of-if1 (c .before) in encoded-refused (entry .args .setting) (now (entry .args .message)) (now (entry .args .transmission))
+    (c .before .before .encoding-questions .result) (c .before .before .encoding-questions .ensures) (c .if1 .taken)
 
 setting-of-requires : tie.Need-setting-of-requires
 setting-of-requires c κs = known c .setting
@@ -59,7 +77,7 @@ slice-aggregate-encode-frame c = sym (length-take-le _ _ (slice-relend-prefix-en
 encode-frame-requires : tie.Need-encode-frame-requires
 encode-frame-requires c κs =
     let at = c .before .before in
-    let a = at .before .before .before .before .before .before .args in
+    let a = entry-of-if1 (c .before .before .before .before) .args in
     let yes = known (at .before) in
     let is = at .setting-of .ensures in (
       yes .setting,
@@ -72,10 +90,11 @@ encode-frame-requires c κs =
 
 returns-2 : tie.Need-returns-2
 returns-2 c =
-    let at = c .before .before .before .before .before in
-    let a = at .before .before .before .before .before .before .args in
+    let at = before-end-2 c in
+    let a = entry-of-end-2 c .args in
     let asked = at .before .before .before .encoding-questions in
-    encoded-sent (a .setting) (now (a .message)) (now (a .transmission)) (asked .result) (at .setting-of .result) (asked .ensures) (at .before .if1 .left) (at .setting-of .ensures) (c .before .before .encode-frame .ensures)
+    encoded-sent (a .setting) (now (a .message)) (now (a .transmission)) (asked .result) (at .setting-of .result) (asked .ensures) (at .before .if1 .left)
+    (at .setting-of .ensures) (c .before .before .encode-frame .ensures)
 
 pub encode-spec : {M : Type 1} → statement M
 encode-spec =

@@ -11,12 +11,22 @@ use Rattle.tables.proofs.Lending.{readyOf}
 use Rattle.link.proofs.encode.encode_frame.Statement.{statement}
 use Rattle.link.proofs.encode.encode_frame.Tie as tie
 
+-- Stages of the call, each from a later one.
+abbrev entry-of-rows2 : tie.After-rows2 → tie.Start
+entry-of-rows2 c = c .before .before .before .before
+
+abbrev before-send-call : tie.After-send-arg → tie.After-rows2
+before-send-call c = c .before .before .before .before .before
+
+abbrev entry-of-send-call : tie.After-send-arg → tie.Start
+entry-of-send-call c = entry-of-rows2 (before-send-call c)
+
 -- The setting is sound.
 sound : (c : tie.Start) → Sound (c .args .p)
 sound c = subst Sound (sym (c .pre .1)) (soundOf (c .args .setting) (c .pre .0))
 
 products-requires : tie.Need-products-requires
-products-requires c κs = sound (c .before .before .before .before .before) .good
+products-requires c κs = sound (entry-of-rows2 (c .before)) .good
 
 rows-requires : tie.Need-rows-requires
 rows-requires c κs =
@@ -25,9 +35,10 @@ rows-requires c κs =
 
 send-requires : tie.Need-send-requires
 send-requires c κs =
-    let entry = c .before .before .before .before .before .before .before .before .before in
+    let entry = entry-of-send-call c in
     let a = entry .args in
-    let ready = readyOf (a .setting) (a .p) (entry .pre .0) (entry .pre .1) (c .before .before .before .products .result) (c .before .before .before .before .before .rows2 .last .1 .0) (c .before .before .before .products .ensures) (c .before .before .before .before .before .rows2 .ensures) in
+    let ready = readyOf (a .setting) (a .p) (entry .pre .0) (entry .pre .1) (c .before .before .before .products .result)
+    (before-send-call c .rows2 .last .1 .0) (c .before .before .before .products .ensures) (before-send-call c .rows2 .ensures) in
     (record { ready = ready; message-of = entry .pre .3; most = entry .pre .4 }, entry .pre .5)
 
 returns : tie.Need-returns

@@ -22,6 +22,19 @@ Inv-loop p products rows message blocks i area₀ k n first start end r₀ area 
 abbrev μ-loop : tie.MeasureT-loop
 μ-loop p products rows message blocks i area₀ k n first start end r₀ area r = p .k - r
 
+-- Stages of the call, each from a later one.
+abbrev entry-of-in-loop : tie.In-loop Inv-loop μ-loop → tie.Start Inv-loop μ-loop
+entry-of-in-loop c = c .before .before .before .before .before .before
+
+abbrev entry-of-after-loop : tie.After-loop Inv-loop μ-loop → tie.Start Inv-loop μ-loop
+entry-of-after-loop c = c .before .before .before .before .before .before
+
+abbrev before-add-r : tie.After-slice-known2 Inv-loop μ-loop → tie.In-loop Inv-loop μ-loop
+before-add-r c = c .before .before .before .before .before
+
+abbrev entry-of-add-r : tie.After-slice-known2 Inv-loop μ-loop → tie.Start Inv-loop μ-loop
+entry-of-add-r c = entry-of-in-loop (before-add-r c)
+
 -- Block i lies within the message, and its window within the area.
 block : (c : tie.Start Inv-loop μ-loop) → c .args .i * c .args .p .k + c .args .p .k ≤ length (now (c .args .message))
 block c =
@@ -53,15 +66,16 @@ loop-holds c =
     (omega arith, subst (λ (t : ℕ). SentTo (a .p) (a .blocks) (now (a .message)) t (now (a .area))) begin (c .before .before .before .before .pre .2))
 
 add-symbol : tie.Need-add-symbol Inv-loop μ-loop
-add-symbol c = omega (arith, block (c .before .before .before .before .before .before))
+add-symbol c = omega (arith, block (entry-of-in-loop c))
 
 shared-slice-read-symbol : tie.Need-shared-slice-read-symbol Inv-loop μ-loop
-shared-slice-read-symbol c = omega (arith, block (c .before .before .before .before .before .before .before))
+shared-slice-read-symbol c = omega (arith, block (entry-of-in-loop (c .before)))
 
 -- The window lies within the area in every turn.
-room : (c : tie.In-loop Inv-loop μ-loop) → c .before .before .before .before .before .before .args .i * c .before .before .before .before .before .before .args .p .n + windowLength (c .before .before .before .before .before .before .args .p) ≤ length (c .before .loop .area)
+room : (c : tie.In-loop Inv-loop μ-loop) → entry-of-in-loop c .args .i * entry-of-in-loop c .args .p .n + windowLength (entry-of-in-loop c .args .p) ≤ length
+    (c .before .loop .area)
 room c =
-    let entry = c .before .before .before .before .before .before in
+    let entry = entry-of-in-loop c in
     let l = c .before .loop in
     window-room (entry .args .p) (entry .args .blocks) (entry .args .i) (l .inv .1 .rest) (l .area) (l .inv .1 .areas) (entry .pre .1)
 
@@ -70,7 +84,7 @@ part-add-rows-end c = room (c .before)
 
 add-rows-requires : tie.Need-add-rows-requires Inv-loop μ-loop
 add-rows-requires c κs =
-    let entry = c .before .before .before .before .before .before .before .before in
+    let entry = entry-of-in-loop (c .before .before) in
     let a = entry .args in
     let l = c .before .before .before .loop in
     let sound = entry .pre .0 .ready .sound in (
@@ -82,24 +96,25 @@ add-rows-requires c κs =
     )
 
 add-r : tie.Need-add-r Inv-loop μ-loop
-add-r c = let entry = c .before .before .before .before .before .before .before .before .before .before .before in omega (arith, sizes (entry .args .p) (entry .pre .0 .ready .sound) .information-most)
+add-r c = let entry = entry-of-add-r c in omega (arith, sizes (entry .args .p) (entry .pre .0 .ready .sound) .information-most)
 
 loop-again : tie.Need-loop-again Inv-loop μ-loop
 loop-again c =
-    let entry = c .before .before .before .before .before .before .before .before .before .before .before in
+    let entry = entry-of-add-r c in
     let a = entry .args in
-    let l = c .before .before .before .before .before .before .loop in (
+    let l = before-add-r c .before .loop in (
       omega arith,
       sent-more (a .p) (entry .pre .0 .ready .sound) (a .blocks) (now (a .message)) (entry .pre .0 .message-of) (a .i) (l .r) _ (l .area)
-          (c .before .before .add-rows .last .1 .1 .1 .1 .1 .0) (entry .pre .1) (c .before .before .before .before .before .loop-test .taken) refl (l .inv .1) (c .before .before .add-rows .ensures),
+          (c .before .before .add-rows .last .1 .1 .1 .1 .1 .0) (entry .pre .1) (before-add-r c .loop-test .taken) refl (l .inv .1)
+          (c .before .before .add-rows .ensures),
     )
 
 same-length : tie.Need-same-length Inv-loop μ-loop
-same-length c = c .before .loop .inv .1 .areas .residual-long ∙ sym (c .before .before .before .before .before .before .pre .2 .areas .residual-long)
+same-length c = c .before .loop .inv .1 .areas .residual-long ∙ sym (entry-of-after-loop c .pre .2 .areas .residual-long)
 
 returns : tie.Need-returns Inv-loop μ-loop
 returns c =
-    let a = c .before .before .before .before .before .before .args in
+    let a = entry-of-after-loop c .args in
     let all : c .before .loop .r ≡ a .p .k = omega arith in
     subst (λ (t : ℕ). SentTo (a .p) (a .blocks) (now (a .message)) (a .i * a .p .k + t) (c .before .loop .area)) all (c .before .loop .inv .1)
 

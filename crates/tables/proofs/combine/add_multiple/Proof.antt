@@ -17,19 +17,32 @@ Inv-loop q products v row block₀ i₀ block i = (i ≤ length block₀) × Mul
 abbrev μ-loop : tie.MeasureT-loop
 μ-loop q products v row block₀ i₀ block i = length block₀ - i
 
+-- Stages of the call, each from a later one.
+abbrev entry-of-add-product-call : tie.After-shared-slice-known2 Inv-loop μ-loop → tie.Start Inv-loop μ-loop
+entry-of-add-product-call c = c .before .before .before .before .before .before
+
 loop-holds : tie.Need-loop-holds Inv-loop μ-loop
-loop-holds c = let entry = c .before .before in (omega arith, multiple-none (entry .args .q) (entry .args .v) (now (entry .args .row)) (now (entry .args .block)) (entry .pre .4))
+loop-holds c = let entry = c .before .before in (
+  omega arith,
+  multiple-none (entry .args .q) (entry .args .v) (now (entry .args .row)) (now (entry .args .block)) (entry .pre .4),
+)
 
 shared-slice-read-add-product : tie.Need-shared-slice-read-add-product Inv-loop μ-loop
-shared-slice-read-add-product c = omega (arith, c .before .before .loop-test .taken, c .before .before .before .loop .inv .1 .long, c .before .before .before .before .before .before .pre .5)
+shared-slice-read-add-product c =
+    omega (arith, c .before .before .loop-test .taken, c .before .before .before .loop .inv .1 .long, entry-of-add-product-call c .pre .5)
 
 add-product-requires : tie.Need-add-product-requires Inv-loop μ-loop
 add-product-requires c κs =
-    let entry = c .before .before .before .before .before .before in
+    let entry = entry-of-add-product-call c in
     let a = entry .args in
     let l = c .before .before .before .loop in
-    let positive = zero-below (a .q) (entry .pre .0) in
-    (entry .pre .0, entry .pre .1, symbol-below (a .q) (l .block) (l .inv .1 .symbols) positive (l .i), entry .pre .2, symbol-below (a .q) (now (a .row)) (entry .pre .3) positive (l .i))
+    let positive = zero-below (a .q) (entry .pre .0) in (
+      entry .pre .0,
+      entry .pre .1,
+      symbol-below (a .q) (l .block) (l .inv .1 .symbols) positive (l .i),
+      entry .pre .2,
+      symbol-below (a .q) (now (a .row)) (entry .pre .3) positive (l .i),
+    )
 
 add-i : tie.Need-add-i Inv-loop μ-loop
 add-i c = omega (arith, c .before .before .before .loop-test .taken, c .before .before .before .before .loop .inv .1 .long)
@@ -39,10 +52,13 @@ loop-less c = omega (arith, c .before .before .before .loop-test .taken, c .befo
 
 loop-again : tie.Need-loop-again Inv-loop μ-loop
 loop-again c =
-    let a = c .before .before .before .before .before .before .before .args in
+    let a = entry-of-add-product-call (c .before) .args in
     let l = c .before .before .before .before .loop in
-    let inside : l .i < length (now (a .block)) = omega (arith, c .before .before .before .loop-test .taken, l .inv .1 .long) in
-    (omega arith, multiple-more (a .q) (a .v) (now (a .row)) (now (a .block)) (l .i) (l .block) (c .add-product .result) (l .inv .1) inside (c .add-product .ensures))
+    let inside : l .i < length (now (a .block)) = omega (arith, c .before .before .before .loop-test .taken, l .inv .1 .long) in (
+      omega arith,
+      multiple-more (a .q) (a .v) (now (a .row)) (now (a .block)) (l .i) (l .block) (c .add-product .result) (l .inv .1) inside
+          (c .add-product .ensures),
+    )
 
 returns : tie.Need-returns Inv-loop μ-loop
 returns c =

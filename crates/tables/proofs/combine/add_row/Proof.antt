@@ -12,6 +12,10 @@ use Rattle.tables.proofs.RowsAdded.{row-room, row-symbols, row-added}
 use Rattle.tables.proofs.combine.add_row.Statement.{statement}
 use Rattle.tables.proofs.combine.add_row.Tie as tie
 
+-- Stages of the call, each from a later one.
+abbrev entry-of-add-multiple-call : tie.After-add-multiple-arg2 → tie.Start
+entry-of-add-multiple-call c = c .before .before .before .before .before
+
 -- The row lies within the rows.
 room : (c : tie.Start) → (c .args .j * c .args .p .k + c .args .r) * c .args .p .n + c .args .p .n ≤ length (now (c .args .rows))
 room c = let a = c .args in row-room (a .p) (c .pre .0 .sound) (now (a .rows)) (c .pre .0 .rows) (a .j) (a .r) (c .pre .3) (c .pre .1)
@@ -37,7 +41,7 @@ part-add-multiple-end c = room (c .before .before .before)
 
 add-multiple-requires : tie.Need-add-multiple-requires
 add-multiple-requires c κs =
-    let entry = c .before .before .before .before .before in
+    let entry = entry-of-add-multiple-call c in
     let a = entry .args in (
       entry .pre .0 .sound .good,
       entry .pre .0 .products,
@@ -49,9 +53,10 @@ add-multiple-requires c κs =
 
 returns : tie.Need-returns
 returns c =
-    let entry = c .before .before .before .before .before .before .before .before in
+    let entry = entry-of-add-multiple-call (c .before .before .before) in
     let a = entry .args in
-    row-added (a .p) (entry .pre .0 .sound) (now (a .rows)) (entry .pre .0 .rows) (a .j) (a .r) (entry .pre .3) (entry .pre .1) (a .v) (now (a .block)) (c .before .before .add-multiple .last .1 .1 .1 .1 .0) (entry .pre .4) (c .before .before .add-multiple .ensures)
+    row-added (a .p) (entry .pre .0 .sound) (now (a .rows)) (entry .pre .0 .rows) (a .j) (a .r) (entry .pre .3) (entry .pre .1) (a .v) (now (a .block))
+    (c .before .before .add-multiple .last .1 .1 .1 .1 .0) (entry .pre .4) (c .before .before .add-multiple .ensures)
 
 pub add-row-spec : {M : Type 1} → statement M
 add-row-spec =

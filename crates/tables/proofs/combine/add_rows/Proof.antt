@@ -19,6 +19,16 @@ Inv-loop p products rows r v window₀ n m start₀ j₀ window start j = (j ≤
 abbrev μ-loop : tie.MeasureT-loop
 μ-loop p products rows r v window₀ n m start₀ j₀ window start j = p .m + 1 - j
 
+-- Stages of the call, each from a later one.
+abbrev entry-of-at-loop : tie.At-loop Inv-loop μ-loop → tie.Start Inv-loop μ-loop
+entry-of-at-loop c = c .before .before .before
+
+abbrev before-add-j : tie.After-slice-known2 Inv-loop μ-loop → tie.At-loop Inv-loop μ-loop
+before-add-j c = c .before .before .before .before .before
+
+abbrev entry-of-add-j : tie.After-slice-known2 Inv-loop μ-loop → tie.Start Inv-loop μ-loop
+entry-of-add-j c = entry-of-at-loop (before-add-j c)
+
 loop-holds : tie.Need-loop-holds Inv-loop μ-loop
 loop-holds c =
     let entry = c .before .before in
@@ -40,7 +50,7 @@ part-add-row-end c = inside c
 
 add-row-requires : tie.Need-add-row-requires Inv-loop μ-loop
 add-row-requires c κs =
-    let entry = c .before .before .before .before .before in
+    let entry = entry-of-at-loop (c .before .before) in
     let l = c .before .before .loop in
     let a = entry .args in (
       entry .pre .0,
@@ -52,12 +62,12 @@ add-row-requires c κs =
     )
 
 add-j : tie.Need-add-j Inv-loop μ-loop
-add-j c = let entry = c .before .before .before .before .before .before .before .before in omega (arith, sizes (entry .args .p) (entry .pre .0 .sound) .memory-most)
+add-j c = let entry = entry-of-add-j c in omega (arith, sizes (entry .args .p) (entry .pre .0 .sound) .memory-most)
 
 loop-again : tie.Need-loop-again Inv-loop μ-loop
 loop-again c =
-    let entry = c .before .before .before .before .before .before .before .before in
-    let l = c .before .before .before .before .before .loop in
+    let entry = entry-of-add-j c in
+    let l = before-add-j c .loop in
     let a = entry .args in (
       omega arith,
       omega (arith, l .inv .1),

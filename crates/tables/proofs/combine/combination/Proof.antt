@@ -18,12 +18,17 @@ Inv-loop p products rows information l i q k sum₀ j₀ sum j = (j ≤ l + 1) �
 abbrev μ-loop : tie.MeasureT-loop
 μ-loop p products rows information l i q k sum₀ j₀ sum j = l + 1 - j
 
+-- Stages of the call, each from a later one.
+abbrev entry-of-times-g : tie.After-times-g Inv-loop μ-loop → tie.Start Inv-loop μ-loop
+entry-of-times-g c = c .before .before .before .before .before
+
 loop-holds : tie.Need-loop-holds Inv-loop μ-loop
 loop-holds c = (omega arith, sum-none _ _ (c .before .before .pre .0 .sound .good))
 
 -- The l - j + 1 blocks up to the one in turn lie within the information.
 within : (c : tie.In-loop Inv-loop μ-loop)
-    → (c .before .before .before .before .args .l - c .before .loop .j + 1) * c .before .before .before .before .args .p .k ≤ length (now (c .before .before .before .before .args .information))
+    → (c .before .before .before .before .args .l - c .before .loop .j + 1) * c .before .before .before .before .args .p .k ≤ length
+    (now (c .before .before .before .before .args .information))
 within c =
     let entry = c .before .before .before .before in
     let top : entry .args .l - c .before .loop .j + 1 ≤ entry .args .l + 1 = omega arith in
@@ -38,10 +43,10 @@ times-g-requires c κs =
     (entry .pre .0, entry .pre .1, omega (arith, within c), omega (arith, entry .pre .3), entry .pre .4)
 
 add-requires : tie.Need-add-requires Inv-loop μ-loop
-add-requires c κs = (c .before .before .before .before .before .pre .0 .sound .good, c .before .before .loop .inv .1 .below, c .times-g .ensures .below)
+add-requires c κs = (entry-of-times-g c .pre .0 .sound .good, c .before .before .loop .inv .1 .below, c .times-g .ensures .below)
 
 add-j : tie.Need-add-j Inv-loop μ-loop
-add-j c = let entry = c .before .before .before .before .before .before in omega (arith, entry .pre .3, sizes (entry .args .p) (entry .pre .0 .sound) .memory-most)
+add-j c = let entry = entry-of-times-g (c .before) in omega (arith, entry .pre .3, sizes (entry .args .p) (entry .pre .0 .sound) .memory-most)
 
 loop-again : tie.Need-loop-again Inv-loop μ-loop
 loop-again c =

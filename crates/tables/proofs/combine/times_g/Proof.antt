@@ -18,15 +18,21 @@ Inv-loop products rows information from j i q k n sum₀ r₀ sum r = (r ≤ k) 
 abbrev μ-loop : tie.MeasureT-loop
 μ-loop products rows information from j i q k n sum₀ r₀ sum r = k - r
 
+-- Stages of the call, each from a later one.
+abbrev entry-of-shared-slice-read-add-product : tie.After-shared-slice-known3 Inv-loop μ-loop → tie.Start Inv-loop μ-loop
+entry-of-shared-slice-read-add-product c = c .before .before .before .before .before
+
 loop-holds : tie.Need-loop-holds Inv-loop μ-loop
 loop-holds c = (omega arith, sum-none _ _ (c .before .before .pre .0 .sound .good))
 
 -- The place of the row's symbol.
 placed : (c : tie.After-shared-slice-known3 Inv-loop μ-loop)
-    → Place (c .before .before .before .before .before .args .p) (now (c .before .before .before .before .before .args .rows)) (c .before .before .before .before .before .args .j) (c .before .before .loop .r) (c .before .before .before .before .before .args .i)
+    → Place (entry-of-shared-slice-read-add-product c .args .p) (now (entry-of-shared-slice-read-add-product c .args .rows))
+    (entry-of-shared-slice-read-add-product c .args .j) (c .before .before .loop .r) (entry-of-shared-slice-read-add-product c .args .i)
 placed c =
-    let entry = c .before .before .before .before .before in
-    place-of (entry .args .p) (entry .pre .0 .sound) (now (entry .args .rows)) (entry .pre .0 .rows) (entry .args .j) (c .before .before .loop .r) (entry .args .i) (entry .pre .3) (c .before .loop-test .taken) (entry .pre .4)
+    let entry = entry-of-shared-slice-read-add-product c in
+    place-of (entry .args .p) (entry .pre .0 .sound) (now (entry .args .rows)) (entry .pre .0 .rows) (entry .args .j) (c .before .before .loop .r)
+    (entry .args .i) (entry .pre .3) (c .before .loop-test .taken) (entry .pre .4)
 
 mul-add-product : tie.Need-mul-add-product Inv-loop μ-loop
 mul-add-product c = omega (arith, placed c .group)
@@ -45,7 +51,7 @@ shared-slice-read-add-product-2 c = placed (c .before) .place
 
 add-product-requires : tie.Need-add-product-requires Inv-loop μ-loop
 add-product-requires c κs =
-    let entry = c .before .before .before .before .before .before in
+    let entry = entry-of-shared-slice-read-add-product (c .before) in
     let positive-q = positive (entry .args .p) (entry .pre .0 .sound) in (
       entry .pre .0 .sound .good,
       entry .pre .0 .products,
@@ -55,7 +61,8 @@ add-product-requires c κs =
     )
 
 add-r : tie.Need-add-r Inv-loop μ-loop
-add-r c = let entry = c .before .before .before .before .before .before .before in omega (arith, sizes (entry .args .p) (entry .pre .0 .sound) .information-most)
+add-r c = let entry = entry-of-shared-slice-read-add-product (c .before .before) in omega
+    (arith, sizes (entry .args .p) (entry .pre .0 .sound) .information-most)
 
 loop-again : tie.Need-loop-again Inv-loop μ-loop
 loop-again c =
@@ -69,7 +76,8 @@ returns c =
     record {
       same =
           c .before .loop .inv .1 .same
-          ∙ (ap (product-sum (entry .args .p .q) (now (entry .args .rows)) (now (entry .args .information)) (entry .args .from) (entry .args .p .n) (entry .args .p .k) (entry .args .j) (entry .args .i)) all
+          ∙ (ap (product-sum (entry .args .p .q) (now (entry .args .rows)) (now (entry .args .information)) (entry .args .from) (entry .args .p .n)
+          (entry .args .p .k) (entry .args .j) (entry .args .i)) all
           ∙ product-sum-all (entry .args .p) (now (entry .args .rows)) (now (entry .args .information)) (entry .args .from) (entry .args .j) (entry .args .i)
           (entry .pre .0 .rows) (entry .pre .3) (entry .pre .4));
       below = c .before .loop .inv .1 .below;

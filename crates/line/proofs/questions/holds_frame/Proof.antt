@@ -1,11 +1,15 @@
--- `line::questions::before_symbols` asks 11 and 9, then 1, 3 and 10.
+-- `line::questions::holds_frame` asks 11 and 9, then 1, 3 and 10.
 use mathlib.Core.Path.{sym, _∙_}
 use denote.Ref.{now}
 use Rattle.question.proofs.Questions.{first-says-no, first-left}
 use Rattle.line.specs.Questions.{characterQuestions, headQuestions}
 use Rattle.line.proofs.Asked.{characters-least}
-use Rattle.line.proofs.questions.before_symbols.Statement.{statement}
-use Rattle.line.proofs.questions.before_symbols.Tie as tie
+use Rattle.line.proofs.questions.holds_frame.Statement.{statement}
+use Rattle.line.proofs.questions.holds_frame.Tie as tie
+
+-- Stages of the call, each from a later one.
+abbrev entry-of-head-questions : tie.After-head-questions → tie.Start
+entry-of-head-questions c = c .before .before .before .before .before
 
 returns : tie.Need-returns
 returns c =
@@ -18,9 +22,9 @@ head-questions-requires c κs =
 
 returns-2 : tie.Need-returns-2
 returns-2 c =
-    let line = now (c .before .before .before .before .before .args .line) in
+    let line = now (entry-of-head-questions c .args .line) in
     c .head-questions .ensures
     ∙ sym (first-left (characterQuestions line) (headQuestions line) (c .before .before .before .character-questions .ensures) tt (c .before .if1 .left) .same)
 
-pub before-symbols-spec : {M : Type 1} → statement M
-before-symbols-spec = tie.close (tie.spec (λ c κs. tt) returns head-questions-requires returns-2)
+pub holds-frame-spec : {M : Type 1} → statement M
+holds-frame-spec = tie.close (tie.spec (λ c κs. tt) returns head-questions-requires returns-2)
