@@ -13,8 +13,8 @@ use Rattle.algebra.specs.Ops.{sub}
 use Rattle.algebra.specs.Sum.{power}
 use Rattle.algebra.specs.parts.Values.{falling}
 use Rattle.area.specs.Lists.{view}
-use Rattle.field.specs.Fields.{Good, opsOf, alpha}
-use Rattle.field.specs.Symbols.{Is}
+use Rattle.field.specs.parts.Operations.{Good, Is}
+use Rattle.field.specs.Fields.{opsOf, alpha}
 use Rattle.field.specs.parts.Sequences.{AllBelow, at}
 use Rattle.field.proofs.Laws.{lawsOf}
 use Rattle.field.proofs.Sums.{zero-below}

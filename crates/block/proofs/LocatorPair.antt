@@ -5,8 +5,8 @@ use mathlib.Core.List.{List}
 use Prim.Native.Nat.{ℕ, zero, suc, _+_, _-_, _≤_, _<_}
 use native.Mathlib.Omega.{arith}
 use Rattle.algebra.proofs.Below.{FieldBelow}
-use Rattle.field.specs.Fields.{Good, opsOf}
-use Rattle.field.specs.Symbols.{Is}
+use Rattle.field.specs.parts.Operations.{Good, Is}
+use Rattle.field.specs.Fields.{opsOf}
 use Rattle.field.specs.parts.Sequences.{AllBelow, at}
 use Rattle.field.proofs.Laws.{lawsOf}
 use Rattle.field.proofs.Sums.{zero-below}

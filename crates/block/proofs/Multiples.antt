@@ -9,7 +9,7 @@ use lib.Seq.{getD-set-other}
 use Rattle.algebra.specs.Ops.{sub}
 use Rattle.area.proofs.Lists.{stored}
 use Rattle.field.specs.Fields.{opsOf}
-use Rattle.field.specs.Symbols.{Is}
+use Rattle.field.specs.parts.Operations.{Is}
 use Rattle.field.specs.parts.Sequences.{AllBelow, at}
 use Rattle.field.proofs.Symbols.{below-set}
 use Rattle.block.specs.parts.LocatorAreas.{Multiple}

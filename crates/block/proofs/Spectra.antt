@@ -12,8 +12,8 @@ use Rattle.algebra.specs.Sum.{power}
 use Rattle.algebra.specs.Polynomial.{value}
 use Rattle.algebra.proofs.Sums.{sum-ext}
 use Rattle.area.proofs.Lists.{stored}
-use Rattle.field.specs.Fields.{Good, opsOf, alpha}
-use Rattle.field.specs.Symbols.{Is}
+use Rattle.field.specs.parts.Operations.{Good, Is}
+use Rattle.field.specs.Fields.{opsOf, alpha}
 use Rattle.field.specs.parts.Sequences.{AllBelow, at}
 use Rattle.field.proofs.Laws.{lawsOf}
 use Rattle.field.proofs.Symbols.{below-set}

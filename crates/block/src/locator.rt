@@ -2,8 +2,8 @@
 ghost use mathlib.Core.Path.{_≡_};
 ghost use Prim.Native.Nat.{_+_, _-_, _≤_, _<_};
 ghost use lib.ListN.{length};
-ghost use Rattle.field.specs.Fields.{Good, opsOf};
-ghost use Rattle.field.specs.Symbols.{Is};
+ghost use Rattle.field.specs.parts.Operations.{Good, Is};
+ghost use Rattle.field.specs.Fields.{opsOf};
 ghost use Rattle.field.specs.parts.Products.{ProductsOf};
 ghost use Rattle.field.specs.parts.Sequences.{AllBelow, at};
 ghost use Rattle.block.specs.parts.Locator.{tail as tailOf};

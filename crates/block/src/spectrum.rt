@@ -2,8 +2,9 @@
 ghost use Prim.Native.Nat.{_+_, _≤_, _<_};
 ghost use lib.ListN.{length};
 ghost use Rattle.algebra.specs.Sum.{power};
-ghost use Rattle.field.specs.Fields.{Good, opsOf, alpha};
-ghost use Rattle.field.specs.Symbols.{Is, Symbols};
+ghost use Rattle.field.specs.parts.Operations.{Good, Is};
+ghost use Rattle.field.specs.Fields.{opsOf, alpha};
+ghost use Rattle.field.specs.Symbols.{Symbols};
 ghost use Rattle.field.specs.parts.Products.{ProductsOf};
 ghost use Rattle.field.specs.parts.Sequences.{AllBelow};
 ghost use Rattle.block.specs.parts.Spectrum.{SpectrumOf, Continued};

@@ -9,7 +9,7 @@ use native.Mathlib.Nat.{not-suc-le-zero, le-of-suc-le-suc, mul-le-mul, mul-le-mu
 use lib.Dec.{T as Passes, leb, leb→le}
 use lib.ListN.{length, getD}
 use Rattle.algebra.proofs.Tests.{and-left, and-right}
-use Rattle.field.specs.Fields.{Good, five-elements, eight-elements}
+use Rattle.field.specs.parts.Operations.{Good, five-elements, eight-elements}
 use Rattle.field.proofs.Operations.{good-small}
 use Rattle.code.specs.declared.Setting.{Setting}
 use Rattle.code.specs.Settings.{setting, settings, isSetting, settingOf, largest}

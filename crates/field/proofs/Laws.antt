@@ -4,7 +4,8 @@ use Prim.Native.Nat.{ℕ, _-_}
 use Rattle.algebra.proofs.Below.{FieldBelow, OrderBelow}
 use Rattle.field.specs.Modular.{modular}
 use Rattle.field.specs.Binary.{binary}
-use Rattle.field.specs.Fields.{five, eight, alpha, opsOf, Good, five-elements, eight-elements}
+use Rattle.field.specs.parts.Operations.{Good, five-elements, eight-elements}
+use Rattle.field.specs.Fields.{five, eight, alpha, opsOf}
 use Rattle.field.proofs.Five.{five-field, five-order}
 use Rattle.field.proofs.Eight.{eight-field, eight-order}
 

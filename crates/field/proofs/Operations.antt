@@ -13,8 +13,8 @@ use Rattle.algebra.proofs.Tests.{all, same-pairs}
 use Rattle.field.specs.Numbers.{inverseBelow}
 use Rattle.field.specs.Modular.{modular}
 use Rattle.field.specs.Binary.{binary}
-use Rattle.field.specs.Fields.{five, eight, opsOf, Good, five-elements, eight-elements}
-use Rattle.field.specs.Symbols.{Is}
+use Rattle.field.specs.parts.Operations.{Good, five-elements, eight-elements, Is}
+use Rattle.field.specs.Fields.{five, eight, opsOf}
 use Rattle.field.specs.parts.Products.{ProductsOf}
 use Rattle.field.proofs.Laws.{lawsOf}
 

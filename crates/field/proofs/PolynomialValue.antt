@@ -7,8 +7,8 @@ use native.Mathlib.Omega.{arith}
 use lib.ListN.{length, getD, take, drop, length-take, length-drop}
 use borrow.Rule.Slice.PartAt.{part-to-end}
 use Rattle.algebra.specs.Polynomial.{value}
-use Rattle.field.specs.Fields.{opsOf, Good}
-use Rattle.field.specs.Symbols.{Is}
+use Rattle.field.specs.parts.Operations.{Good, Is}
+use Rattle.field.specs.Fields.{opsOf}
 use Rattle.field.proofs.Sums.{zero-below}
 
 -- The rest as code makes it, the part of the list from 1 on, is shorter.

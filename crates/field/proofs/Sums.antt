@@ -5,8 +5,8 @@ use Prim.Native.Nat.{ℕ, _+_, _<_}
 use native.Mathlib.Numerals.{add-one}
 use native.Mathlib.Omega.{arith}
 use Rattle.algebra.specs.Sum.{sum}
-use Rattle.field.specs.Fields.{opsOf, alpha, Good}
-use Rattle.field.specs.Symbols.{Is}
+use Rattle.field.specs.parts.Operations.{Good, Is}
+use Rattle.field.specs.Fields.{opsOf, alpha}
 use Rattle.field.proofs.Laws.{lawsOf, orderOf}
 
 pub zero-below : (q : ℕ) → Good q → 0 < q

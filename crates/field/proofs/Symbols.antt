@@ -10,13 +10,12 @@ use native.Mathlib.Nat.{le-of-suc-le-suc, not-suc-le-zero}
 use native.Mathlib.Omega.{arith}
 use native.Mathlib.Decide.{ℕ-discrete, decLt}
 use lib.Dec.{eqb, ltb}
-use lib.ListN.{length, getD, take, drop, set, replicate, length-append, length-take, length-drop, length-set, length-replicate, getD-replicate}
-use lib.ListN.{List·getD-eq-default, List·getD-append}
+use lib.ListN.{length, getD, take, drop, set, replicate, length-append, length-take, length-drop, length-set, length-replicate, getD-replicate, List·getD-eq-default, List·getD-append}
 use lib.Seq.{getD-take, getD-drop, getD-append-add, getD-set-same, getD-set-other, set-out}
 use borrow.Author.Tests.{ltb-true, ltb-false, eqb-true, eqb-false}
 use borrow.Rule.Slice.PartMut.{putMid}
 use Rattle.area.proofs.Lists.{getD-zeros}
-use Rattle.field.specs.Fields.{Good}
+use Rattle.field.specs.parts.Operations.{Good}
 use Rattle.field.specs.Symbols.{Symbols}
 use Rattle.field.specs.parts.Sequences.{AllBelow}
 use Rattle.field.proofs.Sums.{zero-below}

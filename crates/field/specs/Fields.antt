@@ -1,5 +1,5 @@
 -- The two fields of 01 ("Two fields and three settings") and the field with q elements, q chosen at run time.
--- Holds: `five`, `eightPolynomial`, `eight`, `alpha`, `Good` (the q in use), `fieldPart`, `opsOf` (the field with q elements); 01's list of the powers of α,
+-- Holds: `five`, `eightPolynomial`, `eight`, `alpha`, `fieldPart`, `opsOf` (the field with q elements); 01's list of the powers of α,
 -- computed.
 use mathlib.Core.Path.{_≡_, refl}
 use mathlib.Core.List.{[], _∷_, map}
@@ -25,11 +25,6 @@ eight = binary 3 eightPolynomial
 -- α as a number is the same in every field.
 abbrev pub alpha : ℕ
 alpha = 2
-
--- q is the number of elements of one of the fields.
-pub data Good : ℕ → Type 0 where
-  five-elements : Good 5
-  eight-elements : Good 8
 
 -- A part of the field with q elements.
 abbrev pub fieldPart {ℓ} : {A : Type ℓ} → ℕ → (Ops ℕ → A) → A

@@ -1,3 +1,4 @@
--- What functions that multiply ask of the table that is lent to them, and lists of symbols as sequences.
+-- What functions on symbols ask and promise: the q in use, results, the table of products, lists of symbols as sequences.
 pub mod Products
 pub mod Sequences
+pub mod Operations

@@ -3,8 +3,9 @@
 ghost use Prim.Native.Nat.{_<_};
 ghost use Rattle.algebra.specs.Ops.{sub};
 ghost use Rattle.algebra.specs.Polynomial as polynomial;
-ghost use Rattle.field.specs.Fields.{Good, opsOf};
-ghost use Rattle.field.specs.Symbols.{Symbols, Is};
+ghost use Rattle.field.specs.parts.Operations.{Good, Is};
+ghost use Rattle.field.specs.Fields.{opsOf};
+ghost use Rattle.field.specs.Symbols.{Symbols};
 ghost use Rattle.field.specs.parts.Products.{ProductsOf};
 
 // The products of a field, with room for the larger: a × b in row a, place b.

@@ -3,7 +3,7 @@ ghost use mathlib.Core.Path.{_≡_};
 ghost use Prim.Native.Nat.{_+_, _*_, _≤_};
 ghost use lib.Dec.{T as Passes};
 ghost use lib.ListN.{length};
-ghost use Rattle.field.specs.Fields.{Good};
+ghost use Rattle.field.specs.parts.Operations.{Good};
 ghost use Rattle.field.specs.Symbols.{Symbols};
 ghost use Rattle.code.specs.Settings.{isSetting, settingOf};
 ghost use Rattle.tables.specs.parts.Rows.{Narrow, Ready};

@@ -14,7 +14,8 @@ use Rattle.area.specs.Lists.{view}
 use Rattle.area.proofs.Lists.{stored}
 use Rattle.area.proofs.Parts.{part-length, part-symbol, put-length, put-before, put-inside, put-after}
 use Rattle.field.specs.Fields.{opsOf}
-use Rattle.field.specs.Symbols.{Symbols, Is}
+use Rattle.field.specs.parts.Operations.{Is}
+use Rattle.field.specs.Symbols.{Symbols}
 use Rattle.field.proofs.Symbols.{symbols-set, put-symbols}
 use Rattle.code.specs.declared.Setting.{Setting}
 use Rattle.code.specs.Generator.{rowSymbol}

@@ -4,7 +4,7 @@ use mathlib.Core.Path.{_≡_}
 use native.Mathlib.Omega.{arith}
 use Rattle.algebra.specs.parts.Values.{falling}
 use Rattle.field.specs.Fields.{opsOf}
-use Rattle.field.specs.Symbols.{Is}
+use Rattle.field.specs.parts.Operations.{Is}
 use Rattle.field.specs.parts.Sequences.{at}
 use Rattle.block.proofs.InformationRead.{falling-none, falling-more}
 use Rattle.block.proofs.information.falling.Statement.{statement}

@@ -5,7 +5,7 @@ use native.Mathlib.Omega.{arith}
 use lib.ListN.{length, length-set}
 use Rattle.algebra.specs.Sum.{power}
 use Rattle.field.specs.Fields.{opsOf, alpha}
-use Rattle.field.specs.Symbols.{Is}
+use Rattle.field.specs.parts.Operations.{Is}
 use Rattle.block.specs.parts.Information.{BlockRead}
 use Rattle.block.proofs.InformationRead.{back-none, back-more, block-none, block-more}
 use Rattle.block.proofs.information.read_block.Statement.{statement}

@@ -4,7 +4,7 @@ use Prim.Native.Nat.{_≤_, _-_, _+_}
 use native.Mathlib.Omega.{arith}
 use borrow.Author.Needs.{needs}
 use Rattle.field.specs.Fields.{opsOf}
-use Rattle.field.specs.Symbols.{Is}
+use Rattle.field.specs.parts.Operations.{Is}
 use Rattle.field.specs.parts.Sequences.{at}
 use Rattle.field.proofs.Sums.{sum-none, sum-more}
 use Rattle.block.specs.parts.Locator.{tail}

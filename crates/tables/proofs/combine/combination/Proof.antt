@@ -5,7 +5,7 @@ use native.Mathlib.Nat.{mul-le-mul-right}
 use native.Mathlib.Omega.{arith}
 use denote.Ref.{now}
 use lib.ListN.{length}
-use Rattle.field.specs.Symbols.{Is}
+use Rattle.field.specs.parts.Operations.{Is}
 use Rattle.field.proofs.Sums.{sum-none, sum-more}
 use Rattle.code.proofs.Settings.{sizes}
 use Rattle.tables.proofs.Places.{combination-sum, combination-sum-all}

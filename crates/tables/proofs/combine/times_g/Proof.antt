@@ -3,7 +3,7 @@ use mathlib.Core.Path.{_≡_, refl, ap, _∙_}
 use Prim.Native.Nat.{_+_, _-_, _≤_}
 use native.Mathlib.Omega.{arith}
 use denote.Ref.{now}
-use Rattle.field.specs.Symbols.{Is}
+use Rattle.field.specs.parts.Operations.{Is}
 use Rattle.field.proofs.Symbols.{symbol-below}
 use Rattle.field.proofs.Sums.{sum-none, sum-more}
 use Rattle.code.proofs.Settings.{sizes}
