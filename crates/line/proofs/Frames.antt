@@ -23,13 +23,15 @@ use Rattle.code.specs.Settings.{isSetting, settingOf}
 use Rattle.code.specs.Windows.{windowLength}
 use Rattle.code.proofs.Settings.{soundOf, information-fits, Sizes, sizesOf, largestOf}
 use Rattle.question.specs.declared.Answer.{Answer}
-use Rattle.question.specs.Questions.{Question, ask, answer, firstNo, mostBlocks, mostSymbols, mostInformation, blocksOf, symbolQuestion, transmissionQuestion, frameQuestions, decodingQuestions}
+use Rattle.question.specs.Questions.{Question, ask, answer, firstNo, mostBlocks, mostSymbols, mostInformation, blocksOf, symbolQuestion, transmissionQuestion}
+use Rattle.question.specs.Questions.{frameQuestions, decodingQuestions}
 use Rattle.question.proofs.Questions.{true-of, first-no, all-yes, append-yes, message-most, transmission-most}
 use Rattle.link.specs.Decoding.{FrameDecoded, found, none-fits, DecodedIn, Decoded, refused as decoding-refused, well-formed as decoding-well-formed}
 use Rattle.link.proofs.Determined.{parts-long, message-front}
 use Rattle.line.specs.Characters.{digitOf}
 use Rattle.line.specs.Questions.{mostCharacters, settingIn, blocksIn, symbolsIn, digitsTo, characterQuestions, headQuestions, HoldsFrame, lineQuestions}
-use Rattle.line.specs.Answering.{refusal, success, outputLine, messageLength, messageIn, Answers, refused, well-formed, AnswerShown, LineAreas, lineAreas, hasRoom, roomIn, RoomForAll, FrameLeft, Answered, no-frame, no-room, decoded}
+use Rattle.line.specs.Answering.{refusal, success, outputLine, messageLength, messageIn, Answers, refused, well-formed, AnswerShown, LineAreas}
+use Rattle.line.specs.Answering.{lineAreas, hasRoom, roomIn, RoomForAll, FrameLeft, Answered, no-frame, no-room, decoded}
 use Rattle.line.proofs.Asked.{HeadYes, head-yes, after-head, in-head}
 use Rattle.line.proofs.Placed.{six, success-long}
 

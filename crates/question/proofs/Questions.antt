@@ -25,7 +25,8 @@ use Rattle.code.specs.Settings.{isSetting, settingOf}
 use Rattle.code.specs.Windows.{windowLength, Message}
 use Rattle.code.proofs.Settings.{largestOf, Sizes, sizesOf}
 use Rattle.question.specs.declared.Answer.{Answer}
-use Rattle.question.specs.Questions.{Question, ask, answer, symbolQuestion, transmissionQuestion, firstNo, mostBlocks, mostSymbols, mostInformation, blocksOf, symbolsTo, frameQuestions, decodingQuestions, encodingQuestions, displayQuestions, marksQuestions}
+use Rattle.question.specs.Questions.{Question, ask, answer, symbolQuestion, transmissionQuestion, firstNo, mostBlocks, mostSymbols, mostInformation}
+use Rattle.question.specs.Questions.{blocksOf, symbolsTo, frameQuestions, decodingQuestions, encodingQuestions, displayQuestions, marksQuestions}
 
 pub true-of : (t : Bool) → Passes t → t ≡ true
 true-of true h = refl

@@ -1,4 +1,4 @@
--- `frame::guess::guess_from`: whatever is guessed, the residual stays the residual.
+-- `frame::guess::guess_from`: whatever is guessed, the residual stays that of the guess.
 use Prim.Native.Nat.{_+_, _-_, _*_, _≤_, _<_}
 use native.Mathlib.Omega.{arith}
 use denote.Ref.{now}
