@@ -80,13 +80,5 @@ returns c =
 pub begin-spec : {M : Type 1} → statement M
 begin-spec =
     tie.close
-    (tie.spec
-    add-syndromes
-    mul-syndromes
-    sub-syndromes
-    (λ c κs. search needs)
-    add-values-requires
-    (search needs)
-    locate-requires
-    (λ c. omega arith) (λ c. omega arith) (λ c. omega arith) (λ c. omega arith)
-    returns)
+    (tie.spec add-syndromes mul-syndromes sub-syndromes (λ c κs. search needs) add-values-requires (search needs) locate-requires (λ c. omega arith)
+    (λ c. omega arith) (λ c. omega arith) (λ c. omega arith) returns)

@@ -63,12 +63,5 @@ returns c = search needs
 pub read-candidate-spec : {M : Type 1} → statement M
 read-candidate-spec =
     tie.close
-    (tie.spec
-    add-blocks
-    mul-count
-    sub-syndromes
-    (λ c κs. search needs)
-    extend-requires
-    read-requires
-    (λ c. omega arith) (λ c. omega arith) (λ c. omega arith)
-    returns)
+    (tie.spec add-blocks mul-count sub-syndromes (λ c κs. search needs) extend-requires read-requires (λ c. omega arith) (λ c. omega arith)
+    (λ c. omega arith) returns)

@@ -94,18 +94,6 @@ returns-3 c =
 pub repair-spec : {M : Type 1} → statement M
 repair-spec =
     tie.close
-    (tie.spec
-    add-distance
-    mul-distance
-    sub-distance
-    (search needs)
-    (λ c κs. search needs)
-    mul-if1
-    (λ c. omega arith) (λ c. omega arith) (λ c. omega arith) (λ c. omega arith)
-    returns
-    read-candidate-requires
-    cost-requires
-    (λ c. omega arith) (λ c. omega arith) (λ c. omega arith) (λ c. omega arith)
-    returns-2
-    (λ c. omega arith) (λ c. omega arith) (λ c. omega arith) (λ c. omega arith)
-    returns-3)
+    (tie.spec add-distance mul-distance sub-distance (search needs) (λ c κs. search needs) mul-if1 (λ c. omega arith) (λ c. omega arith)
+    (λ c. omega arith) (λ c. omega arith) returns read-candidate-requires cost-requires (λ c. omega arith) (λ c. omega arith) (λ c. omega arith)
+    (λ c. omega arith) returns-2 (λ c. omega arith) (λ c. omega arith) (λ c. omega arith) (λ c. omega arith) returns-3)

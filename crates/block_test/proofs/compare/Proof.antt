@@ -15,8 +15,5 @@ abbrev μ-loop : tie.MeasureT-loop
 pub compare-spec : {M : Type 1} → statement M
 compare-spec =
     tie.close
-    (tie.spec
-    Inv-loop
-    μ-loop
-    (omega arith) (λ c κs. search needs) (omega arith) (omega arith) (omega arith) (omega arith) (omega arith) (omega arith) (search needs) (search needs)
-    (search needs) (search needs))
+    (tie.spec Inv-loop μ-loop (omega arith) (λ c κs. search needs) (omega arith) (omega arith) (omega arith) (omega arith) (omega arith) (omega arith)
+    (search needs) (search needs) (search needs) (search needs))

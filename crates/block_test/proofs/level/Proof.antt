@@ -43,11 +43,5 @@ compare-requires c κs =
 pub level-spec : {M : Type 1} → statement M
 level-spec =
     tie.close
-    (tie.spec
-    (λ c κs. search needs)
-    products-requires
-    (search needs)
-    rows-requires
-    (search needs) (search needs) (search needs)
-    compare-requires
+    (tie.spec (λ c κs. search needs) products-requires (search needs) rows-requires (search needs) (search needs) (search needs) compare-requires
     (search needs))

@@ -28,11 +28,5 @@ add-cost c = let entry = entry-of-in-loop (c .before .before .before) in omega (
 pub near-spec : {M : Type 1} → statement M
 near-spec =
     tie.close
-    (tie.spec
-    Inv-loop
-    μ-loop
-    (omega arith)
-    combination-requires
-    (omega arith) (omega arith) (omega arith) (omega arith)
-    add-cost
-    (search needs) (omega arith) (omega arith) (search needs))
+    (tie.spec Inv-loop μ-loop (omega arith) combination-requires (omega arith) (omega arith) (omega arith) (omega arith) add-cost (search needs)
+    (omega arith) (omega arith) (search needs))

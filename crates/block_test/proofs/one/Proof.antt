@@ -23,9 +23,5 @@ repaired-requires c κs =
 pub one-spec : {M : Type 1} → statement M
 one-spec =
     tie.close
-    (tie.spec
-    (λ c κs. search needs) (search needs)
-    slice-aggregate-received
-    search-near-requires
-    repaired-requires
-    (search needs) (search needs) (search needs))
+    (tie.spec (λ c κs. search needs) (search needs) slice-aggregate-received search-near-requires repaired-requires (search needs) (search needs)
+    (search needs))

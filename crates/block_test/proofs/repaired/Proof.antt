@@ -40,14 +40,5 @@ repaired-in-requires c κs =
 pub repaired-spec : {M : Type 1} → statement M
 repaired-spec =
     tie.close
-    (tie.spec
-    (search needs) (search needs)
-    slice-aggregate-repaired-in
-    (search needs)
-    slice-aggregate-repaired-in-2
-    (search needs)
-    slice-aggregate-repaired-in-3
-    (search needs)
-    slice-aggregate-repaired-in-4
-    repaired-in-requires
-    (search needs))
+    (tie.spec (search needs) (search needs) slice-aggregate-repaired-in (search needs) slice-aggregate-repaired-in-2 (search needs)
+    slice-aggregate-repaired-in-3 (search needs) slice-aggregate-repaired-in-4 repaired-in-requires (search needs))

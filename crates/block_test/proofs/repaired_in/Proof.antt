@@ -42,10 +42,6 @@ slice-aggregate-number-of c =
 pub repaired-in-spec : {M : Type 1} → statement M
 repaired-in-spec =
     tie.close
-    (tie.spec
-    add-long
-    mul-long
-    (λ c κs. search needs) (search needs) (search needs) (search needs) (search needs) (search needs)
-    slice-reshare-prefix-number-of
-    slice-aggregate-number-of
-    (λ c κs. search needs) (search needs) (search needs) (search needs) (search needs) (search needs))
+    (tie.spec add-long mul-long (λ c κs. search needs) (search needs) (search needs) (search needs) (search needs) (search needs)
+    slice-reshare-prefix-number-of slice-aggregate-number-of (λ c κs. search needs) (search needs) (search needs) (search needs) (search needs)
+    (search needs))

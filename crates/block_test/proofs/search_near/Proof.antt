@@ -21,9 +21,5 @@ near-requires c κs = let p = entry-of-information c .pre in (p .0, c .before .d
 pub search-near-spec : {M : Type 1} → statement M
 search-near-spec =
     tie.close
-    (tie.spec
-    Inv-loop
-    μ-loop
-    (omega arith) (λ c κs. search needs) (omega arith)
-    near-requires
-    (search needs) (omega arith) (omega arith) (omega arith) (search needs))
+    (tie.spec Inv-loop μ-loop (omega arith) (λ c κs. search needs) (omega arith) near-requires (search needs) (omega arith) (omega arith)
+    (omega arith) (search needs))

@@ -66,16 +66,4 @@ returns c =
 pub distances-to-spec : {M : Type 1} → statement M
 distances-to-spec =
     tie.close
-    (tie.spec
-    Inv-loop
-    μ-loop
-    sub-zeros
-    add-sum
-    loop-holds
-    sub-zeros-2
-    add-sum-2
-    add-sum-3
-    add-i
-    (λ c. omega arith)
-    loop-again
-    returns)
+    (tie.spec Inv-loop μ-loop sub-zeros add-sum loop-holds sub-zeros-2 add-sum-2 add-sum-3 add-i (λ c. omega arith) loop-again returns)

@@ -24,12 +24,8 @@ turn-requires c κs = record {
 pub desk-spec : {M : Type 1} → statement M
 desk-spec =
     tie.close
-    (tie.spec
-    Inv-loop
-    μ-loop
-    (omega arith) (search needs) (search needs) (search needs) (search needs) (omega arith) (omega arith) (omega arith) (omega arith) (omega arith)
-    (omega arith) (λ c. tt)
-    turn-requires
-    (search needs) (search needs) (search needs) (search needs) (search needs) (omega arith) (omega arith) (omega arith) (omega arith) (omega arith)
-    (omega arith) (λ c. tt) (omega arith) (omega arith) (omega arith) (omega arith) (omega arith) (omega arith) (λ c. tt) (omega arith) (omega arith)
-    (omega arith) (omega arith) (omega arith) (omega arith) (omega arith) (omega arith) (omega arith) (λ c. tt))
+    (tie.spec Inv-loop μ-loop (omega arith) (search needs) (search needs) (search needs) (search needs) (omega arith) (omega arith) (omega arith)
+    (omega arith) (omega arith) (omega arith) (λ c. tt) turn-requires (search needs) (search needs) (search needs) (search needs) (search needs)
+    (omega arith) (omega arith) (omega arith) (omega arith) (omega arith) (omega arith) (λ c. tt) (omega arith) (omega arith) (omega arith)
+    (omega arith) (omega arith) (omega arith) (λ c. tt) (omega arith) (omega arith) (omega arith) (omega arith) (omega arith) (omega arith)
+    (omega arith) (omega arith) (omega arith) (λ c. tt))

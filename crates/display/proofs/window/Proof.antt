@@ -42,13 +42,6 @@ returns-2 c =
 pub window-spec : {M : Type 1} → statement M
 window-spec =
     tie.close
-    (tie.spec
-    (λ c κs. tt) (search needs) returns
-    (λ c κs. known c .setting)
-    (λ c. omega (arith, inside c .within))
-    (λ c. omega (arith, inside c .sizes .memory-most))
-    (λ c. omega (arith, inside c .short))
-    (λ c. omega (arith, inside c .within))
-    (search needs) (search needs)
-    (λ c. omega (arith, inside c .within))
-    returns-2)
+    (tie.spec (λ c κs. tt) (search needs) returns (λ c κs. known c .setting) (λ c. omega (arith, inside c .within))
+    (λ c. omega (arith, inside c .sizes .memory-most)) (λ c. omega (arith, inside c .short)) (λ c. omega (arith, inside c .within)) (search needs)
+    (search needs) (λ c. omega (arith, inside c .within)) returns-2)

@@ -47,14 +47,4 @@ returns-2 c =
 pub inverse-spec : {M : Type 1} → statement M
 inverse-spec =
     tie.close
-    (tie.spec
-    Inv-loop
-    μ-loop
-    loop-holds
-    (λ c. omega arith)
-    cast-candidate
-    (λ c κs. search needs)
-    returns
-    (λ c. omega arith)
-    loop-again
-    returns-2)
+    (tie.spec Inv-loop μ-loop loop-holds (λ c. omega arith) cast-candidate (λ c κs. search needs) returns (λ c. omega arith) loop-again returns-2)

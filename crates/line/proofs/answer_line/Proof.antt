@@ -104,16 +104,5 @@ returns-3 c =
 pub answer-line-spec : {M : Type 1} → statement M
 answer-line-spec =
     tie.close
-    (tie.spec
-    (search needs) (search needs)
-    (λ c. omega arith)
-    returns
-    has-room-requires
-    returns-2
-    decode-line-requires
-    write-answer-requires
-    (λ c. omega arith)
-    (λ c. omega arith)
-    (λ c. omega arith)
-    (λ c. omega arith)
-    returns-3)
+    (tie.spec (search needs) (search needs) (λ c. omega arith) returns has-room-requires returns-2 decode-line-requires write-answer-requires
+    (λ c. omega arith) (λ c. omega arith) (λ c. omega arith) (λ c. omega arith) returns-3)

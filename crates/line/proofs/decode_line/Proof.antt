@@ -77,19 +77,6 @@ returns c =
 pub decode-line-spec : {M : Type 1} → statement M
 decode-line-spec =
     tie.close
-    (tie.spec
-    setting-in-requires
-    sub-long
-    sub-read-digits
-    part-read-digits-start
-    (search needs)
-    slice-relend-prefix-read-digits
-    slice-aggregate-read-digits
-    read-digits-requires
-    slice-reshare-prefix-decode
-    slice-aggregate-decode
-    (search needs)
-    (λ c. omega arith)
-    (λ c. omega arith)
-    (λ c. omega arith)
-    returns)
+    (tie.spec setting-in-requires sub-long sub-read-digits part-read-digits-start (search needs) slice-relend-prefix-read-digits
+    slice-aggregate-read-digits read-digits-requires slice-reshare-prefix-decode slice-aggregate-decode (search needs) (λ c. omega arith)
+    (λ c. omega arith) (λ c. omega arith) returns)

@@ -79,14 +79,5 @@ returns-2 c =
 pub write-answer-spec : {M : Type 1} → statement M
 write-answer-spec =
     tie.close
-    (tie.spec
-    (search needs)
-    (λ c. omega arith)
-    returns
-    setting-in-requires
-    blocks-in-requires
-    (search needs)
-    slice-aggregate-write-success
-    write-success-requires
-    (λ c. omega arith)
-    returns-2)
+    (tie.spec (search needs) (λ c. omega arith) returns setting-in-requires blocks-in-requires (search needs) slice-aggregate-write-success
+    write-success-requires (λ c. omega arith) returns-2)

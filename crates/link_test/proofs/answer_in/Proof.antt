@@ -11,7 +11,5 @@ slice-aggregate-write-all c = sym (length-take-le _ _ (c .before .if1 .left))
 pub answer-in-spec : {M : Type 1} → statement M
 answer-in-spec =
     tie.close
-    (tie.spec
-    (search needs) (search needs) (search needs) (search needs) (search needs) (search needs) (search needs)
-    slice-aggregate-write-all
+    (tie.spec (search needs) (search needs) (search needs) (search needs) (search needs) (search needs) (search needs) slice-aggregate-write-all
     (search needs) (search needs) (search needs) (search needs) (search needs) (search needs) (search needs))

@@ -19,10 +19,5 @@ loop-again c = simp length-set (omega arith)
 pub bytes-spec : {M : Type 1} → statement M
 bytes-spec =
     tie.close
-    (tie.spec
-    Inv-loop
-    μ-loop
-    (λ c. tt) (omega arith) (omega arith) (search needs) (λ c. tt) (omega arith) (λ c κs. tt) (omega arith) (omega arith) (λ c κs. tt) (omega arith)
-    (omega arith) (omega arith) (omega arith)
-    loop-again
-    (search needs) (λ c. tt))
+    (tie.spec Inv-loop μ-loop (λ c. tt) (omega arith) (omega arith) (search needs) (λ c. tt) (omega arith) (λ c κs. tt) (omega arith) (omega arith)
+    (λ c κs. tt) (omega arith) (omega arith) (omega arith) (omega arith) loop-again (search needs) (λ c. tt))

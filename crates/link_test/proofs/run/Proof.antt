@@ -35,15 +35,7 @@ handed-requires c κs = (simp length-take (omega arith), simp length-take (omega
 pub run-spec : {M : Type 1} → statement M
 run-spec =
     tie.close
-    (tie.spec
-    (search needs) (search needs) (search needs) (search needs) (search needs) (search needs) (search needs) (search needs) (search needs) (search needs)
-    (search needs) (search needs)
-    slice-aggregate-read-full
-    (λ c κs. tt) (search needs) (search needs) (search needs)
-    slice-aggregate-handed
-    (search needs)
-    slice-aggregate-handed-2
-    (search needs)
-    slice-aggregate-handed-3
-    handed-requires
-    (search needs) (search needs) (search needs) (search needs) (search needs))
+    (tie.spec (search needs) (search needs) (search needs) (search needs) (search needs) (search needs) (search needs) (search needs) (search needs)
+    (search needs) (search needs) (search needs) slice-aggregate-read-full (λ c κs. tt) (search needs) (search needs) (search needs)
+    slice-aggregate-handed (search needs) slice-aggregate-handed-2 (search needs) slice-aggregate-handed-3 handed-requires (search needs)
+    (search needs) (search needs) (search needs) (search needs))

@@ -26,13 +26,6 @@ slice-aggregate-write-all c = sym (length-take-le (c .before .before .loop .at) 
 pub show-spec : {M : Type 1} → statement M
 show-spec =
     tie.close
-    (tie.spec
-    Inv-loop
-    μ-loop
-    (omega arith) (omega arith) (search needs) (λ c. tt) (omega arith) (λ c κs. tt) (omega arith) (omega arith) (λ c κs. tt) (omega arith)
-    slice-write-digits-2
-    (omega arith) (omega arith) (omega arith)
-    loop-again
-    (omega arith)
-    slice-aggregate-write-all
-    (λ c κs. tt) (search needs) (λ c. tt))
+    (tie.spec Inv-loop μ-loop (omega arith) (omega arith) (search needs) (λ c. tt) (omega arith) (λ c κs. tt) (omega arith) (omega arith) (λ c κs. tt)
+    (omega arith) slice-write-digits-2 (omega arith) (omega arith) (omega arith) loop-again (omega arith) slice-aggregate-write-all (λ c κs. tt)
+    (search needs) (λ c. tt))

@@ -76,28 +76,8 @@ returns-3 c =
 pub lay-generator-row-spec : {M : Type 1} → statement M
 lay-generator-row-spec =
     tie.close
-    (tie.spec
-    (λ c κs. tt)
-    (λ c. omega (arith, in-first c .0))
-    (λ c. omega (arith, in-first c .1))
-    (λ c. in-first c .0)
-    (λ c. in-first c .1)
-    (λ c κs. omega (arith, in-first (c .before .before .before) .2))
-    (λ c. omega arith)
-    returns
-    (λ c κs. tt)
-    (λ c. omega (arith, in-second c .0))
-    (λ c. omega (arith, in-second c .1))
-    (λ c. in-second c .0)
-    (λ c. in-second c .1)
-    (λ c κs. omega (arith, in-second (c .before .before .before) .2))
-    (λ c. omega arith)
-    returns-2
-    (λ c κs. tt)
-    (λ c. omega (arith, in-third c .0))
-    (λ c. omega (arith, in-third c .1))
-    (λ c. in-third c .0)
-    (λ c. in-third c .1)
-    (λ c κs. omega (arith, in-third (c .before .before .before) .2))
-    (λ c. omega arith)
-    returns-3)
+    (tie.spec (λ c κs. tt) (λ c. omega (arith, in-first c .0)) (λ c. omega (arith, in-first c .1)) (λ c. in-first c .0) (λ c. in-first c .1)
+    (λ c κs. omega (arith, in-first (c .before .before .before) .2)) (λ c. omega arith) returns (λ c κs. tt) (λ c. omega (arith, in-second c .0))
+    (λ c. omega (arith, in-second c .1)) (λ c. in-second c .0) (λ c. in-second c .1) (λ c κs. omega (arith, in-second (c .before .before .before) .2))
+    (λ c. omega arith) returns-2 (λ c κs. tt) (λ c. omega (arith, in-third c .0)) (λ c. omega (arith, in-third c .1)) (λ c. in-third c .0)
+    (λ c. in-third c .1) (λ c κs. omega (arith, in-third (c .before .before .before) .2)) (λ c. omega arith) returns-3)

@@ -41,15 +41,5 @@ returns c =
 pub lay-row-spec : {M : Type 1} → statement M
 lay-row-spec =
     tie.close
-    (tie.spec
-    Inv-loop
-    μ-loop
-    loop-holds
-    (λ c. omega arith)
-    (λ c. omega arith)
-    slice-write-area
-    (λ c. omega arith)
-    (λ c. omega arith)
-    loop-again
-    (omega arith)
-    returns)
+    (tie.spec Inv-loop μ-loop loop-holds (λ c. omega arith) (λ c. omega arith) slice-write-area (λ c. omega arith) (λ c. omega arith) loop-again
+    (omega arith) returns)

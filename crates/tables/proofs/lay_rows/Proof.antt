@@ -118,19 +118,5 @@ returns c =
 pub lay-rows-spec : {M : Type 1} → statement M
 lay-rows-spec =
     tie.close
-    (tie.spec
-    Inv-loop
-    μ-loop
-    setting-of-requires
-    add-count
-    mul-count
-    loop-holds
-    div-lay-generator-row
-    rem-lay-generator-row
-    mul-lay-generator-row
-    lay-generator-row-requires
-    add-a
-    (λ c. omega arith)
-    loop-again
-    (omega arith)
-    returns)
+    (tie.spec Inv-loop μ-loop setting-of-requires add-count mul-count loop-holds div-lay-generator-row rem-lay-generator-row mul-lay-generator-row
+    lay-generator-row-requires add-a (λ c. omega arith) loop-again (omega arith) returns)

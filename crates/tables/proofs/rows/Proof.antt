@@ -50,13 +50,5 @@ returns-3 c =
 pub rows-spec : {M : Type 1} → statement M
 rows-spec =
     tie.close
-    (tie.spec
-    lay-rows-requires
-    (λ c. omega arith)
-    returns
-    lay-rows-requires-2
-    (λ c. omega arith)
-    returns-2
-    lay-rows-requires-3
-    (λ c. omega arith)
+    (tie.spec lay-rows-requires (λ c. omega arith) returns lay-rows-requires-2 (λ c. omega arith) returns-2 lay-rows-requires-3 (λ c. omega arith)
     returns-3)

@@ -75,16 +75,5 @@ returns c =
 pub cost-spec : {M : Type 1} → statement M
 cost-spec =
     tie.close
-    (tie.spec
-    Inv-loop
-    μ-loop
-    loop-holds
-    combination-requires
-    (λ c. omega arith)
-    (λ c. omega arith)
-    (λ c. omega arith)
-    loop-again
-    add-cost
-    (λ c. omega arith)
-    loop-again-2
-    returns)
+    (tie.spec Inv-loop μ-loop loop-holds combination-requires (λ c. omega arith) (λ c. omega arith) (λ c. omega arith) loop-again add-cost
+    (λ c. omega arith) loop-again-2 returns)

@@ -48,15 +48,5 @@ returns c =
 pub falling-spec : {M : Type 1} → statement M
 falling-spec =
     tie.close
-    (tie.spec
-    Inv-loop
-    μ-loop
-    loop-holds
-    (λ c. omega arith)
-    (λ c. omega arith)
-    add-requires
-    multiply-requires
-    (λ c. omega arith)
-    (λ c. omega arith)
-    loop-again
-    returns)
+    (tie.spec Inv-loop μ-loop loop-holds (λ c. omega arith) (λ c. omega arith) add-requires multiply-requires (λ c. omega arith) (λ c. omega arith)
+    loop-again returns)

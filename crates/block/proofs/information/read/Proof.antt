@@ -91,16 +91,5 @@ returns c =
 pub read-spec : {M : Type 1} → statement M
 read-spec =
     tie.close
-    (tie.spec
-    Inv-loop
-    μ-loop
-    inverse-requires
-    (λ c κs. search needs)
-    loop-holds
-    mul-read-block
-    read-block-requires
-    (λ c. omega arith)
-    (λ c. omega arith)
-    loop-again
-    same-length
-    returns)
+    (tie.spec Inv-loop μ-loop inverse-requires (λ c κs. search needs) loop-holds mul-read-block read-block-requires (λ c. omega arith)
+    (λ c. omega arith) loop-again same-length returns)

@@ -64,17 +64,5 @@ returns c =
 pub read-block-spec : {M : Type 1} → statement M
 read-block-spec =
     tie.close
-    (tie.spec
-    Inv-loop
-    μ-loop
-    loop-holds
-    (λ c. omega arith)
-    multiply-requires
-    symbol-requires
-    (λ c. omega arith)
-    (λ c. omega arith)
-    slice-write-information
-    (λ c. omega arith)
-    loop-again
-    (omega arith)
-    returns)
+    (tie.spec Inv-loop μ-loop loop-holds (λ c. omega arith) multiply-requires symbol-requires (λ c. omega arith) (λ c. omega arith)
+    slice-write-information (λ c. omega arith) loop-again (omega arith) returns)

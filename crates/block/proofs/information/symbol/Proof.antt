@@ -40,14 +40,5 @@ returns c =
 pub symbol-spec : {M : Type 1} → statement M
 symbol-spec =
     tie.close
-    (tie.spec
-    (λ c κs. search needs)
-    (λ c κs. search needs)
-    (search needs)
-    times-g-requires
-    (λ c κs. search needs)
-    (search needs)
-    (search needs)
-    (search needs)
-    add-requires
-    returns)
+    (tie.spec (λ c κs. search needs) (λ c κs. search needs) (search needs) times-g-requires (λ c κs. search needs) (search needs) (search needs)
+    (search needs) add-requires returns)

@@ -108,22 +108,6 @@ returns-3 c =
 pub advance-spec : {M : Type 1} → statement M
 advance-spec =
     tie.close
-    (tie.spec
-    tail-requires
-    (search needs)
-    add-requires
-    (λ c. omega arith)
-    returns
-    (λ c κs. search needs)
-    (search needs)
-    (search needs)
-    (search needs)
-    (search needs)
-    subtract-multiple-requires
-    (λ c. omega arith) (λ c. omega arith)
-    returns-2
-    exchange-requires
-    (search needs)
-    (λ c κs. search needs)
-    (λ c. omega arith) (λ c. omega arith) (λ c. omega arith)
-    returns-3)
+    (tie.spec tail-requires (search needs) add-requires (λ c. omega arith) returns (λ c κs. search needs) (search needs) (search needs) (search needs)
+    (search needs) subtract-multiple-requires (λ c. omega arith) (λ c. omega arith) returns-2 exchange-requires (search needs) (λ c κs. search needs)
+    (λ c. omega arith) (λ c. omega arith) (λ c. omega arith) returns-3)

@@ -92,17 +92,5 @@ returns c =
 pub locate-spec : {M : Type 1} → statement M
 locate-spec =
     tie.close
-    (tie.spec
-    Inv-loop
-    μ-loop
-    unit-requires
-    unit-requires-2
-    loop-holds
-    advance-requires
-    (λ c. omega arith)
-    (λ c. omega arith)
-    loop-again
-    same-length
-    same-length-2
-    same-length-3
-    returns)
+    (tie.spec Inv-loop μ-loop unit-requires unit-requires-2 loop-holds advance-requires (λ c. omega arith) (λ c. omega arith) loop-again same-length
+    same-length-2 same-length-3 returns)

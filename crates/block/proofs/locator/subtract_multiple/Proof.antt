@@ -58,18 +58,5 @@ returns c =
 pub subtract-multiple-spec : {M : Type 1} → statement M
 subtract-multiple-spec =
     tie.close
-    (tie.spec
-    Inv-loop
-    μ-loop
-    loop-holds
-    (λ c. omega arith)
-    (λ c. omega arith)
-    multiply-requires
-    slice-read-subtract
-    subtract-requires
-    slice-write-target
-    (λ c. omega arith)
-    (λ c. omega arith)
-    loop-again
-    (omega arith)
-    returns)
+    (tie.spec Inv-loop μ-loop loop-holds (λ c. omega arith) (λ c. omega arith) multiply-requires slice-read-subtract subtract-requires
+    slice-write-target (λ c. omega arith) (λ c. omega arith) loop-again (omega arith) returns)

@@ -57,15 +57,5 @@ returns c =
 pub add-values-spec : {M : Type 1} → statement M
 add-values-spec =
     tie.close
-    (tie.spec
-    Inv-loop
-    μ-loop
-    loop-holds
-    value-requires
-    multiply-requires
-    add-s
-    slice-write-series
-    (λ c. omega arith)
-    loop-again
-    (omega arith)
+    (tie.spec Inv-loop μ-loop loop-holds value-requires multiply-requires add-s slice-write-series (λ c. omega arith) loop-again (omega arith)
     returns)

@@ -73,20 +73,5 @@ returns c =
 pub extend-spec : {M : Type 1} → statement M
 extend-spec =
     tie.close
-    (tie.spec
-    Inv-loop
-    μ-loop
-    loop-holds
-    (λ c. omega arith)
-    (λ c. omega arith)
-    tail-requires
-    negate-requires
-    slice-read-add
-    add-requires
-    slice-write-values
-    slice-write-series
-    (λ c. omega arith)
-    (λ c. omega arith)
-    loop-again
-    (omega arith) (omega arith)
-    returns)
+    (tie.spec Inv-loop μ-loop loop-holds (λ c. omega arith) (λ c. omega arith) tail-requires negate-requires slice-read-add add-requires
+    slice-write-values slice-write-series (λ c. omega arith) (λ c. omega arith) loop-again (omega arith) (omega arith) returns)

@@ -71,12 +71,5 @@ returns c =
 pub answer-lines-spec : {M : Type 1} → statement M
 answer-lines-spec =
     tie.close
-    (tie.spec
-    Inv-loop
-    μ-loop
-    loop-holds
-    step-requires
-    (omega arith)
-    loop-again
-    (omega arith) (omega arith) (omega arith) (omega arith) (omega arith)
+    (tie.spec Inv-loop μ-loop loop-holds step-requires (omega arith) loop-again (omega arith) (omega arith) (omega arith) (omega arith) (omega arith)
     returns)

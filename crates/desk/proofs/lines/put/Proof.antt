@@ -64,10 +64,5 @@ returns c =
 pub put-spec : {M : Type 1} → statement M
 put-spec =
     tie.close
-    (tie.spec
-    (search needs) (search needs) (search needs) (search needs)
-    add-end
-    slice-write-output
-    add-result
-    (search needs) (search needs) (search needs) (λ c. search needs)
-    returns)
+    (tie.spec (search needs) (search needs) (search needs) (search needs) add-end slice-write-output add-result (search needs) (search needs)
+    (search needs) (λ c. search needs) returns)

@@ -67,11 +67,6 @@ returns-3 c =
 pub turn-spec : {M : Type 1} → statement M
 turn-spec =
     tie.close
-    (tie.spec
-    returns
-    (search needs) (search needs) (search needs) (search needs) (search needs) (search needs) (search needs) (search needs) (search needs) (search needs)
-    (search needs)
-    returns-2
-    (search needs) (search needs) (search needs) (search needs) (search needs) (search needs) (λ c. search needs)
-    (search needs) (search needs) (search needs) (search needs)
-    returns-3)
+    (tie.spec returns (search needs) (search needs) (search needs) (search needs) (search needs) (search needs) (search needs) (search needs)
+    (search needs) (search needs) (search needs) returns-2 (search needs) (search needs) (search needs) (search needs) (search needs) (search needs)
+    (λ c. search needs) (search needs) (search needs) (search needs) (search needs) returns-3)

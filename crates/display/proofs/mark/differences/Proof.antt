@@ -70,13 +70,5 @@ returns c =
 pub differences-spec : {M : Type 1} → statement M
 differences-spec =
     tie.close
-    (tie.spec
-    Inv-loop
-    μ-loop
-    loop-holds
-    (omega arith) (omega arith) (omega arith) (omega arith) (omega arith) (λ c κs. tt)
-    mul-set
-    add-set
-    (omega arith)
-    loop-again
-    returns)
+    (tie.spec Inv-loop μ-loop loop-holds (omega arith) (omega arith) (omega arith) (omega arith) (omega arith) (λ c κs. tt) mul-set add-set
+    (omega arith) loop-again returns)

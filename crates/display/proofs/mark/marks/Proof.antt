@@ -41,11 +41,6 @@ returns-2 c =
 pub marks-spec : {M : Type 1} → statement M
 marks-spec =
     tie.close
-    (tie.spec
-    (λ c κs. tt) returns
-    (λ c κs. known c .0 .setting)
-    (λ c. omega (arith, inside c .within))
-    (λ c. omega (arith, inside c .sizes .memory-most))
-    (λ c. omega (arith, inside c .short))
-    (λ c κs. (omega (arith, inside c .short), inside c .within, omega (arith, inside c .within, known (c .before) .1)))
-    returns-2)
+    (tie.spec (λ c κs. tt) returns (λ c κs. known c .0 .setting) (λ c. omega (arith, inside c .within))
+    (λ c. omega (arith, inside c .sizes .memory-most)) (λ c. omega (arith, inside c .short))
+    (λ c κs. (omega (arith, inside c .short), inside c .within, omega (arith, inside c .within, known (c .before) .1))) returns-2)

@@ -95,18 +95,5 @@ returns-2 c =
 pub add-block-spec : {M : Type 1} → statement M
 add-block-spec =
     tie.close
-    (tie.spec
-    Inv-loop
-    μ-loop
-    returns
-    loop-holds
-    add-v
-    shared-slice-read-v
-    add-next
-    (λ c. omega arith)
-    loop-again
-    adjust-requires
-    (λ c. omega arith)
-    loop-again-2
-    (omega arith) (omega arith)
-    returns-2)
+    (tie.spec Inv-loop μ-loop returns loop-holds add-v shared-slice-read-v add-next (λ c. omega arith) loop-again adjust-requires (λ c. omega arith)
+    loop-again-2 (omega arith) (omega arith) returns-2)

@@ -84,16 +84,5 @@ returns c =
 pub add-found-spec : {M : Type 1} → statement M
 add-found-spec =
     tie.close
-    (tie.spec
-    Inv-loop
-    μ-loop
-    add-block-requires
-    loop-holds
-    add-add-block
-    mul-add-block
-    add-block-requires-2
-    add-a
-    (λ c. omega arith)
-    loop-again
-    (omega arith) (omega arith)
-    returns)
+    (tie.spec Inv-loop μ-loop add-block-requires loop-holds add-add-block mul-add-block add-block-requires-2 add-a (λ c. omega arith) loop-again
+    (omega arith) (omega arith) returns)

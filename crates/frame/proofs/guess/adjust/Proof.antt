@@ -101,20 +101,5 @@ returns c =
 pub adjust-spec : {M : Type 1} → statement M
 adjust-spec =
     tie.close
-    (tie.spec
-    mul-place
-    add-place
-    add-size
-    mul-size
-    mul-start
-    add-end
-    slice-read-add
-    add-requires
-    slice-write-message
-    negate-requires
-    (search needs)
-    (search needs)
-    part-add-rows-end
-    add-rows-requires
-    (search needs) (λ c. omega arith)
-    returns)
+    (tie.spec mul-place add-place add-size mul-size mul-start add-end slice-read-add add-requires slice-write-message negate-requires (search needs)
+    (search needs) part-add-rows-end add-rows-requires (search needs) (λ c. omega arith) returns)

@@ -94,16 +94,5 @@ returns-4 c =
 pub guess-block-spec : {M : Type 1} → statement M
 guess-block-spec =
     tie.close
-    (tie.spec
-    returns
-    is-light-requires
-    (λ c. omega arith)
-    returns-2
-    guess-from-requires
-    is-light-requires-2
-    (λ c. omega arith) (λ c. omega arith)
-    returns-3
-    sub-last
-    guess-from-requires-2
-    (λ c. omega arith) (λ c. omega arith)
-    returns-4)
+    (tie.spec returns is-light-requires (λ c. omega arith) returns-2 guess-from-requires is-light-requires-2 (λ c. omega arith) (λ c. omega arith)
+    returns-3 sub-last guess-from-requires-2 (λ c. omega arith) (λ c. omega arith) returns-4)

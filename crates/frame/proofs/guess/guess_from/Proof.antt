@@ -99,19 +99,5 @@ returns c = c .before .loop .inv .1
 pub guess-from-spec : {M : Type 1} → statement M
 guess-from-spec =
     tie.close
-    (tie.spec
-    Inv-loop
-    μ-loop
-    mul-start
-    add-start
-    loop-holds
-    (λ c κs. c .loop-test .taken)
-    add-multiply
-    slice-read-multiply
-    multiply-requires
-    adjust-requires
-    add-turn
-    (λ c. omega arith)
-    loop-again
-    (omega arith) (omega arith)
-    returns)
+    (tie.spec Inv-loop μ-loop mul-start add-start loop-holds (λ c κs. c .loop-test .taken) add-multiply slice-read-multiply multiply-requires
+    adjust-requires add-turn (λ c. omega arith) loop-again (omega arith) (omega arith) returns)

@@ -52,14 +52,4 @@ returns c = c .before .loop .inv
 pub guess-window-spec : {M : Type 1} → statement M
 guess-window-spec =
     tie.close
-    (tie.spec
-    Inv-loop
-    μ-loop
-    loop-holds
-    add-guess-block
-    guess-block-requires
-    add-s
-    (λ c. omega arith)
-    loop-again
-    (omega arith) (omega arith)
-    returns)
+    (tie.spec Inv-loop μ-loop loop-holds add-guess-block guess-block-requires add-s (λ c. omega arith) loop-again (omega arith) (omega arith) returns)

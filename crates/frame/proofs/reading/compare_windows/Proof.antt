@@ -112,20 +112,5 @@ returns-2 c =
 pub compare-windows-spec : {M : Type 1} → statement M
 compare-windows-spec =
     tie.close
-    (tie.spec
-    Inv-loop
-    μ-loop
-    add-size
-    mul-size
-    loop-holds
-    add-end
-    (λ c. omega arith)
-    (λ c. omega arith)
-    part-zero-cost-end
-    zero-cost-requires
-    returns
-    add-start
-    (λ c. omega arith)
-    (λ c. omega arith)
-    loop-again
-    returns-2)
+    (tie.spec Inv-loop μ-loop add-size mul-size loop-holds add-end (λ c. omega arith) (λ c. omega arith) part-zero-cost-end zero-cost-requires returns
+    add-start (λ c. omega arith) (λ c. omega arith) loop-again returns-2)

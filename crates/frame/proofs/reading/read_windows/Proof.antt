@@ -166,23 +166,6 @@ returns-2 c =
 pub read-windows-spec : {M : Type 1} → statement M
 read-windows-spec =
     tie.close
-    (tie.spec
-    Inv-loop
-    μ-loop
-    shared-slice-read-inverse
-    inverse-requires
-    loop-holds
-    guess-window-requires
-    settle-requires
-    same-length
-    same-length-2
-    same-length-3
-    same-length-4
-    same-length-5
-    same-length-6
-    returns
-    add-j
-    loop-less
-    loop-again
-    (omega arith) (omega arith) (omega arith) (omega arith) (omega arith) (omega arith)
-    returns-2)
+    (tie.spec Inv-loop μ-loop shared-slice-read-inverse inverse-requires loop-holds guess-window-requires settle-requires same-length same-length-2
+    same-length-3 same-length-4 same-length-5 same-length-6 returns add-j loop-less loop-again (omega arith) (omega arith) (omega arith) (omega arith)
+    (omega arith) (omega arith) returns-2)

@@ -109,23 +109,7 @@ returns-3 c =
 pub settle-spec : {M : Type 1} → statement M
 settle-spec =
     tie.close
-    (tie.spec
-    mul-start
-    add-end
-    mul-end
-    add-end-2
-    (search needs)
-    (search needs)
-    part-zero-cost-end
-    (λ c κs. search needs)
-    (λ c. omega arith)
-    returns
-    (search needs)
-    (search needs)
-    part-find-level-end
-    find-level-requires
-    (λ c. omega arith) (λ c. omega arith) (λ c. omega arith) (λ c. omega arith) (λ c. omega arith)
-    returns-2
-    add-found-requires
-    (λ c. omega arith) (λ c. omega arith) (λ c. omega arith) (λ c. omega arith) (λ c. omega arith) (λ c. omega arith)
-    returns-3)
+    (tie.spec mul-start add-end mul-end add-end-2 (search needs) (search needs) part-zero-cost-end (λ c κs. search needs) (λ c. omega arith) returns
+    (search needs) (search needs) part-find-level-end find-level-requires (λ c. omega arith) (λ c. omega arith) (λ c. omega arith) (λ c. omega arith)
+    (λ c. omega arith) returns-2 add-found-requires (λ c. omega arith) (λ c. omega arith) (λ c. omega arith) (λ c. omega arith) (λ c. omega arith)
+    (λ c. omega arith) returns-3)

@@ -88,16 +88,5 @@ returns-2 c =
 pub find-level-spec : {M : Type 1} → statement M
 find-level-spec =
     tie.close
-    (tie.spec
-    Inv-loop
-    μ-loop
-    add-blocks
-    loop-holds
-    (λ c. omega arith)
-    try-level-requires
-    (omega arith) (omega arith) (omega arith) (omega arith)
-    returns
-    (λ c. omega arith)
-    loop-again
-    (omega arith) (omega arith) (omega arith) (omega arith)
-    returns-2)
+    (tie.spec Inv-loop μ-loop add-blocks loop-holds (λ c. omega arith) try-level-requires (omega arith) (omega arith) (omega arith) (omega arith)
+    returns (λ c. omega arith) loop-again (omega arith) (omega arith) (omega arith) (omega arith) returns-2)

@@ -100,17 +100,5 @@ returns c =
 pub rebuilt-cost-spec : {M : Type 1} → statement M
 rebuilt-cost-spec =
     tie.close
-    (tie.spec
-    Inv-loop
-    μ-loop
-    loop-holds
-    add-end
-    (λ c. omega arith)
-    (λ c. omega arith)
-    part-cost-end
-    cost-requires
-    add-cost
-    add-s
-    (λ c. omega arith)
-    loop-again
-    returns)
+    (tie.spec Inv-loop μ-loop loop-holds add-end (λ c. omega arith) (λ c. omega arith) part-cost-end cost-requires add-cost add-s (λ c. omega arith)
+    loop-again returns)

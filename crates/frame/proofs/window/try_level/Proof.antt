@@ -96,18 +96,6 @@ returns-3 c =
 pub try-level-spec : {M : Type 1} → statement M
 try-level-spec =
     tie.close
-    (tie.spec
-    mul-start
-    add-end
-    (search needs)
-    (search needs)
-    part-repair-end
-    repair-requires
-    (λ c. omega arith) (λ c. omega arith) (λ c. omega arith) (λ c. omega arith)
-    returns
-    rebuilt-cost-requires
-    (λ c κs. search needs)
-    (λ c. omega arith) (λ c. omega arith) (λ c. omega arith) (λ c. omega arith)
-    returns-2
-    (λ c. omega arith) (λ c. omega arith) (λ c. omega arith) (λ c. omega arith)
-    returns-3)
+    (tie.spec mul-start add-end (search needs) (search needs) part-repair-end repair-requires (λ c. omega arith) (λ c. omega arith) (λ c. omega arith)
+    (λ c. omega arith) returns rebuilt-cost-requires (λ c κs. search needs) (λ c. omega arith) (λ c. omega arith) (λ c. omega arith)
+    (λ c. omega arith) returns-2 (λ c. omega arith) (λ c. omega arith) (λ c. omega arith) (λ c. omega arith) returns-3)

@@ -25,8 +25,4 @@ returns-2 c = searched-all (c .before .loop .inv) (omega arith)
 pub first-wrong-spec : {M : Type 1} → statement M
 first-wrong-spec =
     tie.close
-    (tie.spec
-    Inv-loop
-    μ-loop
-    (λ c. searched-none) (omega arith) (λ c κs. tt) returns
-    (omega arith) (omega arith) loop-again returns-2)
+    (tie.spec Inv-loop μ-loop (λ c. searched-none) (omega arith) (λ c κs. tt) returns (omega arith) (omega arith) loop-again returns-2)

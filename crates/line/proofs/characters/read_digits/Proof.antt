@@ -25,10 +25,4 @@ returns c = map-filled-all (c .before .loop .inv) (omega arith)
 pub read-digits-spec : {M : Type 1} → statement M
 read-digits-spec =
     tie.close
-    (tie.spec
-    Inv-loop
-    μ-loop
-    loop-holds
-    (omega arith) (λ c κs. tt) (omega arith) (omega arith) (omega arith)
-    loop-again
-    (omega arith) returns)
+    (tie.spec Inv-loop μ-loop loop-holds (omega arith) (λ c κs. tt) (omega arith) (omega arith) (omega arith) loop-again (omega arith) returns)

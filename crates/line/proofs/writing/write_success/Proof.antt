@@ -37,8 +37,4 @@ returns-2 c =
 pub write-success-spec : {M : Type 1} → statement M
 write-success-spec =
     tie.close
-    (tie.spec
-    (search needs)
-    returns
-    (search needs) (search needs) (search needs) (search needs) (λ c κs. search needs) (λ c. omega arith)
-    returns-2)
+    (tie.spec (search needs) returns (search needs) (search needs) (search needs) (search needs) (λ c κs. search needs) (λ c. omega arith) returns-2)

@@ -32,10 +32,4 @@ returns c = map-filled-all (c .before .loop .inv) (omega arith)
 pub write-symbols-spec : {M : Type 1} → statement M
 write-symbols-spec =
     tie.close
-    (tie.spec
-    Inv-loop
-    μ-loop
-    loop-holds
-    (omega arith) character-requires (omega arith) (omega arith) (omega arith)
-    loop-again
-    (omega arith) returns)
+    (tie.spec Inv-loop μ-loop loop-holds (omega arith) character-requires (omega arith) (omega arith) (omega arith) loop-again (omega arith) returns)

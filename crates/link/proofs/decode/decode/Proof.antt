@@ -98,19 +98,6 @@ returns-2 c =
 pub decode-spec : {M : Type 1} → statement M
 decode-spec =
     tie.close
-    (tie.spec
-    (λ c κs. search needs)
-    returns
-    setting-of-requires
-    div-blocks
-    sub-blocks
-    mul-short
-    add-long
-    mul-long
-    slice-relend-prefix-decode-frame
-    slice-aggregate-decode-frame
-    slice-relend-prefix-decode-frame-2
-    slice-aggregate-decode-frame-2
-    decode-frame-requires
-    (λ c. omega arith) (λ c. omega arith)
-    returns-2)
+    (tie.spec (λ c κs. search needs) returns setting-of-requires div-blocks sub-blocks mul-short add-long mul-long slice-relend-prefix-decode-frame
+    slice-aggregate-decode-frame slice-relend-prefix-decode-frame-2 slice-aggregate-decode-frame-2 decode-frame-requires (λ c. omega arith)
+    (λ c. omega arith) returns-2)

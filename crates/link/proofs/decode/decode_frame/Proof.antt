@@ -94,20 +94,6 @@ returns c = search needs
 pub decode-frame-spec : {M : Type 1} → statement M
 decode-frame-spec =
     tie.close
-    (tie.spec
-    products-requires
-    (search needs)
-    rows-requires
-    add-room
-    (search needs)
-    array-borrow-prefix-series
-    slice-aggregate-decode-lent-2
-    array-borrow-prefix-locator
-    slice-aggregate-decode-lent-3
-    array-borrow-prefix-values
-    slice-aggregate-decode-lent-4
-    array-borrow-prefix-information
-    slice-aggregate-decode-lent-5
-    decode-lent-requires
-    (λ c. omega arith) (λ c. omega arith)
-    returns)
+    (tie.spec products-requires (search needs) rows-requires add-room (search needs) array-borrow-prefix-series slice-aggregate-decode-lent-2
+    array-borrow-prefix-locator slice-aggregate-decode-lent-3 array-borrow-prefix-values slice-aggregate-decode-lent-4 array-borrow-prefix-information
+    slice-aggregate-decode-lent-5 decode-lent-requires (λ c. omega arith) (λ c. omega arith) returns)

@@ -65,16 +65,5 @@ returns c =
 pub restore-spec : {M : Type 1} → statement M
 restore-spec =
     tie.close
-    (tie.spec
-    Inv-loop
-    μ-loop
-    loop-holds
-    shared-slice-read-subtract
-    slice-read-subtract
-    subtract-requires
-    slice-write-residual
-    add-i
-    loop-less
-    loop-again
-    (omega arith)
-    returns)
+    (tie.spec Inv-loop μ-loop loop-holds shared-slice-read-subtract slice-read-subtract subtract-requires slice-write-residual add-i loop-less
+    loop-again (omega arith) returns)

@@ -99,15 +99,5 @@ returns-2 c =
 pub encode-spec : {M : Type 1} → statement M
 encode-spec =
     tie.close
-    (tie.spec
-    (λ c κs. search needs)
-    returns
-    setting-of-requires
-    div-blocks
-    add-long
-    mul-long
-    slice-relend-prefix-encode-frame
-    slice-aggregate-encode-frame
-    encode-frame-requires
-    (λ c. omega arith)
-    returns-2)
+    (tie.spec (λ c κs. search needs) returns setting-of-requires div-blocks add-long mul-long slice-relend-prefix-encode-frame
+    slice-aggregate-encode-frame encode-frame-requires (λ c. omega arith) returns-2)

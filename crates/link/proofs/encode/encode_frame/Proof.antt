@@ -47,11 +47,4 @@ returns c = search needs
 pub encode-frame-spec : {M : Type 1} → statement M
 encode-frame-spec =
     tie.close
-    (tie.spec
-    (search needs)
-    rows-requires
-    products-requires
-    (search needs)
-    send-requires
-    (λ c. omega arith)
-    returns)
+    (tie.spec (search needs) rows-requires products-requires (search needs) send-requires (λ c. omega arith) returns)

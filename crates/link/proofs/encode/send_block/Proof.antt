@@ -121,23 +121,5 @@ returns c =
 pub send-block-spec : {M : Type 1} → statement M
 send-block-spec =
     tie.close
-    (tie.spec
-    Inv-loop
-    μ-loop
-    mul-first
-    mul-start
-    add-end
-    mul-end
-    add-end-2
-    loop-holds
-    add-symbol
-    shared-slice-read-symbol
-    (λ c. omega arith)
-    (λ c. omega arith)
-    part-add-rows-end
-    add-rows-requires
-    add-r
-    (λ c. omega arith)
-    loop-again
-    same-length
-    returns)
+    (tie.spec Inv-loop μ-loop mul-first mul-start add-end mul-end add-end-2 loop-holds add-symbol shared-slice-read-symbol (λ c. omega arith)
+    (λ c. omega arith) part-add-rows-end add-rows-requires add-r (λ c. omega arith) loop-again same-length returns)

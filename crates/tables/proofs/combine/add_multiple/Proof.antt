@@ -70,16 +70,5 @@ returns c =
 pub add-multiple-spec : {M : Type 1} → statement M
 add-multiple-spec =
     tie.close
-    (tie.spec
-    Inv-loop
-    μ-loop
-    loop-holds
-    (λ c. omega arith)
-    shared-slice-read-add-product
-    add-product-requires
-    (λ c. omega arith)
-    add-i
-    loop-less
-    loop-again
-    (omega arith)
-    returns)
+    (tie.spec Inv-loop μ-loop loop-holds (λ c. omega arith) shared-slice-read-add-product add-product-requires (λ c. omega arith) add-i loop-less
+    loop-again (omega arith) returns)

@@ -61,14 +61,5 @@ returns c =
 pub add-row-spec : {M : Type 1} → statement M
 add-row-spec =
     tie.close
-    (tie.spec
-    mul-start
-    add-start
-    mul-start-2
-    add-end
-    (search needs)
-    (search needs)
-    part-add-multiple-end
-    add-multiple-requires
-    (λ c. omega arith)
+    (tie.spec mul-start add-start mul-start-2 add-end (search needs) (search needs) part-add-multiple-end add-multiple-requires (λ c. omega arith)
     returns)

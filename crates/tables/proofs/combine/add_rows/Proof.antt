@@ -84,17 +84,5 @@ returns c =
 pub add-rows-spec : {M : Type 1} → statement M
 add-rows-spec =
     tie.close
-    (tie.spec
-    Inv-loop
-    μ-loop
-    loop-holds
-    add-end
-    (λ c. omega arith)
-    (λ c. omega arith)
-    part-add-row-end
-    add-row-requires
-    add-j
-    (λ c. omega arith)
-    loop-again
-    (omega arith)
-    returns)
+    (tie.spec Inv-loop μ-loop loop-holds add-end (λ c. omega arith) (λ c. omega arith) part-add-row-end add-row-requires add-j (λ c. omega arith)
+    loop-again (omega arith) returns)

@@ -68,14 +68,4 @@ returns c =
 pub combination-spec : {M : Type 1} → statement M
 combination-spec =
     tie.close
-    (tie.spec
-    Inv-loop
-    μ-loop
-    loop-holds
-    mul-times-g
-    times-g-requires
-    add-requires
-    add-j
-    (λ c. omega arith)
-    loop-again
-    returns)
+    (tie.spec Inv-loop μ-loop loop-holds mul-times-g times-g-requires add-requires add-j (λ c. omega arith) loop-again returns)

@@ -86,19 +86,5 @@ returns c =
 pub times-g-spec : {M : Type 1} → statement M
 times-g-spec =
     tie.close
-    (tie.spec
-    Inv-loop
-    μ-loop
-    loop-holds
-    (λ c. omega arith)
-    (λ c. omega arith)
-    mul-add-product
-    add-add-product-2
-    mul-add-product-2
-    add-add-product-3
-    shared-slice-read-add-product-2
-    add-product-requires
-    add-r
-    (λ c. omega arith)
-    loop-again
-    returns)
+    (tie.spec Inv-loop μ-loop loop-holds (λ c. omega arith) (λ c. omega arith) mul-add-product add-add-product-2 mul-add-product-2 add-add-product-3
+    shared-slice-read-add-product-2 add-product-requires add-r (λ c. omega arith) loop-again returns)
