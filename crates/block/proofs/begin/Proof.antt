@@ -36,8 +36,9 @@ add-syndromes : tie.Need-add-syndromes
 add-syndromes c = let entry = entry-of-add-syndromes c in omega (arith, entry .pre .3, sizes (entry .args .p) (entry .pre .0) .memory-most)
 
 mul-syndromes : tie.Need-mul-syndromes
-mul-syndromes c = let entry = entry-of-add-syndromes (c .before) in omega
-    (arith, level-fits (entry .args .p) (entry .pre .0) (entry .args .l) (entry .pre .3), sizes (entry .args .p) (entry .pre .0) .symbols-most)
+mul-syndromes c =
+    let entry = entry-of-add-syndromes (c .before) in
+    omega (arith, level-fits (entry .args .p) (entry .pre .0) (entry .args .l) (entry .pre .3), sizes (entry .args .p) (entry .pre .0) .symbols-most)
 
 sub-syndromes : tie.Need-sub-syndromes
 sub-syndromes c = let entry = entry-of-add-syndromes (c .before .before) in level-fits (entry .args .p) (entry .pre .0) (entry .args .l) (entry .pre .3)

@@ -23,8 +23,13 @@ add-blocks : tie.Need-add-blocks
 add-blocks c = let entry = entry-of-add-blocks c in omega (arith, entry .pre .2, sizes (entry .args .p) (entry .pre .0 .sound) .memory-most)
 
 mul-count : tie.Need-mul-count
-mul-count c = let entry = entry-of-add-blocks (c .before) in omega
-    (arith, level-fits (entry .args .p) (entry .pre .0 .sound) (entry .args .l) (entry .pre .2), sizes (entry .args .p) (entry .pre .0 .sound) .symbols-most)
+mul-count c =
+    let entry = entry-of-add-blocks (c .before) in
+    omega (
+      arith,
+      level-fits (entry .args .p) (entry .pre .0 .sound) (entry .args .l) (entry .pre .2),
+      sizes (entry .args .p) (entry .pre .0 .sound) .symbols-most,
+    )
 
 sub-syndromes : tie.Need-sub-syndromes
 sub-syndromes c = let entry = entry-of-add-blocks (c .before) in level-fits (entry .args .p) (entry .pre .0 .sound) (entry .args .l) (entry .pre .2)

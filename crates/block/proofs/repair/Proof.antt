@@ -43,8 +43,13 @@ add-distance : tie.Need-add-distance
 add-distance c = let entry = entry-of-add-distance c in omega (arith, entry .pre .3, sizes (entry .args .p) (entry .pre .0 .sound) .memory-most)
 
 mul-distance : tie.Need-mul-distance
-mul-distance c = let entry = entry-of-add-distance (c .before) in omega
-    (arith, level-fits (entry .args .p) (entry .pre .0 .sound) (entry .args .l) (entry .pre .3), sizes (entry .args .p) (entry .pre .0 .sound) .symbols-most)
+mul-distance c =
+    let entry = entry-of-add-distance (c .before) in
+    omega (
+      arith,
+      level-fits (entry .args .p) (entry .pre .0 .sound) (entry .args .l) (entry .pre .3),
+      sizes (entry .args .p) (entry .pre .0 .sound) .symbols-most,
+    )
 
 sub-distance : tie.Need-sub-distance
 sub-distance c = let entry = entry-of-add-distance (c .before .before) in level-fits (entry .args .p) (entry .pre .0 .sound) (entry .args .l) (entry .pre .3)

@@ -32,8 +32,9 @@ loop-holds : tie.Need-loop-holds Inv-loop μ-loop
 loop-holds c = let p = c .before .before .before .pre in (omega arith, refl, refl, continued-none _ _ _ _ _ _ (p .4) (p .7))
 
 tail-requires : tie.Need-tail-requires Inv-loop μ-loop
-tail-requires c κs = let p = entry-of-at-loop (c .before .before) .pre in let l = c .before .before .loop in
-    (p .0, p .1, p .2, p .3, l .inv .3 .below, omega arith, omega (arith, l .inv .1))
+tail-requires c κs =
+    let p = entry-of-at-loop (c .before .before) .pre in
+    let l = c .before .before .loop in (p .0, p .1, p .2, p .3, l .inv .3 .below, omega arith, omega (arith, l .inv .1))
 
 negate-requires : tie.Need-negate-requires Inv-loop μ-loop
 negate-requires c κs = (entry-of-at-loop (c .before .before .before) .pre .0, c .tail .ensures .below)
@@ -42,11 +43,12 @@ slice-read-add : tie.Need-slice-read-add Inv-loop μ-loop
 slice-read-add c = omega (arith, before-add-call c .loop .inv .1)
 
 add-requires : tie.Need-add-requires Inv-loop μ-loop
-add-requires c κs = let l = before-add-call c .loop in (
-  entry-of-add-call c .pre .0,
-  l .inv .3 .below (entry-of-add-call c .args .r + 1 + l .u),
-  c .before .before .tail .ensures .below,
-)
+add-requires c κs =
+    let l = before-add-call c .loop in (
+      entry-of-add-call c .pre .0,
+      l .inv .3 .below (entry-of-add-call c .args .r + 1 + l .u),
+      c .before .before .tail .ensures .below,
+    )
 
 slice-write-values : tie.Need-slice-write-values Inv-loop μ-loop
 slice-write-values c = omega (arith, before-add c .loop .inv .2)

@@ -53,7 +53,9 @@ few c =
     (omega (arith, known (c .before) .most, sizesOf (entry-of-if1 (c .before .before) .args .setting) (known (c .before) .setting) .memory-most))
 
 returns : tie.Need-returns
-returns c = let entry = entry-of-if1 (c .before) in encoded-refused (entry .args .setting) (now (entry .args .message)) (now (entry .args .transmission))
+returns c =
+    let entry = entry-of-if1 (c .before) in
+    encoded-refused (entry .args .setting) (now (entry .args .message)) (now (entry .args .transmission))
     (c .before .before .encoding-questions .result) (c .before .before .encoding-questions .ensures) (c .if1 .taken)
 
 setting-of-requires : tie.Need-setting-of-requires

@@ -22,10 +22,11 @@ abbrev entry-of-add-product-call : tie.After-shared-slice-known2 Inv-loop μ-loo
 entry-of-add-product-call c = c .before .before .before .before .before .before
 
 loop-holds : tie.Need-loop-holds Inv-loop μ-loop
-loop-holds c = let entry = c .before .before in (
-  omega arith,
-  multiple-none (entry .args .q) (entry .args .v) (now (entry .args .row)) (now (entry .args .block)) (entry .pre .4),
-)
+loop-holds c =
+    let entry = c .before .before in (
+      omega arith,
+      multiple-none (entry .args .q) (entry .args .v) (now (entry .args .row)) (now (entry .args .block)) (entry .pre .4),
+    )
 
 shared-slice-read-add-product : tie.Need-shared-slice-read-add-product Inv-loop μ-loop
 shared-slice-read-add-product c =

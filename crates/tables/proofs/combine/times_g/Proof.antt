@@ -61,8 +61,9 @@ add-product-requires c κs =
     )
 
 add-r : tie.Need-add-r Inv-loop μ-loop
-add-r c = let entry = entry-of-shared-slice-read-add-product (c .before .before) in omega
-    (arith, sizes (entry .args .p) (entry .pre .0 .sound) .information-most)
+add-r c =
+    let entry = entry-of-shared-slice-read-add-product (c .before .before) in
+    omega (arith, sizes (entry .args .p) (entry .pre .0 .sound) .information-most)
 
 loop-again : tie.Need-loop-again Inv-loop μ-loop
 loop-again c =
