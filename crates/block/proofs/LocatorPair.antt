@@ -9,7 +9,7 @@ use Rattle.field.specs.parts.Operations.{Good, Is}
 use Rattle.field.specs.Fields.{opsOf}
 use Rattle.field.specs.parts.Sequences.{AllBelow, at}
 use Rattle.field.proofs.Laws.{lawsOf}
-use Rattle.field.proofs.Sums.{zero-below}
+use Rattle.field.proofs.LoopSums.{zero-below}
 use Rattle.block.specs.parts.Locator.{tail, Located}
 use Rattle.block.specs.parts.LocatorAreas.{Unit, Multiple, LocatorPair}
 use Rattle.block.proofs.LocatorBelow.{start-below, kept-below, corrected-below, grown-below}

@@ -1,5 +1,5 @@
 -- The loop that subtracts a multiple of one series from another: its promise at count 0, and with one more term.
--- Holds: `multiple-none`, `multiple-more`.
+-- Holds: `subtracted-none`, `subtracted-more`.
 use mathlib.Core.Path.{_≡_, refl, ap₂, _∙_}
 use mathlib.Core.List.{List}
 use Prim.Native.Nat.{ℕ, _+_, _<_}
@@ -15,14 +15,14 @@ use Rattle.field.proofs.Symbols.{below-set}
 use Rattle.block.specs.parts.LocatorAreas.{Multiple}
 
 module _ (q factor shift : ℕ) (source before : List ℕ) where
-  pub multiple-none : AllBelow q before → Multiple q factor shift 0 source before before
-  multiple-none h =
+  pub subtracted-none : AllBelow q before → Multiple q factor shift 0 source before before
+  subtracted-none h =
       record { below = h; subtracted = record { before = λ i l. refl; inside = λ i l. absurd (omega arith); after = λ i l. refl } }
 
-  pub multiple-more : (i : ℕ) (target : List ℕ) (product v : ℕ) → Multiple q factor shift i source before target → shift + i < length target
+  pub subtracted-more : (i : ℕ) (target : List ℕ) (product v : ℕ) → Multiple q factor shift i source before target → shift + i < length target
       → Is q product (opsOf q .mul factor (at source i)) → Is q v (sub (opsOf q) (at target (shift + i)) product)
       → Multiple q factor shift (i + 1) source before (set target (shift + i) v)
-  multiple-more i target product v h room times minus =
+  subtracted-more i target product v h room times minus =
       record {
         below = below-set q target (shift + i) v (h .below) (minus .below);
         subtracted =

@@ -20,7 +20,7 @@ use Rattle.code.specs.Generator.{rowSymbol, timesG}
 use Rattle.code.specs.Transmission.{earlier, sentSymbol}
 use Rattle.code.specs.Settings.{codeOf}
 use Rattle.code.specs.parts.Sound.{Sound}
-use Rattle.code.specs.parts.Information.{only}
+use Rattle.code.specs.parts.InformationBlocks.{only}
 use Rattle.code.specs.parts.Residual.{IsResidual}
 use Rattle.code.proofs.Blocks.{timesG-ext}
 use Rattle.code.proofs.Differences.{sent-sub, sent-zeros}

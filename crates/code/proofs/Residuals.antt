@@ -22,7 +22,7 @@ use Rattle.code.specs.parts.Cost.{symbolCost, costTo, blockCost, rebuilt
 use Rattle.code.specs.Settings.{codeOf}
 use Rattle.code.specs.parts.Sound.{Sound}
 use Rattle.code.specs.Windows.{windowLength, Message}
-use Rattle.code.specs.parts.Information.{BlocksBelow}
+use Rattle.code.specs.parts.InformationBlocks.{BlocksBelow}
 use Rattle.code.specs.parts.Residual.{IsResidual}
 use Rattle.code.proofs.Blocks.{combination-ext}
 use Rattle.code.proofs.Differences.{sent-sub, sent-ahead}

@@ -17,7 +17,7 @@ use Rattle.code.specs.parts.Cost.{symbolCost, blockCost, rebuiltCost, le
 use Rattle.code.specs.Settings.{codeOf}
 use Rattle.code.specs.parts.Sound.{Sound}
 use Rattle.code.specs.Windows.{windowLength}
-use Rattle.code.specs.parts.Information.{BlocksBelow}
+use Rattle.code.specs.parts.InformationBlocks.{BlocksBelow}
 use Rattle.code.proofs.Blocks.{combination-ext}
 use Rattle.code.proofs.Differences.{combination-zeros}
 use Rattle.code.proofs.Window.{turn-certain, turn-refused}

@@ -3,5 +3,5 @@
 pub mod Sound
 pub mod Cost
 pub mod Recovery
-pub mod Information
+pub mod InformationBlocks
 pub mod Residual

@@ -8,5 +8,5 @@ pub mod Eight
 pub mod Laws
 pub mod Operations
 pub mod Symbols
-pub mod Sums
+pub mod LoopSums
 pub mod PolynomialValue

@@ -19,7 +19,7 @@ use Rattle.area.proofs.Lists.{getD-zeros}
 use Rattle.field.specs.parts.Operations.{Good}
 use Rattle.field.specs.Symbols.{Symbols}
 use Rattle.field.specs.parts.Sequences.{AllBelow}
-use Rattle.field.proofs.Sums.{zero-below}
+use Rattle.field.proofs.LoopSums.{zero-below}
 
 module _ (q : ℕ) where
   below-of : {a b : ℕ} → a ≡ b → b < q → a < q

@@ -15,7 +15,7 @@ use Rattle.code.specs.Code.{distancesTo}
 use Rattle.code.specs.parts.Sound.{Sound}
 use Rattle.code.specs.Windows.{windowLength}
 use Rattle.code.specs.parts.Cost.{zeroCost, windowCost}
-use Rattle.code.specs.parts.Information.{BlocksBelow}
+use Rattle.code.specs.parts.InformationBlocks.{BlocksBelow}
 use Rattle.code.proofs.CodeBelow.{positive}
 use Rattle.code.proofs.WindowBelow.{zero-cost, first-certain}
 use Rattle.frame.specs.parts.Window.{Near, LevelSearch, served, none-serves}

@@ -26,7 +26,7 @@ use Rattle.code.specs.Generator.{rowSymbol, timesG}
 use Rattle.code.specs.Settings.{codeOf}
 use Rattle.code.specs.parts.Sound.{Sound}
 use Rattle.code.specs.Windows.{windowLength}
-use Rattle.code.specs.parts.Information.{only}
+use Rattle.code.specs.parts.InformationBlocks.{only}
 use Rattle.code.proofs.CodeBelow.{laws, positive, rowSymbol-below}
 use Rattle.code.proofs.Settings.{block-positive}
 use Rattle.code.proofs.Residuals.{window-view, add-opposite}

@@ -12,7 +12,7 @@ use Rattle.algebra.proofs.Tests.{false-not-true}
 use Rattle.area.specs.Lists.{view}
 use Rattle.code.specs.declared.Setting.{Setting}
 use Rattle.code.specs.parts.Sound.{Sound}
-use Rattle.code.specs.parts.Information.{BlocksBelow}
+use Rattle.code.specs.parts.InformationBlocks.{BlocksBelow}
 use Rattle.code.proofs.WindowBelow.{first-certain, level-drops, level-ends}
 use Rattle.frame.specs.parts.Window.{Near, LevelTried, serves, fails, LevelSearch, served, none-serves}
 

@@ -16,7 +16,7 @@ use Rattle.field.proofs.Symbols.{symbol-below, symbols-zeros}
 use Rattle.code.specs.declared.Setting.{Setting}
 use Rattle.code.specs.parts.Sound.{Sound}
 use Rattle.code.specs.Windows.{Fits}
-use Rattle.code.specs.parts.Information.{BlocksBelow}
+use Rattle.code.specs.parts.InformationBlocks.{BlocksBelow}
 use Rattle.code.proofs.CodeBelow.{positive}
 use Rattle.code.proofs.Cost.{fits-near}
 use Rattle.code.proofs.Residuals.{ahead, ahead-below, add-back, residual-window}

@@ -11,7 +11,7 @@ use super::MOST_CHARACTERS;
 use super::characters;
 use question::Answer;
 
-fn value(character: u8) -> u64
+fn wide_digit(character: u8) -> u64
     ensures { λ r. ⌜ r ≡ digitOf character ⌝ }
 {
     characters::digit(character) as u64
@@ -22,7 +22,7 @@ pub fn setting_in(line: &[u8]) -> u64
     requires { ⌜ 4 ≤ length (now line) ⌝ }
     ensures { λ r. ⌜ r ≡ settingIn (now (line .entry)) ⌝ }
 {
-    value(line[0])
+    wide_digit(line[0])
 }
 
 // T, by its three digits.
@@ -30,9 +30,9 @@ pub fn blocks_in(line: &[u8]) -> u64
     requires { ⌜ 4 ≤ length (now line) ⌝ }
     ensures { λ r. ⌜ r ≡ blocksIn (now (line .entry)) ⌝ }
 {
-    let high = value(line[1]);
-    let middle = value(line[2]);
-    let low = value(line[3]);
+    let high = wide_digit(line[1]);
+    let middle = wide_digit(line[2]);
+    let low = wide_digit(line[3]);
     (high * 16 + middle) * 16 + low
 }
 

@@ -46,13 +46,13 @@ module _ (q : ℕ) (reception before : List ℕ) where
 
 module _ {p : Setting} {T : ℕ} {reception message residual : List ℕ} where
   -- What the frame's reader leaves, if it found a message..
-  pub residual-symbols : {r : Bool} → FrameRead p T reception message residual r → not r ≡ false → Symbols (p .q) residual
-  residual-symbols (fits F symbols long is-residual) h = symbols
-  residual-symbols (none far) h = absurd (false-not-true (sym h))
+  pub frame-residual-symbols : {r : Bool} → FrameRead p T reception message residual r → not r ≡ false → Symbols (p .q) residual
+  frame-residual-symbols (fits F symbols long is-residual) h = symbols
+  frame-residual-symbols (none far) h = absurd (false-not-true (sym h))
 
-  pub residual-long : {r : Bool} → FrameRead p T reception message residual r → not r ≡ false → length residual ≡ length reception
-  residual-long (fits F symbols long is-residual) h = long
-  residual-long (none far) h = absurd (false-not-true (sym h))
+  pub frame-residual-long : {r : Bool} → FrameRead p T reception message residual r → not r ≡ false → length residual ≡ length reception
+  frame-residual-long (fits F symbols long is-residual) h = long
+  frame-residual-long (none far) h = absurd (false-not-true (sym h))
 
   -- .. and if it found none.
   pub frame-decoded-none : {r : Bool} {a : Answer} {cleared emptied : List ℕ} → FrameRead p T reception message residual r → not r ≡ true → a ≡ answer 7 0 0

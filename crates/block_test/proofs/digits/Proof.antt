@@ -7,7 +7,7 @@ use lib.ListN.{length, length-set}
 use Rattle.field.specs.Symbols.{Symbols}
 use Rattle.field.proofs.Operations.{good-small}
 use Rattle.field.proofs.Symbols.{symbols-set, symbols-zeros}
-use Rattle.field.proofs.Sums.{zero-below}
+use Rattle.field.proofs.LoopSums.{zero-below}
 use Rattle.tables.specs.parts.Rows.{longestBlock}
 use Rattle.block_test.proofs.digits.Statement.{statement}
 use Rattle.block_test.proofs.digits.Tie as tie
@@ -25,11 +25,12 @@ rem-symbols : tie.Need-rem-symbols Inv-loop μ-loop
 rem-symbols c = omega (arith, zero-below (c .before .before .args .q) (c .before .before .pre))
 
 cast-symbols : tie.Need-cast-symbols Inv-loop μ-loop
-cast-symbols c = omega (
-  arith,
-  mod-lt (c .before .loop .rest) (zero-below (c .before .before .args .q) (c .before .before .pre)),
-  good-small (c .before .before .args .q) (c .before .before .pre),
-)
+cast-symbols c =
+    omega (
+      arith,
+      mod-lt (c .before .loop .rest) (zero-below (c .before .before .args .q) (c .before .before .pre)),
+      good-small (c .before .before .args .q) (c .before .before .pre),
+    )
 
 div-rest : tie.Need-div-rest Inv-loop μ-loop
 div-rest c = omega (arith, zero-below (c .before .before .args .q) (c .before .before .pre))

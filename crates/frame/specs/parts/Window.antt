@@ -9,7 +9,7 @@ use Rattle.area.specs.Lists.{view}
 use Rattle.field.specs.parts.Sequences.{AllBelow}
 use Rattle.code.specs.declared.Setting.{Setting}
 use Rattle.code.specs.Code.{levelDistance, distancesTo}
-use Rattle.code.specs.parts.Information.{BlocksBelow}
+use Rattle.code.specs.parts.InformationBlocks.{BlocksBelow}
 use Rattle.code.specs.parts.Cost.{levelCost, windowCost}
 
 -- Blocks 0 .. l of the window are near what y rebuilds: "in at most half of (d_0 + .. + d_l - 1), rounded down", symbols they differ, without the rounding.

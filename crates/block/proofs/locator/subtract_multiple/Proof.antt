@@ -4,7 +4,7 @@ use Prim.Native.Nat.{_≤_, _-_, _+_}
 use native.Mathlib.Omega.{arith}
 use lib.ListN.{length, length-set}
 use Rattle.block.specs.parts.LocatorAreas.{Multiple}
-use Rattle.block.proofs.Multiples.{multiple-none, multiple-more}
+use Rattle.block.proofs.Multiples.{subtracted-none, subtracted-more}
 use Rattle.block.proofs.locator.subtract_multiple.Statement.{statement}
 use Rattle.block.proofs.locator.subtract_multiple.Tie as tie
 
@@ -23,7 +23,7 @@ abbrev before-subtract : tie.After-subtract Inv-loop μ-loop → tie.At-loop Inv
 before-subtract c = c .before .before .before .before .before
 
 loop-holds : tie.Need-loop-holds Inv-loop μ-loop
-loop-holds c = (omega arith, refl, multiple-none _ _ _ _ _ (c .before .before .pre .5))
+loop-holds c = (omega arith, refl, subtracted-none _ _ _ _ _ (c .before .before .pre .5))
 
 multiply-requires : tie.Need-multiply-requires Inv-loop μ-loop
 multiply-requires c κs = let p = entry-of-at-loop (c .before .before) .pre in (p .0, p .1, p .2, p .3 (c .before .before .loop .i))
@@ -45,7 +45,7 @@ loop-again c =
     let l = before-subtract c .loop in (
       omega arith,
       simp length-set (l .inv .1),
-      multiple-more _ _ _ _ _ (l .i) (l .target) _ _ (l .inv .2) (omega (arith, l .inv .1))
+      subtracted-more _ _ _ _ _ (l .i) (l .target) _ _ (l .inv .2) (omega (arith, l .inv .1))
           (c .before .before .multiply .ensures) (c .subtract .ensures),
     )
 

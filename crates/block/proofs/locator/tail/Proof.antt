@@ -6,7 +6,7 @@ use borrow.Author.Needs.{needs}
 use Rattle.field.specs.Fields.{opsOf}
 use Rattle.field.specs.parts.Operations.{Is}
 use Rattle.field.specs.parts.Sequences.{at}
-use Rattle.field.proofs.Sums.{sum-none, sum-more}
+use Rattle.field.proofs.LoopSums.{sum-none, sum-more}
 use Rattle.block.specs.parts.Locator.{tail}
 use Rattle.block.proofs.locator.tail.Statement.{statement}
 use Rattle.block.proofs.locator.tail.Tie as tie

@@ -51,11 +51,12 @@ shared-slice-read-v : tie.Need-shared-slice-read-v Inv-loop μ-loop
 shared-slice-read-v c = omega (arith, entry-of-if1 (c .before .before .before .before) .pre .2)
 
 add-next : tie.Need-add-next Inv-loop μ-loop
-add-next c = omega (
-  arith,
-  sizes (entry-of-if1 (c .before .before .before .before) .args .p)
-      (entry-of-if1 (c .before .before .before .before) .pre .0 .sound) .information-most,
-)
+add-next c =
+    omega (
+      arith,
+      sizes (entry-of-if1 (c .before .before .before .before) .args .p)
+          (entry-of-if1 (c .before .before .before .before) .pre .0 .sound) .information-most,
+    )
 
 loop-again : tie.Need-loop-again Inv-loop μ-loop
 loop-again c =

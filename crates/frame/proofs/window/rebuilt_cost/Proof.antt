@@ -70,11 +70,12 @@ add-cost : tie.Need-add-cost Inv-loop μ-loop
 add-cost c = omega (arith, inside (c .before .before), at-most c)
 
 add-s : tie.Need-add-s Inv-loop μ-loop
-add-s c = omega (
-  arith,
-  entry-of-in-loop (c .before .before) .pre .3,
-  sizes (entry-of-in-loop (c .before .before) .args .p) (entry-of-in-loop (c .before .before) .pre .0 .sound) .memory-most,
-)
+add-s c =
+    omega (
+      arith,
+      entry-of-in-loop (c .before .before) .pre .3,
+      sizes (entry-of-in-loop (c .before .before) .args .p) (entry-of-in-loop (c .before .before) .pre .0 .sound) .memory-most,
+    )
 
 loop-again : tie.Need-loop-again Inv-loop μ-loop
 loop-again c =

@@ -8,7 +8,7 @@ use Rattle.algebra.proofs.Weights.{distance-le}
 use Rattle.field.specs.parts.Sequences.{at}
 use Rattle.code.proofs.Settings.{sizes}
 use Rattle.question.proofs.Questions.{transmission-small}
-use Rattle.link.proofs.Decoding.{residual-symbols, residual-long, frame-decoded-none, frame-decoded-found}
+use Rattle.link.proofs.Decoding.{frame-residual-symbols, frame-residual-long, frame-decoded-none, frame-decoded-found}
 use Rattle.link.proofs.decode.decode_lent.Statement.{statement}
 use Rattle.link.proofs.decode.decode_lent.Tie as tie
 
@@ -54,8 +54,8 @@ restore-requires c κs =
     let read = before-else1 (c .before .before .before) .read in (
       entry .pre .0 .sound .good,
       entry .pre .4,
-      residual-symbols (read .ensures) (c .before .before .before .if1 .left),
-      residual-long (read .ensures) (c .before .before .before .if1 .left),
+      frame-residual-symbols (read .ensures) (c .before .before .before .if1 .left),
+      frame-residual-long (read .ensures) (c .before .before .before .if1 .left),
     )
 
 cast-t37 : tie.Need-cast-t37

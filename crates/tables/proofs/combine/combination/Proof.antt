@@ -6,7 +6,7 @@ use native.Mathlib.Omega.{arith}
 use denote.Ref.{now}
 use lib.ListN.{length}
 use Rattle.field.specs.parts.Operations.{Is}
-use Rattle.field.proofs.Sums.{sum-none, sum-more}
+use Rattle.field.proofs.LoopSums.{sum-none, sum-more}
 use Rattle.code.proofs.Settings.{sizes}
 use Rattle.tables.proofs.Places.{combination-sum, combination-sum-all}
 use Rattle.tables.proofs.combine.combination.Statement.{statement}

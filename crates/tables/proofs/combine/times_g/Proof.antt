@@ -5,7 +5,7 @@ use native.Mathlib.Omega.{arith}
 use denote.Ref.{now}
 use Rattle.field.specs.parts.Operations.{Is}
 use Rattle.field.proofs.Symbols.{symbol-below}
-use Rattle.field.proofs.Sums.{sum-none, sum-more}
+use Rattle.field.proofs.LoopSums.{sum-none, sum-more}
 use Rattle.code.proofs.Settings.{sizes}
 use Rattle.code.proofs.CodeBelow.{positive}
 use Rattle.tables.proofs.Places.{Place, place-of, product-sum, product-sum-all}
