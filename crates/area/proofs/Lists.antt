@@ -1,13 +1,15 @@
 -- Lists as blocks: tabulated lists, symbols of a list, equal parts.
--- Holds: `length-tabulate`, `getD-tabulate`, `view-tabulate`, `getD-zeros`, `equal-part`, `part-equal`, `copied-whole`; `stored` (a loop that fills places).
+-- Holds: `length-tabulate`, `getD-tabulate`, `view-tabulate`, `getD-zeros`, `equal-part`, `part-equal`, `copied-whole`; `stored` (a loop that fills places);
+-- `place-in-blocks`, `window-view` (places by block and symbol).
 use mathlib.Core.Path.{_≡_, refl, sym, ap, ap₂, _∙_}
 use mathlib.Core.List.{List, _++_, append-nil}
 use Prim.Native.Nat.{ℕ, zero, suc, _+_, _*_, _/_, _%_, _≤_, _<_}
+use native.Mathlib.Nat.{div-lt-iff-lt-mul, mod-lt, div-add-mod'}
 use native.Mathlib.Omega.{arith}
 use native.Mathlib.Decide.{decLt, ℕ-discrete}
 use lib.Arith.{digits-div, digits-mod, digits-lt}
 use lib.ListN.{length, getD, take, drop, set, replicate, drop-of-length-le, length-take, length-replicate, getD-replicate, List·getD-eq-default}
-use lib.Seq.{ext-getD, getD-take, take-length, getD-set-same, getD-set-other}
+use lib.Seq.{ext-getD, getD-take, getD-drop, take-length, getD-set-same, getD-set-other}
 use Rattle.area.specs.Lists.{view, tabulate}
 
 pub length-tabulate : {A : Type 0} (n : ℕ) (f : ℕ → A) → length (tabulate n f) ≡ n
@@ -63,3 +65,16 @@ stored l place f i v room e apart filled a h = at (ℕ-discrete a i)
     at : Dec (a ≡ i) → getD (set l (place i) v) (place a) 0 ≡ f a
     at (yes s) = ap (λ (t : ℕ). getD (set l (place i) v) (place t) 0) s ∙ getD-set-same l (place i) v 0 room ∙ e ∙ ap f (sym s)
     at (no d) = let below : a < i = omega arith in getD-set-other l (place i) (place a) v 0 (apart a below) ∙ filled a below
+
+-- A place of a list of blocks of w symbols is a block and a symbol of it.
+pub place-in-blocks : (j i w : ℕ) → 1 ≤ w → i < j * w → (i / w < j) × (i % w < w) × (i / w * w + i % w ≡ i)
+place-in-blocks j i w h l = (div-lt-iff-lt-mul h .1 l, mod-lt i h, div-add-mod' i w)
+
+-- Symbol i of block s of window j of a list of blocks.
+pub window-view : (n m : ℕ) (list : List ℕ) (j s i : ℕ) → s ≤ m → i < n
+    → view n (take ((m + 1) * n) (drop (j * n) list)) s i ≡ view n list (j + s) i
+window-view n m list j s i low h =
+    let top : s < m + 1 = omega arith in
+    let place : j * n + (s * n + i) ≡ (j + s) * n + i = omega arith in
+    getD-take ((m + 1) * n) (drop (j * n) list) (s * n + i) 0 (digits-lt top h)
+    ∙ (getD-drop (j * n) list (s * n + i) 0 ∙ ap (λ (t : ℕ). getD list t 0) place)

@@ -1,4 +1,4 @@
-// Areas of bytes, whatever they mean: cleared, and their bytes counted.
+// Areas of bytes, whatever they mean: cleared, and their bytes that are not zero counted.
 ghost use mathlib.Core.Path.{_≡_};
 ghost use mathlib.Core.Bool.{not};
 ghost use lib.Dec.{eqb};

@@ -1,5 +1,5 @@
 -- The same on the numbers below q, as the code has it: if the information x is near, it is the information that was read.
--- Holds: `recovered-more`, `degree-of-near`, `read-of-near`.
+-- Holds: `recovered-more`, `degree-of-near-below`, `read-of-near`.
 use mathlib.Core.Path.{_≡_, refl, sym, ap, subst, _∙_}
 use mathlib.Core.List.{List}
 use Prim.Native.Nat.{ℕ, suc, _+_, _-_, _*_, _≤_, _<_}
@@ -25,17 +25,16 @@ use Rattle.code.specs.parts.Sound.{Sound}
 use Rattle.code.proofs.Certainty.{weight-apart}
 use Rattle.code.proofs.Cost.{cost-same, byteCost, bytes-apart}
 use Rattle.code.proofs.Recovery.{recovered-step}
-use Rattle.code.proofs.CodeBelow.{laws, fieldOf, rootOf, orderAt, overField, lifted, timesG-number, combination-number, ending-number, received}
-use Rattle.code.proofs.CodeBelow.{received-number, value-number}
+use Rattle.code.proofs.CodeBelow.{laws, fieldOf, rootOf, orderAt, overField, lifted, timesG-number, combination-number, ending-number, received, received-number, value-number}
 use Rattle.code.proofs.Settings.{level-fits, information-fits}
 use Rattle.block.specs.parts.Locator.{Located, Extended}
 use Rattle.block.specs.parts.LocatorAreas.{LocatorFound}
 use Rattle.block.specs.parts.Spectrum.{SpectrumOf, Continued}
 use Rattle.block.specs.parts.Information.{InformationRead}
-use Rattle.block.specs.parts.Step.{Information}
+use Rattle.block.specs.parts.Step.{InformationTo}
 use Rattle.block.proofs.LocatorBelow.{K, el, up, down, raise, fall, add-down, neg-down, tail-down, located-up}
 use Rattle.block.proofs.ErrorSpectrum.{spectrum}
-use Rattle.block.proofs.Candidate.{degree-of-near as degree-of-near-field, information-of-near}
+use Rattle.block.proofs.Candidate.{degree-of-near, information-of-near}
 
 module _ (p : Setting) (S : Sound p) where
   abbrev q : ℕ
@@ -87,7 +86,7 @@ module _ (p : Setting) (S : Sound p) where
     fits : (l + 1) * p .k ≤ p .n
     fits = level-fits p S l level
 
-    module _ (x : ℕ → ℕ → ℕ) (information : Information p l x) where
+    module _ (x : ℕ → ℕ → ℕ) (information : InformationTo p l x) where
       -- Twice the error's symbols are no more than the cost, since the received block costs nothing against itself.
       error : ℕ → Element q
       error i = sub (K q o B .ops) (received p S block i) (combination over l (lifted p S x) i)
@@ -124,10 +123,10 @@ module _ (p : Setting) (S : Sound p) where
             below (located .pair .locator-below) (located .pair .former-below) (located .pair .scale-below)
             (subst (λ (t : ℕ). Located o (at series) t L (located .place) (located .scale) (at locator) (at former)) all-known (located .pair .located))
 
-        pub degree-of-near : SpectrumOf q block (p .n - (l + 1) * p .k) series → 2 * L < levelDistance (p .n) (p .k) l
+        pub degree-of-near-below : SpectrumOf q block (p .n - (l + 1) * p .k) series → 2 * L < levelDistance (p .n) (p .k) l
         unfolding error
-        degree-of-near spectral =
-            let short = degree-of-near-field (fieldOf p S) (rootOf p S) (p .n) (p .k) (p .m) (orderAt p S) l fits (received p S block) (lifted p S x)
+        degree-of-near-below spectral =
+            let short = degree-of-near (fieldOf p S) (rootOf p S) (p .n) (p .k) (p .m) (orderAt p S) l fits (received p S block) (lifted p S x)
             (weight (K q o B .ops) (p .n) error) (omega arith) (omega (arith, error-light))
             (up q o B (at series)) (values-up (p .n - (l + 1) * p .k) spectral)
             L (located .place) (el q o B (located .scale)) (up q o B (at locator)) (up q o B (at former)) (locator-up (spectral .below)) in

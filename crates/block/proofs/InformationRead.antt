@@ -16,8 +16,7 @@ use Rattle.area.specs.Lists.{view}
 use Rattle.field.specs.parts.Operations.{Good, Is}
 use Rattle.field.specs.Fields.{opsOf, alpha}
 use Rattle.field.specs.parts.Sequences.{AllBelow, at}
-use Rattle.field.proofs.Laws.{lawsOf}
-use Rattle.field.proofs.LoopSums.{zero-below}
+use Rattle.field.proofs.Laws.{lawsOf, zero-below}
 use Rattle.field.proofs.Symbols.{zeros-below, below-set}
 use Rattle.code.specs.declared.Setting.{Setting}
 use Rattle.code.specs.Generator.{timesG}

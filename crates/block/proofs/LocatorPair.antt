@@ -1,4 +1,4 @@
--- One place more in the search for the locator, as the code has it: areas and the numbers of its progress.
+-- One place more in the search for the locator, as the code has it: the areas, and the numbers of its state.
 -- Holds: `unit-below`, `pair-start`, `pair-kept`, `pair-corrected`, `pair-lengthened`.
 use mathlib.Core.Path.{_≡_, sym, ap, ap₂, subst, _∙_}
 use mathlib.Core.List.{List}
@@ -8,22 +8,21 @@ use Rattle.algebra.proofs.Below.{FieldBelow}
 use Rattle.field.specs.parts.Operations.{Good, Is}
 use Rattle.field.specs.Fields.{opsOf}
 use Rattle.field.specs.parts.Sequences.{AllBelow, at}
-use Rattle.field.proofs.Laws.{lawsOf}
-use Rattle.field.proofs.LoopSums.{zero-below}
+use Rattle.field.proofs.Laws.{lawsOf, zero-below}
 use Rattle.block.specs.parts.Locator.{tail, Located}
-use Rattle.block.specs.parts.LocatorAreas.{Unit, Multiple, LocatorPair}
+use Rattle.block.specs.parts.LocatorAreas.{UnitSeries, Multiple, LocatorPair}
 use Rattle.block.proofs.LocatorBelow.{start-below, kept-below, corrected-below, grown-below}
 
 module _ (q : ℕ) (good : Good q) where
   B : FieldBelow q (opsOf q)
   B = lawsOf q good
 
-  pub unit-below : (l : List ℕ) → Unit l → AllBelow q l
+  pub unit-below : (l : List ℕ) → UnitSeries l → AllBelow q l
   unit-below l u zero = subst (λ (t : ℕ). t < q) (sym (u .first)) (B .one-below)
   unit-below l u (suc i) = subst (λ (t : ℕ). t < q) (sym (u .rest (suc i) (omega arith))) (zero-below q good)
 
   -- Before the first place both locators are 1.
-  pub pair-start : {series l f : List ℕ} → AllBelow q series → at series 0 ≡ 1 → Unit l → Unit f → LocatorPair q series 0 0 0 1 l f
+  pub pair-start : {series l f : List ℕ} → AllBelow q series → at series 0 ≡ 1 → UnitSeries l → UnitSeries f → LocatorPair q series 0 0 0 1 l f
   pair-start {series} {l} {f} h first u v =
       record {
         locator-below = unit-below l u;

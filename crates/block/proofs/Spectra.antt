@@ -18,7 +18,7 @@ use Rattle.field.specs.parts.Sequences.{AllBelow, at}
 use Rattle.field.proofs.Laws.{lawsOf}
 use Rattle.field.proofs.Symbols.{below-set}
 use Rattle.block.specs.parts.Locator.{tail}
-use Rattle.block.specs.parts.LocatorAreas.{Unit, LocatorFound}
+use Rattle.block.specs.parts.LocatorAreas.{UnitSeries, LocatorFound}
 use Rattle.block.specs.parts.Spectrum.{SpectrumOf, Continued}
 use Rattle.block.proofs.LocatorStep.{located-ext}
 use Rattle.block.proofs.LocatorPair.{unit-below}
@@ -33,7 +33,7 @@ module _ (q : ℕ) where
   point-more s point r h e =
       record { same = e .same ∙ ap (opsOf q .mul 2) (h .same) ∙ ap (power (opsOf q) alpha) (sym (add-one s)); below = e .below }
 
-  pub spectrum-none : (block l : List ℕ) → Good q → Unit l → SpectrumOf q block 0 l
+  pub spectrum-none : (block l : List ℕ) → Good q → UnitSeries l → SpectrumOf q block 0 l
   spectrum-none block l good u = record { below = unit-below q good l u; first = u .first; values = λ s h. absurd (omega arith) }
 
   -- A locator for the first values of a block's spectrum, where more of them stand.

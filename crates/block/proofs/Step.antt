@@ -17,9 +17,9 @@ use Rattle.code.specs.Settings.{codeOf}
 use Rattle.code.specs.parts.Sound.{Sound}
 use Rattle.code.proofs.Blocks.{combination-ext}
 use Rattle.block.specs.parts.Candidate.{syndromesAt, Begun, Candidate}
-use Rattle.block.specs.parts.Step.{Information, Step, near, far}
+use Rattle.block.specs.parts.Step.{InformationTo, Step, near, far}
 use Rattle.block.proofs.Spectra.{found-longer}
-use Rattle.block.proofs.CandidateBelow.{degree-of-near, read-of-near}
+use Rattle.block.proofs.CandidateBelow.{degree-of-near-below, read-of-near}
 
 module _ {p : Setting} (S : Sound p) {l : ℕ} (level : l ≤ p .m) {block : List ℕ} (long : length block ≡ p .n) (symbols : Symbols (p .q) block)
     {series locator former : List ℕ} {degree point : ℕ} (B : Begun p l block series locator former degree point) {found : List ℕ} where
@@ -28,7 +28,7 @@ module _ {p : Setting} (S : Sound p) {l : ℕ} (level : l ≤ p .m) {block : Lis
   step-long h =
       far (λ x information.
       let never : levelCost p (at block) l x < levelDistance (p .n) (p .k) l → ⊥ =
-      λ close. omega (arith, degree-of-near p S l level block long symbols x information series locator former degree close (B .located) (B .spectral)) in
+      λ close. omega (arith, degree-of-near-below p S l level block long symbols x information series locator former degree close (B .located) (B .spectral)) in
       omega arith)
 
   module _ {cost : ℕ} (C : Candidate p l block locator degree found) (counted : cost ≡ levelCost p (at block) l (view (p .k) found)) where
@@ -36,7 +36,7 @@ module _ {p : Setting} (S : Sound p) {l : ℕ} (level : l ≤ p .m) {block : Lis
     step-near h = near (C .reads .below) (omega arith)
 
     -- If the information x were near, it would be what was read, and its cost the cost.
-    same-cost : (x : ℕ → ℕ → ℕ) → Information p l x → levelCost p (at block) l x < levelDistance (p .n) (p .k) l → cost ≡ levelCost p (at block) l x
+    same-cost : (x : ℕ → ℕ → ℕ) → InformationTo p l x → levelCost p (at block) l x < levelDistance (p .n) (p .k) l → cost ≡ levelCost p (at block) l x
     unfolding blockCost
     same-cost x information close =
         counted ∙ total-ext (p .n) _ _ (λ i h. ap (symbolCost (p .q) (at block i)) (combination-ext (codeOf p) l (view (p .k) found) x i read))

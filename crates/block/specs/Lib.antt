@@ -1,2 +1,2 @@
--- The block step's promise (Step), and what its functions promise of one another.
+-- The block step's promise (Step), and what its functions promise one another.
 pub mod parts

@@ -1,8 +1,8 @@
 // The block step: from a received block the information of the code block within the limit, or that there is none (01, "Reading a reception").
-// A block's spectrum is its values at α^0, α^1, ... That of a level-l code block is zero at the first n - (l+1)k places, so there the received block shows
-// the spectrum of the error: these are the syndromes. The locator that annihilates what is known of it continues it by a recurrence, rightly if the error is light; what the
-// received block has besides is the code block's spectrum, and the information is read off it. The block is rebuilt from the rows and
-// compared, so a good answer rests on nothing else.
+// A block's spectrum is its values at α^0, α^1, ... That of a level-l code block is zero at the first n - (l+1)k places, so there the received block
+// shows the spectrum of the error: these are the syndromes. The locator that annihilates what is known of it continues it by a recurrence, rightly if
+// the error is light; what the received block has besides is the code block's spectrum, and the information is read off it. The block is rebuilt from
+// the rows and compared, so a good answer rests on nothing else.
 pub mod information;
 mod locator;
 mod spectrum;
@@ -21,12 +21,12 @@ use code::Setting;
 use field::Products;
 
 // The locator's degree at most, and the point of the next value of the spectrum.
-struct Start {
+struct LocatorStart {
     degree: usize,
     point: u8,
 }
 
-// The locator of the block's syndromes at level l.
+// The block's syndromes at level l, in the series, and their locator.
 fn begin(
     p: Setting,
     products: &Products,
@@ -36,7 +36,7 @@ fn begin(
     locator: &mut [u8],
     former: &mut [u8],
     spare: &mut [u8],
-) -> Start
+) -> LocatorStart
     requires { ⌜ Sound p × ProductsOf (p .q) (now products) × Symbols (p .q) (now block) × (l ≤ p .m) × BlockAreas p (now series) (now locator) (now former) (now spare) ⌝ }
     ensures { λ r. ⌜ Begun p l (now (block .entry)) (now (series .exit)) (now (locator .exit)) (now (former .exit)) (r .degree) (r .point) ⌝ }
 {
@@ -45,7 +45,7 @@ fn begin(
     locator::unit(series);
     let point = spectrum::add_values(q, products, block, 0, syndromes, 1, series);
     let degree = locator::locate(q, products, series, syndromes + 1, locator, former, spare);
-    Start {
+    LocatorStart {
         degree: degree,
         point: point,
     }
@@ -58,7 +58,7 @@ fn read_candidate(
     rows: &[u8],
     block: &[u8],
     l: usize,
-    start: Start,
+    start: LocatorStart,
     series: &mut [u8],
     locator: &[u8],
     values: &mut [u8],

@@ -7,7 +7,7 @@ ghost use Rattle.field.specs.Fields.{opsOf};
 ghost use Rattle.field.specs.parts.Products.{ProductsOf};
 ghost use Rattle.field.specs.parts.Sequences.{AllBelow, at};
 ghost use Rattle.block.specs.parts.Locator.{tail as tailOf};
-ghost use Rattle.block.specs.parts.LocatorAreas.{Unit, Multiple, LocatorPair, LocatorFound};
+ghost use Rattle.block.specs.parts.LocatorAreas.{UnitSeries, Multiple, LocatorPair, LocatorFound};
 use field::Products;
 
 // How far the search for the locator has come: its degree at most, the place where that last changed, and what undoes the former locator's discrepancy there.
@@ -119,7 +119,7 @@ fn advance(
 // 1, 0, 0, ..
 pub fn unit(series: &mut [u8])
     requires { ⌜ 0 < length (now series) ⌝ }
-    ensures { λ _. ⌜ Unit (now (series .exit)) ⌝ }
+    ensures { λ _. ⌜ UnitSeries (now (series .exit)) ⌝ }
 {
     area::clear(series);
     series[0] = 1;

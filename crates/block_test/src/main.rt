@@ -169,12 +169,13 @@ fn repaired(
     )
 }
 
-// One block: whether the block step and enumeration agree, and whether on information; 1 for yes.
+// How many blocks have information near, and on how many the block step and enumeration agree.
 struct Tally {
     near: usize,
     agree: usize,
 }
 
+// One block: whether the block step and enumeration agree, and whether on information; 1 for yes.
 fn one(
     p: Setting,
     products: &Products,
@@ -242,7 +243,7 @@ fn level(number: u64, l: usize, distance: usize, count: usize, stride: usize, en
 {
     let p = code::setting_of(number);
     let products = field::products(p.q);
-    let mut rows = [0u8; tables::MOST_ROWS];
+    let mut rows = [0u8; tables::LONGEST_ROWS];
     tables::rows(number, &mut rows);
     print(number as usize, b' ');
     print(l, b' ');

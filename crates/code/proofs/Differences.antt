@@ -1,4 +1,4 @@
--- The transmission of a difference, and combinations near one window, over any field and any n, k, m with (m+1)k ≤ n (01, "Reading a reception"; 000,
+-- The transmission of a difference, and combinations near one block, over any field and any n, k, m with (m+1)k ≤ n (01, "Reading a reception"; 000,
 -- Algorithms 2.3 and 3.3, Theorem 3.4). Received symbols are of any type R, with a cost as in `Certainty`.
 -- Holds: `sent-sub` (the transmission of a difference), `sent-zeros`, `sent-ahead`; `combination-zeros`, `combination-sub`; `combination-certain`.
 use mathlib.Core.Path.{_≡_, refl, sym, ap, _∙_}

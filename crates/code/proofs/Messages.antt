@@ -3,14 +3,13 @@
 use mathlib.Core.Path.{_≡_, sym, ap, subst, _∙_}
 use mathlib.Core.List.{List}
 use Prim.Native.Nat.{ℕ, suc, _+_, _*_, _/_, _%_, _≤_, _<_}
-use native.Mathlib.Nat.{div-add-mod', mod-lt, div-lt-iff-lt-mul}
 use native.Mathlib.Omega.{arith}
 use lib.Arith.{digits-lt}
 use lib.ListN.{getD, take}
 use Rattle.algebra.proofs.Below.{number}
 use Rattle.algebra.proofs.Weights.{total-ext}
 use Rattle.area.specs.Lists.{view}
-use Rattle.area.proofs.Lists.{equal-part}
+use Rattle.area.proofs.Lists.{equal-part, place-in-blocks}
 use Rattle.code.specs.declared.Setting.{Setting}
 use Rattle.code.specs.Code.{distancesTo}
 use Rattle.code.specs.Transmission.{sentSymbol}
@@ -21,10 +20,6 @@ use Rattle.code.specs.parts.Sound.{Sound}
 use Rattle.code.proofs.Certainty.{block-certain, agree-through}
 use Rattle.code.proofs.CodeBelow.{fieldOf, rootOf, orderAt, overField, lifted, lifted-same, number-lifted, message-below}
 use Rattle.code.proofs.Cost.{byteCost, bytes-apart, message-cost}
-
--- A place of a list of blocks of w symbols is a block and a symbol of it.
-pub place-in-blocks : (j i w : ℕ) → 1 ≤ w → i < j * w → (i / w < j) × (i % w < w) × (i / w * w + i % w ≡ i)
-place-in-blocks j i w h l = (div-lt-iff-lt-mul h .1 l, mod-lt i h, div-add-mod' i w)
 
 module _ (p : Setting) (S : Sound p) (T : ℕ) (x y : List ℕ) (X : Message p T x) (Y : Message p T y) where
   same-number : (s r : ℕ) → lifted p S (view (p .k) x) s r ≡ lifted p S (view (p .k) y) s r → view (p .k) x s r ≡ view (p .k) y s r

@@ -25,8 +25,7 @@ use Rattle.code.specs.parts.Residual.{IsResidual}
 use Rattle.code.proofs.Blocks.{timesG-ext}
 use Rattle.code.proofs.Differences.{sent-sub, sent-zeros}
 use Rattle.code.proofs.Window.{contribution, single, sent-single}
-use Rattle.code.proofs.CodeBelow.{laws, positive, fieldOf, rootOf, overField, keeps, number-zero, number-sub, lifted, number-lifted, sent-number}
-use Rattle.code.proofs.CodeBelow.{timesG-number, rowSymbol-number}
+use Rattle.code.proofs.CodeBelow.{laws, positive, fieldOf, rootOf, overField, keeps, number-zero, number-sub, lifted, number-lifted, sent-number, timesG-number, rowSymbol-number}
 
 module _ (p : Setting) (S : Sound p) where
   -- The same information blocks send the same symbols, over any field: only symbols below k count.
@@ -228,14 +227,14 @@ module _ (p : Setting) (S : Sound p) where
     unfolding sent
     number-sent = sent-number p S (view (p .k) g) (λ b r. G (b * p .k + r)) s i
 
-    number-left : number (sub (fieldOf p S .ops) received sent) ≡ view (p .n) residual s i
-    number-left =
+    number-residual : number (sub (fieldOf p S .ops) received sent) ≡ view (p .n) residual s i
+    number-residual =
         number-sub p S received sent ∙ ap₂ (sub (opsOf (p .q))) number-received number-sent ∙ sym (is-residual .symbol s i l u)
 
     -- The reception less the residual is the transmission.
     pub residual-back : sub (opsOf (p .q)) (view (p .n) reception s i) (view (p .n) residual s i) ≡ sentSymbol (codeOf p) (view (p .k) g) s i
     residual-back =
-        sym (ap₂ (sub (opsOf (p .q))) number-received number-left) ∙ sym (number-sub p S received (sub (fieldOf p S .ops) received sent))
+        sym (ap₂ (sub (opsOf (p .q))) number-received number-residual) ∙ sym (number-sub p S received (sub (fieldOf p S .ops) received sent))
         ∙ ap number (sub-sub (fieldOf p S) received sent) ∙ number-sent
 
     -- The residual is zero just where the reception holds the sent symbol.
@@ -245,9 +244,9 @@ module _ (p : Setting) (S : Sound p) where
         at : Dec (view (p .n) reception s i ≡ sentSymbol (codeOf p) (view (p .k) g) s i)
             → eqb (view (p .n) reception s i) (sentSymbol (codeOf p) (view (p .k) g) s i) ≡ eqb (view (p .n) residual s i) 0
         at (yes e) =
-            eq-eqb _ _ e ∙ sym (eq-eqb _ _ (sym number-left
+            eq-eqb _ _ e ∙ sym (eq-eqb _ _ (sym number-residual
             ∙ (ap (λ (a : Element (p .q)). number (sub (fieldOf p S .ops) a sent)) (number-injective received sent (number-received ∙ e ∙ sym number-sent))
             ∙ ap number (sub-self (fieldOf p S) sent) ∙ number-zero p S)))
         at (no d) =
             ne-eqb _ _ d ∙ sym (ne-eqb _ _ (λ z. d (sym number-received
-            ∙ (ap number (eq-of-sub (fieldOf p S) received sent (number-injective _ _ (number-left ∙ z ∙ sym (number-zero p S)))) ∙ number-sent))))
+            ∙ (ap number (eq-of-sub (fieldOf p S) received sent (number-injective _ _ (number-residual ∙ z ∙ sym (number-zero p S)))) ∙ number-sent))))

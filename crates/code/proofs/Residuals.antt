@@ -1,5 +1,5 @@
 -- The residual of a message g in a reception, on bytes: what one window of it says of a message that fits.
--- Holds: `window-view`, `ahead`, `sub-below`, `add-back`, `add-opposite`, `ahead-below`; `residual-window`, `residual-zero`.
+-- Holds: `ahead`, `sub-below`, `add-back`, `add-opposite`, `ahead-below`; `residual-window`, `residual-zero`.
 use mathlib.Core.Path.{_≡_, refl, sym, ap, ap₂, fun-ext, _∙_}
 use mathlib.Core.List.{List}
 use Prim.Native.Nat.{ℕ, zero, suc, _+_, _*_, _≤_, _<_}
@@ -7,12 +7,13 @@ use native.Mathlib.Nat.{mul-le-mul-right}
 use native.Mathlib.Omega.{arith}
 use lib.Arith.{digits-lt}
 use lib.ListN.{length, getD, take, drop, length-drop}
-use lib.Seq.{length-take-le, getD-take, getD-drop}
+use lib.Seq.{length-take-le}
 use Rattle.algebra.specs.Ops.{sub}
 use Rattle.algebra.proofs.Laws.{sub-self, add-of-sub, neg-unique, neg-mul}
 use Rattle.algebra.proofs.Weights.{total-ext}
 use Rattle.algebra.proofs.Below.{Element, number, number-injective, element, number-element}
 use Rattle.area.specs.Lists.{view}
+use Rattle.area.proofs.Lists.{window-view}
 use Rattle.field.specs.Fields.{opsOf}
 use Rattle.field.proofs.Symbols.{symbol-below}
 use Rattle.code.specs.declared.Setting.{Setting}
@@ -26,19 +27,9 @@ use Rattle.code.specs.parts.InformationBlocks.{BlocksBelow}
 use Rattle.code.specs.parts.Residual.{IsResidual}
 use Rattle.code.proofs.Blocks.{combination-ext}
 use Rattle.code.proofs.Differences.{sent-sub, sent-ahead}
-use Rattle.code.proofs.CodeBelow.{laws, positive, fieldOf, rootOf, overField, keeps, number-zero, number-sub, lifted, number-lifted, sent-number}
-use Rattle.code.proofs.CodeBelow.{combination-number, message-below, sent-below}
+use Rattle.code.proofs.CodeBelow.{laws, positive, fieldOf, rootOf, overField, keeps, number-zero, number-sub, lifted, number-lifted, sent-number, combination-number, message-below, sent-below}
 use Rattle.code.proofs.Cost.{cost-shift}
 use Rattle.code.proofs.WindowBelow.{zero-cost}
-
--- Symbol i of block s of window j of a list of blocks.
-pub window-view : (n m : ℕ) (residual : List ℕ) (j s i : ℕ) → s ≤ m → i < n
-    → view n (take ((m + 1) * n) (drop (j * n) residual)) s i ≡ view n residual (j + s) i
-window-view n m residual j s i low h =
-    let top : s < m + 1 = omega arith in
-    let place : j * n + (s * n + i) ≡ (j + s) * n + i = omega arith in
-    getD-take ((m + 1) * n) (drop (j * n) residual) (s * n + i) 0 (digits-lt top h)
-    ∙ (getD-drop (j * n) residual (s * n + i) 0 ∙ ap (λ (t : ℕ). getD residual t 0) place)
 
 -- Information blocks of x less those of g, from block j on.
 abbrev pub ahead : Setting → List ℕ → List ℕ → ℕ → ℕ → ℕ → ℕ

@@ -1,7 +1,8 @@
 -- One window by itself, over any field and any n, k, m with (m+1)k ≤ n (01, "Reading a reception"; 000, Theorem 3.4).
--- The window's blocks are w 0 .. w m, of received symbols of any type R; a message block sequence y contributes the combinations of y_0 .. y_l to
+-- The window's blocks are w 0 .. w m, of received symbols of any type R; a sequence y of information blocks contributes the combinations of y_0 .. y_l to
 -- block l (`rebuiltCost`).
--- Holds: `sent-single` (what one information block contributes to a frame); `turn-certain` (two near sequences begin alike), `turn-refused`.
+-- Holds: `contribution`, `single`, `sent-single` (what one information block contributes to a frame); `turn-certain` (two near sequences begin alike),
+-- `turn-refused`.
 use mathlib.Core.Path.{_≡_, refl, sym, ap, ap₂, _∙_}
 use mathlib.Core.Bool.{Bool}
 use Prim.Native.Nat.{ℕ, zero, suc, _+_, _-_, _*_, _≤_, _<_}

@@ -1,5 +1,5 @@
 -- The parameters of a doubly cyclic convolutional code, over any operations (000, Theorem 3.1; 01, "Two fields and three settings").
--- Holds: `Code`; its distances `levelDistance` (d_l), `distancesTo` (d_0 + .. + d_l), `designDistance` (d) and limit (t).
+-- Holds: `Code`; its distances `levelDistance` (d_l), `distancesTo` (d_0 + .. + d_l), `designDistance` (d) and `limit` (t).
 use Prim.Native.Nat.{ℕ, zero, suc, _+_, _-_, _*_, _/_}
 use Rattle.algebra.specs.Ops.{Ops}
 

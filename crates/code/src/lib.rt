@@ -24,7 +24,8 @@ pub fn is_setting(number: u64) -> bool
     number <= 3
 }
 
-// The parameters of a setting. Told apart by `<`: by `==` the compiler finds that k is the number itself, and decodes up to a tenth slower (docs/PERFORMANCE.md).
+// The parameters of a setting. Told apart by `<`: with `==` the compiler takes k for the number itself, and decoding is up to a tenth slower
+// (docs/PERFORMANCE.md).
 pub fn setting_of(number: u64) -> Setting
     requires { ⌜ Passes (isSetting number) ⌝ }
     ensures { λ r. ⌜ r ≡ settingOf number ⌝ }

@@ -1,5 +1,5 @@
 -- Window j of a frame, for the display and for marks: where it lies, and from the questions to the promises.
--- Holds: `Window`, `window-yes`; `window-refused`, `window-shown`; `marked-refused`, `marked-found`.
+-- Holds: `WindowWithin`, `window-yes`; `window-refused`, `window-shown`; `marked-refused`, `marked-found`.
 use mathlib.Core.Path.{_≡_, sym, ap, subst, _∙_}
 use mathlib.Core.Bool.{Bool, not}
 use mathlib.Core.List.{List, []}
@@ -27,15 +27,15 @@ abbrev mostWindow : ℕ
 mostWindow = largest windowLength settings
 
 -- Window j lies within a frame of this length, and is no longer than any.
-pub record Window (p : Setting) (long j : ℕ) : Type 0 where
+pub record WindowWithin (p : Setting) (long j : ℕ) : Type 0 where
   pub sizes : Sizes p
   pub short : windowLength p ≤ mostWindow
   pub within : j * p .n + windowLength p ≤ long
 
-pub window-yes : (number long j : ℕ) (p : Setting) → p ≡ settingOf number → WindowYes number long j → Window p long j
+pub window-yes : (number long j : ℕ) (p : Setting) → p ≡ settingOf number → WindowYes number long j → WindowWithin p long j
 window-yes number long j p e y =
     let top : j + (settingOf number .m + 1) ≤ blocksOf (settingOf number) long + settingOf number .m = omega (arith, y .inside) in
-    subst (λ (p : Setting). Window p long j) (sym e)
+    subst (λ (p : Setting). WindowWithin p long j) (sym e)
     (record {
       sizes = y .frame .sizes;
       short = largestOf windowLength number (y .setting);

@@ -10,12 +10,12 @@ use Prim.Native.Nat.{ℕ, zero, suc, _+_, _-_, _%_, _<_}
 use native.Mathlib.Nat.{suc-mod, mod-lt, mod-eq-of-lt, mod-self, zero-mod, mod-add-mod, add-mod, add-comm, zero-add, suc-add}
 use native.Mathlib.Omega.{arith}
 use lib.Dec.{T, eqb, eqb→eq, ltb, ltb→lt}
-use lib.ListN.{getD}
 use borrow.Author.Tests.{eqb-true, eqb-false, ne-eqb}
 use Rattle.algebra.specs.Ops.{pick}
 use Rattle.algebra.specs.Sum.{sum, power}
 use Rattle.algebra.proofs.Below.{FieldBelow, OrderBelow}
 use Rattle.algebra.proofs.Tests.{all, all-at, same, within}
+use Rattle.field.specs.parts.Sequences.{at}
 use Rattle.field.specs.Numbers.{inverseBelow, numbers}
 use Rattle.field.proofs.Numbers.{inverse-found, inverse-below}
 
@@ -33,10 +33,6 @@ pub record Doubling (q : ℕ) (add : ℕ → ℕ → ℕ) (double : ℕ → ℕ)
   pub double-below : (a : ℕ) → a < q → double a < q
   pub double-zero : double 0 ≡ 0
   pub double-adds : (a b : ℕ) → a < q → b < q → double (add a b) ≡ add (double a) (double b)
-
--- The i-th entry of a list of powers, or the exponent of i.
-abbrev pub at : List ℕ → ℕ → ℕ
-at l i = getD l i 0
 
 -- The n powers of α, each α times the one before and the first again after the last, and the exponents of the numbers below q but 0.
 pub record Listed (q n : ℕ) (double : ℕ → ℕ) (powers exponents : List ℕ) : Type 0 where
@@ -89,9 +85,9 @@ unfoldable pub productOf : ℕ → List ℕ → List ℕ → ℕ → ℕ → ℕ
 productOf n powers exponents a b = pick (eqb a 0) 0 (pick (eqb b 0) 0 (at powers ((at exponents a + at exponents b) % n)))
 
 -- A number is zero or a power of α.
-data Element (double : ℕ → ℕ) : ℕ → Type 0 where
-  nought : Element double 0
-  power-of-alpha : (i : ℕ) → Element double (doublings double i 1)
+data IsPower (double : ℕ → ℕ) : ℕ → Type 0 where
+  nought : IsPower double 0
+  power-of-alpha : (i : ℕ) → IsPower double (doublings double i 1)
 
 module _ {q n : ℕ} {add : ℕ → ℕ → ℕ} {neg double : ℕ → ℕ} {powers exponents : List ℕ} (G : Generated q n add neg double powers exponents) where
   open Addition (G .addition) using (add-below, neg-below, plus-assoc, plus-comm, plus-zero, plus-neg)
@@ -137,13 +133,13 @@ module _ {q n : ℕ} {add : ℕ → ℕ → ℕ} {neg double : ℕ → ℕ} {pow
   doublings-one zero = sym first ∙ ap (at powers) (sym (zero-mod n))
   doublings-one (suc i) = ap double (doublings-one i) ∙ next (i % n) (mod-lt i positive) ∙ ap (at powers) (sym (suc-mod i n))
 
-  element : (a : ℕ) → a < q → Element double a
+  element : (a : ℕ) → a < q → IsPower double a
   element a h = decide (eqb a 0) refl
     where
-      decide : (b : Bool) → eqb a 0 ≡ b → Element double a
-      decide true e = subst (Element double) (sym (eqb-true a 0 e)) nought
+      decide : (b : Bool) → eqb a 0 ≡ b → IsPower double a
+      decide true e = subst (IsPower double) (sym (eqb-true a 0 e)) nought
       decide false e =
-          subst (Element double)
+          subst (IsPower double)
           (doublings-one (at exponents a) ∙ ap (at powers) (mod-eq-of-lt (exponent-below a h)) ∙ power-of-exponent a h (eqb-false a 0 e))
           (power-of-alpha (at exponents a))
 
@@ -166,7 +162,7 @@ module _ {q n : ℕ} {add : ℕ → ℕ → ℕ} {neg double : ℕ → ℕ} {pow
   unfolding productOf
   product-power i b h = by b (element b h)
     where
-      by : (b : ℕ) → Element double b → product (doublings double i 1) b ≡ doublings double i b
+      by : (b : ℕ) → IsPower double b → product (doublings double i 1) b ≡ doublings double i b
       by b nought = rw (ne-eqb (doublings double i 1) 0 (nonzero i)) (sym (doublings-zero i))
       by b (power-of-alpha j) =
           rw (ne-eqb (doublings double i 1) 0 (nonzero i), ne-eqb (doublings double j 1) 0 (nonzero j), exponent-of i, exponent-of j)
@@ -177,7 +173,7 @@ module _ {q n : ℕ} {add : ℕ → ℕ → ℕ} {neg double : ℕ → ℕ} {pow
   unfolding doublings
   product-double a b ha hb = by a (element a ha)
     where
-      by : (a : ℕ) → Element double a → product (double a) b ≡ double (product a b)
+      by : (a : ℕ) → IsPower double a → product (double a) b ≡ double (product a b)
       by a nought =
           ap (λ (x : ℕ). product x b) double-zero ∙ product-nought b ∙ sym (ap double (product-nought b) ∙ double-zero)
       by a (power-of-alpha i) = product-power (suc i) b hb ∙ sym (ap double (product-power i b hb))
@@ -185,21 +181,21 @@ module _ {q n : ℕ} {add : ℕ → ℕ → ℕ} {neg double : ℕ → ℕ} {pow
   pub product-below : (a b : ℕ) → a < q → b < q → product a b < q
   product-below a b ha hb = by a (element a ha)
     where
-      by : (a : ℕ) → Element double a → product a b < q
+      by : (a : ℕ) → IsPower double a → product a b < q
       by a nought = rw (product-nought b) zero-below
       by a (power-of-alpha i) = rw (product-power i b hb) (doublings-below i b hb)
 
   product-zero : (a : ℕ) → a < q → product a 0 ≡ 0
   product-zero a ha = by a (element a ha)
     where
-      by : (a : ℕ) → Element double a → product a 0 ≡ 0
+      by : (a : ℕ) → IsPower double a → product a 0 ≡ 0
       by a nought = product-nought 0
       by a (power-of-alpha i) = product-power i 0 zero-below ∙ doublings-zero i
 
   pub product-comm : (a b : ℕ) → a < q → b < q → product a b ≡ product b a
   product-comm a b ha hb = by a b (element a ha) (element b hb)
     where
-      by : (a b : ℕ) → Element double a → Element double b → product a b ≡ product b a
+      by : (a b : ℕ) → IsPower double a → IsPower double b → product a b ≡ product b a
       by a b nought nought = refl
       by a b nought (power-of-alpha j) = product-nought (doublings double j 1) ∙ sym (product-zero (doublings double j 1) (alpha-below j))
       by a b (power-of-alpha i) nought = product-zero (doublings double i 1) (alpha-below i) ∙ sym (product-nought (doublings double i 1))
@@ -211,7 +207,7 @@ module _ {q n : ℕ} {add : ℕ → ℕ → ℕ} {neg double : ℕ → ℕ} {pow
   product-assoc : (a b c : ℕ) → a < q → b < q → c < q → product (product a b) c ≡ product a (product b c)
   product-assoc a b c ha hb hc = by a b (element a ha) (element b hb)
     where
-      by : (a b : ℕ) → Element double a → Element double b → product (product a b) c ≡ product a (product b c)
+      by : (a b : ℕ) → IsPower double a → IsPower double b → product (product a b) c ≡ product a (product b c)
       by a b nought _ = rw (product-nought b, product-nought c, product-nought (product b c))
       by a b (power-of-alpha i) nought =
           rw (product-zero (doublings double i 1) (alpha-below i), product-nought c, product-zero (doublings double i 1) (alpha-below i))
@@ -227,7 +223,7 @@ module _ {q n : ℕ} {add : ℕ → ℕ → ℕ} {neg double : ℕ → ℕ} {pow
   pub product-distributes : (a b c : ℕ) → a < q → b < q → c < q → product a (add b c) ≡ add (product a b) (product a c)
   product-distributes a b c ha hb hc = by a (element a ha)
     where
-      by : (a : ℕ) → Element double a → product a (add b c) ≡ add (product a b) (product a c)
+      by : (a : ℕ) → IsPower double a → product a (add b c) ≡ add (product a b) (product a c)
       by a nought =
           product-nought (add b c) ∙ sym (plus-zero 0 zero-below) ∙ sym (ap₂ add (product-nought b) (product-nought c))
       by a (power-of-alpha i) =
@@ -242,7 +238,7 @@ module _ {q n : ℕ} {add : ℕ → ℕ → ℕ} {neg double : ℕ → ℕ} {pow
   inverse-exists : (a : ℕ) → a < q → (a ≡ 0 → ⊥) → (b : ℕ) × (b < q) × (product a b ≡ 1)
   inverse-exists a h z = by a (element a h) z
     where
-      by : (a : ℕ) → Element double a → (a ≡ 0 → ⊥) → (b : ℕ) × (b < q) × (product a b ≡ 1)
+      by : (a : ℕ) → IsPower double a → (a ≡ 0 → ⊥) → (b : ℕ) × (b < q) × (product a b ≡ 1)
       by a nought z = absurd (z refl)
       by a (power-of-alpha i) z =
           let j : ℕ = n - i % n in

@@ -1,6 +1,7 @@
 -- The laws of the field with q elements and the order of α in it, for every q in use.
--- Holds: `lawsOf`, `orderOf`.
-use Prim.Native.Nat.{ℕ, _-_}
+-- Holds: `lawsOf`, `orderOf`; `zero-below`, `alpha-below`.
+use Prim.Native.Nat.{ℕ, _<_, _-_}
+use native.Mathlib.Omega.{arith}
 use Rattle.algebra.proofs.Below.{FieldBelow, OrderBelow}
 use Rattle.field.specs.Modular.{modular}
 use Rattle.field.specs.Binary.{binary}
@@ -18,3 +19,9 @@ pub orderOf : (q : ℕ) → Good q → OrderBelow q (opsOf q) (q - 1) alpha
 unfolding opsOf five eight modular binary
 orderOf q five-elements = five-order
 orderOf q eight-elements = eight-order
+
+pub zero-below : (q : ℕ) → Good q → 0 < q
+zero-below q good = omega (arith, lawsOf q good .one-below)
+
+pub alpha-below : (q : ℕ) → Good q → alpha < q
+alpha-below q good = orderOf q good .root-below

@@ -1,19 +1,12 @@
 -- A loop that adds up: what its sum is before the first term, and after one more.
--- Holds: `zero-below`, `alpha-below`, `sum-none`, `sum-more`.
+-- Holds: `sum-none`, `sum-more`.
 use mathlib.Core.Path.{_≡_, refl, sym, ap, ap₂, _∙_}
-use Prim.Native.Nat.{ℕ, _+_, _<_}
+use Prim.Native.Nat.{ℕ, _+_}
 use native.Mathlib.Numerals.{add-one}
-use native.Mathlib.Omega.{arith}
 use Rattle.algebra.specs.Sum.{sum}
 use Rattle.field.specs.parts.Operations.{Good, Is}
-use Rattle.field.specs.Fields.{opsOf, alpha}
-use Rattle.field.proofs.Laws.{lawsOf, orderOf}
-
-pub zero-below : (q : ℕ) → Good q → 0 < q
-zero-below q good = omega (arith, lawsOf q good .one-below)
-
-pub alpha-below : (q : ℕ) → Good q → alpha < q
-alpha-below q good = orderOf q good .root-below
+use Rattle.field.specs.Fields.{opsOf}
+use Rattle.field.proofs.Laws.{zero-below}
 
 module _ (q : ℕ) (f : ℕ → ℕ) where
   pub sum-none : Good q → Is q 0 (sum (opsOf q) 0 f)

@@ -1,6 +1,6 @@
 -- What the code returns in each branch is the symbol that the field's operation gives.
 -- Holds: `sum-modulo`, `sum-modulo-less`, `sum-xor`; `negative-modulo`, `negative-of-zero`, `negative-same`;
--- `product-listed`; `is-inverse`; `good-small`, q is at most 256; `good-listed`, q is at most 8; `eight-else`, q is 8 where it is not 5; `lent-by-test`, a
+-- `product-listed`; `is-inverse`; `good-small`, q is at most 256; `good-listed`, q is at most 8; `eight-else`, q is 8 where it is not 5; `products-by-test`, a
 -- table's rule over all pairs by one computed test.
 use mathlib.Core.Path.{_≡_, refl, sym, _∙_, subst}
 use mathlib.Core.List.{List, []}
@@ -88,7 +88,7 @@ module _ (q a : ℕ) (good : Good q) (ha : a < q) where
   pub negative-modulo : q ≡ 5 → (a ≡ 0 → ⊥) → Is q (5 - a) (opsOf q .neg a)
   negative-modulo e z = let rest : 5 - a ≡ (5 - a) % 5 = omega arith in is-negative (5 - a) (rest ∙ sym (neg-modulo q e a))
 
-  -- What the search has still to do is the inverse.
+  -- The inverse is what the search below q finds.
   pub inverse-start : opsOf q .inv a ≡ inverseBelow (opsOf q .mul) q a
   unfolding opsOf
   inverse-start = refl
@@ -97,6 +97,6 @@ module _ (q a : ℕ) (good : Good q) (ha : a < q) where
   is-inverse r e = symbol q r (opsOf q .inv a) e (lawsOf q good .inv-below a ha)
 
 -- A table's rule over all pairs, by one computed test.
-pub lent-by-test : (q r : ℕ) (products : List (List ℕ)) → q ≡ r → T (all r (λ a. all r (λ b. eqb (getD (getD products a []) b 0) (opsOf r .mul a b))))
+pub products-by-test : (q r : ℕ) (products : List (List ℕ)) → q ≡ r → T (all r (λ a. all r (λ b. eqb (getD (getD products a []) b 0) (opsOf r .mul a b))))
     → ProductsOf q products
-lent-by-test q r products e t = rw e (record { product = same-pairs r (λ a b. getD (getD products a []) b 0) (opsOf r .mul) t })
+products-by-test q r products e t = rw e (record { product = same-pairs r (λ a b. getD (getD products a []) b 0) (opsOf r .mul) t })

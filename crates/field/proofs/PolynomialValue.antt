@@ -9,7 +9,7 @@ use borrow.Rule.Slice.PartAt.{part-to-end}
 use Rattle.algebra.specs.Polynomial.{value}
 use Rattle.field.specs.parts.Operations.{Good, Is}
 use Rattle.field.specs.Fields.{opsOf}
-use Rattle.field.proofs.LoopSums.{zero-below}
+use Rattle.field.proofs.Laws.{zero-below}
 
 -- The rest as code makes it, the part of the list from 1 on, is shorter.
 pub rest-shorter : (l : List ℕ) (t : ℕ) → length l ≡ t → (length l ≡ 0 → ⊥) → length (take (length l - 1) (drop 1 l)) < t

@@ -10,8 +10,7 @@ use native.Mathlib.Nat.{le-of-suc-le-suc, not-suc-le-zero}
 use native.Mathlib.Omega.{arith}
 use native.Mathlib.Decide.{ℕ-discrete, decLt}
 use lib.Dec.{eqb, ltb}
-use lib.ListN.{length, getD, take, drop, set, replicate, length-append, length-take, length-drop, length-set, length-replicate, getD-replicate}
-use lib.ListN.{List·getD-eq-default, List·getD-append}
+use lib.ListN.{length, getD, take, drop, set, replicate, length-append, length-take, length-drop, length-set, length-replicate, getD-replicate, List·getD-eq-default, List·getD-append}
 use lib.Seq.{getD-take, getD-drop, getD-append-add, getD-set-same, getD-set-other, set-out}
 use borrow.Author.Tests.{ltb-true, ltb-false, eqb-true, eqb-false}
 use borrow.Rule.Slice.PartMut.{putMid}
@@ -19,7 +18,7 @@ use Rattle.area.proofs.Lists.{getD-zeros}
 use Rattle.field.specs.parts.Operations.{Good}
 use Rattle.field.specs.Symbols.{Symbols}
 use Rattle.field.specs.parts.Sequences.{AllBelow}
-use Rattle.field.proofs.LoopSums.{zero-below}
+use Rattle.field.proofs.Laws.{zero-below}
 
 module _ (q : ℕ) where
   below-of : {a b : ℕ} → a ≡ b → b < q → a < q

@@ -16,11 +16,12 @@ use Rattle.code.specs.parts.Sound.{Sound}
 use Rattle.code.specs.Windows.{windowLength}
 use Rattle.code.specs.parts.Cost.{zeroCost, windowCost}
 use Rattle.code.specs.parts.InformationBlocks.{BlocksBelow}
+use Rattle.code.specs.parts.Residual.{windowAt}
 use Rattle.code.proofs.CodeBelow.{positive}
 use Rattle.code.proofs.WindowBelow.{zero-cost, first-certain}
 use Rattle.frame.specs.parts.Window.{Near, LevelSearch, served, none-serves}
 use Rattle.frame.specs.parts.Frame.{Settled, Added, NoneFits, Advanced, advanced, stopped}
-use Rattle.frame.proofs.Guesses.{windowAt, added-zero}
+use Rattle.frame.proofs.Guesses.{added-zero}
 use Rattle.frame.proofs.Settled.{settled-found, settled-none}
 
 -- A window that costs little against zeros is near the zero information: the first information block of every near y is zero.

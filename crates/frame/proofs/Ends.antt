@@ -12,6 +12,7 @@ use Rattle.algebra.specs.Ops.{sub}
 use Rattle.algebra.specs.Weight.{countOf}
 use Rattle.algebra.proofs.Weights.{countOf-ext}
 use Rattle.area.specs.Lists.{view}
+use Rattle.area.proofs.Lists.{place-in-blocks}
 use Rattle.field.specs.Fields.{opsOf}
 use Rattle.field.specs.Symbols.{Symbols}
 use Rattle.field.proofs.Symbols.{symbol-below}
@@ -21,7 +22,6 @@ use Rattle.code.specs.parts.Sound.{Sound}
 use Rattle.code.specs.Windows.{transmission, windowLength, altered, Message}
 use Rattle.code.specs.parts.Cost.{zeroCost, messageCost, NearWindow}
 use Rattle.code.specs.parts.Residual.{IsResidual}
-use Rattle.code.proofs.Messages.{place-in-blocks}
 use Rattle.code.proofs.Settings.{block-positive}
 use Rattle.code.proofs.CodeBelow.{positive, transmission-view}
 use Rattle.code.proofs.Cost.{fits-cost, fits-near}

@@ -1,5 +1,5 @@
 -- Changes of the guessed message, and the residual after them.
--- Holds: `windowAt`, `window-room`, `symbol-room`, `block-room`, `blocks-few`; `revised-none`, `revised-then`; `adjusted`; `Adding` (the first r symbols of a
+-- Holds: `window-room`, `symbol-room`, `block-room`, `blocks-few`; `revised-none`, `revised-then`; `adjusted`; `Adding` (the first r symbols of a
 -- block were added) and its steps; `added-past`, `added-zero`, `added-then`.
 use mathlib.Core.Path.{_≡_, refl, sym, ap, ap₂, subst, _∙_}
 use mathlib.Core.Bool.{Bool, true, false}
@@ -16,11 +16,12 @@ use borrow.Author.Tests.{le-leb, lt-leb, eq-eqb, ne-eqb}
 use borrow.Rule.Slice.PartMut.{putMid}
 use Rattle.algebra.specs.Ops.{sub, pick}
 use Rattle.area.specs.Lists.{view}
-use Rattle.area.proofs.Lists.{stored}
+use Rattle.area.proofs.Lists.{stored, window-view}
 use Rattle.area.proofs.Parts.{put-length, put-before, put-inside, put-after}
 use Rattle.field.specs.Fields.{opsOf}
 use Rattle.field.specs.Symbols.{Symbols}
 use Rattle.field.proofs.Symbols.{symbol-below, symbols-set, put-symbols}
+use Rattle.code.specs.parts.Residual.{windowAt}
 use Rattle.code.specs.declared.Setting.{Setting}
 use Rattle.code.specs.Generator.{rowSymbol, timesG}
 use Rattle.code.specs.Settings.{codeOf}
@@ -29,14 +30,10 @@ use Rattle.code.specs.Windows.{windowLength}
 use Rattle.code.specs.parts.InformationBlocks.{only}
 use Rattle.code.proofs.CodeBelow.{laws, positive, rowSymbol-below}
 use Rattle.code.proofs.Settings.{block-positive}
-use Rattle.code.proofs.Residuals.{window-view, add-opposite}
+use Rattle.code.proofs.Residuals.{add-opposite}
 use Rattle.code.proofs.ResidualSteps.{timesG-only, lessened, residual-step}
 use Rattle.tables.specs.parts.RowsAdded.{plusRow, RowsAdded}
 use Rattle.frame.specs.parts.Frame.{FrameAreas, Revised, Adjusted, Added}
-
--- Window j of the residual.
-abbrev pub windowAt : Setting → List ℕ → ℕ → List ℕ
-windowAt p residual j = take (windowLength p) (drop (j * p .n) residual)
 
 -- Window j lies within the residual, and message block j within the message.
 pub window-room : (p : Setting) (T j : ℕ) (message residual : List ℕ) → FrameAreas p T message residual → j < T → j * p .n + windowLength p ≤ length residual

@@ -16,7 +16,7 @@ use Rattle.code.specs.parts.InformationBlocks.{BlocksBelow}
 use Rattle.code.proofs.WindowBelow.{first-certain, level-drops, level-ends}
 use Rattle.frame.specs.parts.Window.{Near, LevelTried, serves, fails, LevelSearch, served, none-serves}
 
--- LevelSearch from l on failed: y is near at level l - 1, and not at all if there is none.
+-- The levels from l on failed: y is near at level l - 1, and not at all if there is none.
 reach : Setting → List ℕ → ℕ → (ℕ → ℕ → ℕ) → Type 0
 reach p window zero y = ⊥
 reach p window (suc l) y = Near p window l y

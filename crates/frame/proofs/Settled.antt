@@ -1,6 +1,6 @@
--- The windows in turn: residual, zero window and the chain of refusals, put together on bytes.
--- Holds: `settled-start`, `near-of-fits`, `settled-none`, `settled-revised`, `settled-found`; `begin` (an empty message, and the reception itself as its
--- residual).
+-- How far the guess is settled: at the start, after other guesses, once block j was found; or that no message fits.
+-- Holds: `settled-start`, `near-of-fits`, `fits-below`, `settled-none`, `settled-revised`, `settled-found`; `settled-begun` (an empty message, and the
+-- reception itself as its residual).
 use mathlib.Core.Path.{_≡_, sym, ap, subst, _∙_}
 use mathlib.Core.List.{List, _++_}
 use Prim.Native.Nat.{ℕ, _+_, _-_, _*_, _≤_, _<_}
@@ -17,13 +17,13 @@ use Rattle.code.specs.declared.Setting.{Setting}
 use Rattle.code.specs.parts.Sound.{Sound}
 use Rattle.code.specs.Windows.{Fits}
 use Rattle.code.specs.parts.InformationBlocks.{BlocksBelow}
+use Rattle.code.specs.parts.Residual.{windowAt}
 use Rattle.code.proofs.CodeBelow.{positive}
 use Rattle.code.proofs.Cost.{fits-near}
 use Rattle.code.proofs.Residuals.{ahead, ahead-below, add-back, residual-window}
 use Rattle.code.proofs.ResidualSteps.{residual-start}
 use Rattle.frame.specs.parts.Window.{Near}
 use Rattle.frame.specs.parts.Frame.{Settled, Revised, Added, NoneFits}
-use Rattle.frame.proofs.Guesses.{windowAt}
 
 module _ (p : Setting) (S : Sound p) (T : ℕ) (reception : List ℕ) (R : Symbols (p .q) reception) (long : length reception ≡ (T + p .m) * p .n) where
   received : (i : ℕ) → getD reception i 0 < p .q
@@ -106,9 +106,10 @@ module _ (p : Setting) (S : Sound p) (T : ℕ) (reception : List ℕ) (R : Symbo
               ∙ sym (D .symbol r l u));
         }
 
-pub begin : (p : Setting) → Sound p → (T : ℕ) (reception area cleared message after : List ℕ) → Symbols (p .q) reception → length reception ≡ (T + p .m) * p .n
+pub settled-begun : (p : Setting) → Sound p → (T : ℕ) (reception area cleared message after : List ℕ) → Symbols (p .q) reception
+    → length reception ≡ (T + p .m) * p .n
     → length message ≡ T * p .k → cleared ≡ replicate (length message) 0 → length area ≡ length reception
     → after ≡ take (length reception) reception ++ drop (length reception) area → Settled p T reception 0 cleared after
-begin p S T reception area cleared message after R long room empty same copied =
+settled-begun p S T reception area cleared message after R long room empty same copied =
     subst (λ (t : List ℕ). Settled p T reception 0 cleared t) (sym (copied-whole reception area after same copied))
     (settled-start p S T reception R long cleared (empty ∙ ap (λ (t : ℕ). replicate t 0) room))

@@ -1,2 +1,2 @@
--- What reading a window and a frame promise of one another.
+-- What reading a window and a frame promise one another.
 pub mod parts

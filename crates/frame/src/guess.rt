@@ -8,7 +8,7 @@ ghost use Rattle.frame.specs.parts.Frame.{FrameAreas, Revised, Adjusted,
 use code::Setting;
 use field::Products;
 
-// Adds v to symbol r of block i of the message.
+// Adds v to symbol r of block i of the message, and takes what it sends out of the residual.
 fn adjust(
     p: Setting,
     products: &Products,
@@ -110,8 +110,8 @@ pub fn add_found(
     }
 }
 
-// Which of k symbols is taken in a turn: they are taken upwards, or downwards.
-fn taken(down: bool, k: usize, turn: usize) -> usize
+// Which of k symbols comes in this turn: upwards from the first, or downwards from the last.
+fn symbol_in_turn(down: bool, k: usize, turn: usize) -> usize
     requires { ⌜ turn < k ⌝ }
     ensures { λ r. ⌜ r < k ⌝ }
 {
@@ -144,7 +144,7 @@ fn guess_from(
     let start = i * p.n + first;
     let mut turn: usize = 0;
     while turn < k {
-        let r = taken(down, k, turn);
+        let r = symbol_in_turn(down, k, turn);
         let v = field::multiply(q, products, scale, residual[start + r]);
         adjust(p, products, rows, blocks, i, r, v, message, residual);
         turn += 1;

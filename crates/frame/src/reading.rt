@@ -11,7 +11,7 @@ ghost use Rattle.frame.specs.parts.Frame.{Settled, Advanced, Compared, F
 use code::Setting;
 use field::Products;
 
-// Makes block j certain by the residual of its window: where it is little, the guess is right; else the levels find what to add, or none serves.
+// Makes block j certain by the residual of its window: where that is light, the guess is right; else the levels find what to add, or none serves.
 fn settle(
     p: Setting,
     products: &Products,
@@ -127,8 +127,7 @@ fn compare_windows(p: Setting, blocks: usize, residual: &[u8], bound: usize) -> 
     true
 }
 
-// The message that fits the reception and its residual; or false, if no message fits. The other areas are worked
-// in.
+// The message that fits the reception, and its residual; or false, if no message fits. The other areas are worked in.
 pub fn read(
     p: Setting,
     products: &Products,

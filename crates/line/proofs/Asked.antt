@@ -11,8 +11,7 @@ use Rattle.code.specs.Settings.{isSetting, settingOf}
 use Rattle.question.specs.declared.Answer.{Answer}
 use Rattle.question.specs.Questions.{Question, ask, firstNo, mostBlocks, symbolQuestion}
 use Rattle.question.proofs.Questions.{Left, all-yes, append-yes, append-no, after-first}
-use Rattle.line.specs.Questions.{settingIn, blocksIn, symbolsIn, digitsTo, mostCharacters, characterQuestions, lengthQuestion, headQuestions}
-use Rattle.line.specs.Questions.{HoldsFrame, lineQuestions}
+use Rattle.line.specs.Questions.{settingIn, blocksIn, symbolsIn, digitsTo, mostCharacters, characterQuestions, lengthQuestion, headQuestions, HoldsFrame, lineQuestions}
 
 -- Questions 1, 3 and 10 over the setting's number, T and the count of the digits left; 3 and 10 over the setting.
 abbrev pub headLater : ℕ → ℕ → Setting → List Question

@@ -23,17 +23,15 @@ use Rattle.code.specs.Settings.{isSetting, settingOf}
 use Rattle.code.specs.Windows.{windowLength}
 use Rattle.code.proofs.Settings.{soundOf, information-fits, Sizes, sizesOf, largestOf}
 use Rattle.question.specs.declared.Answer.{Answer}
-use Rattle.question.specs.Questions.{Question, ask, answer, firstNo, mostBlocks, mostSymbols, mostInformation, blocksOf, symbolQuestion, transmissionQuestion}
-use Rattle.question.specs.Questions.{frameQuestions, decodingQuestions}
+use Rattle.question.specs.Questions.{Question, ask, answer, firstNo, mostBlocks, mostSymbols, mostInformation, blocksOf, symbolQuestion, transmissionQuestion, frameQuestions, decodingQuestions}
 use Rattle.question.proofs.Questions.{true-of, first-no, all-yes, append-yes, message-most, transmission-most}
 use Rattle.link.specs.Decoding.{FrameDecoded, found, none-fits, DecodedIn, Decoded, refused as decoding-refused, well-formed as decoding-well-formed}
 use Rattle.link.proofs.Determined.{parts-long, message-front}
 use Rattle.line.specs.Characters.{digitOf}
 use Rattle.line.specs.Questions.{mostCharacters, settingIn, blocksIn, symbolsIn, digitsTo, characterQuestions, headQuestions, HoldsFrame, lineQuestions}
-use Rattle.line.specs.Answering.{refusal, success, outputLine, messageLength, messageIn, Answers, refused, well-formed, AnswerShown, LineAreas}
-use Rattle.line.specs.Answering.{lineAreas, hasRoom, roomIn, RoomForAll, FrameLeft, Answered, no-frame, no-room, decoded}
+use Rattle.line.specs.Answering.{refusal, success, outputLine, messageLength, messageIn, Answers, refused, well-formed, AnswerShown, LineAreas, lineAreas, hasRoom, roomIn, RoomForAll, FrameLeft, Answered, no-frame, no-room, decoded}
 use Rattle.line.proofs.Asked.{HeadYes, head-yes, after-head, in-head}
-use Rattle.line.proofs.Placed.{six, success-long}
+use Rattle.line.proofs.Placed.{refusal-long, success-long}
 
 -- A frame of T+m blocks of n symbols.
 whole-frame : (T m n : ℕ) → 0 < n → ((T + m) * n % n ≡ 0) × ((T + m) * n / n ≡ T + m)
@@ -123,10 +121,10 @@ module _ (line : List ℕ) (holds : HoldsFrame line) where
         below = λ i l. lt-of-lt-of-le (f .message-of .symbols .below i l)
             (le-trans (largestOf (λ p. p .q) (settingIn line) (yes-of .setting)) (lit≤ tt));
       }
-  small-symbols (none-fits far e m t) z = absurd (seven (ap (λ (a : Answer). a .number) (sym e) ∙ z))
+  small-symbols (none-fits far e m t) z = absurd (head-long (ap (λ (a : Answer). a .number) (sym e) ∙ z))
     where
-      seven : _≡_ {A = ℕ} 7 0 → ⊥
-      seven z = omega arith
+      head-long : _≡_ {A = ℕ} 7 0 → ⊥
+      head-long z = omega arith
 
   pub frame-answered : (message transmitted : List ℕ) (r : Answer) (message' transmitted' : List ℕ)
       → messageLength line ≤ length message → length (symbolsIn line) ≤ length transmitted
@@ -208,7 +206,7 @@ output-most line r x = at (eqb (r .number) 0)
   where
     at : (b : Bool) → length (pick b (success (r .altered) (settingIn line) (blocksIn line) x) (refusal r)) ≤ 10 + length x
     at true = omega (arith, success-long (r .altered) (settingIn line) (blocksIn line) x)
-    at false = omega (arith, six (r .number) (r .place))
+    at false = omega (arith, refusal-long (r .number) (r .place))
 
 -- The longest output line: an opening, and the longest message.
 abbrev pub mostAnswer : ℕ
@@ -216,7 +214,7 @@ mostAnswer = 10 + mostInformation
 
 -- So it is no longer than the longest success line ..
 pub answers-most : (line text : List ℕ) → Answers line text → length text ≤ mostAnswer
-answers-most line text (refused h e) = omega (arith, ap length e, six (firstNo (lineQuestions line) .number) (firstNo (lineQuestions line) .place))
+answers-most line text (refused h e) = omega (arith, ap length e, refusal-long (firstNo (lineQuestions line) .number) (firstNo (lineQuestions line) .place))
 answers-most line text (well-formed h r x y f e) =
     let all = all-yes (lineQuestions line) tt h in
     let p = settingOf (settingIn line) in
@@ -226,7 +224,8 @@ answers-most line text (well-formed h r x y f e) =
 
 -- .. and, each with its newline, at most seven times as long as the line: no message is longer than its frame.
 pub answers-sevenfold : (line text : List ℕ) → Answers line text → length text + 1 ≤ 7 * (length line + 1)
-answers-sevenfold line text (refused h e) = omega (arith, ap length e, six (firstNo (lineQuestions line) .number) (firstNo (lineQuestions line) .place))
+answers-sevenfold line text (refused h e) =
+    omega (arith, ap length e, refusal-long (firstNo (lineQuestions line) .number) (firstNo (lineQuestions line) .place))
 answers-sevenfold line text (well-formed h r x y f e) =
     let all = all-yes (lineQuestions line) tt h in
     let p = settingOf (settingIn line) in

@@ -1,6 +1,6 @@
 -- A text that is written part by part at the front of a lent area.
--- Holds: `placed-none`, `placed-part`, `placed-number`, `placed-long`; `shown-whole`, `shown-none`, `shown-success`; `two`, `six`, `seven`, `opening-long`,
--- `success-long` (lengths of what is written).
+-- Holds: `placed-none`, `placed-part`, `placed-number`, `placed-long`; `shown-whole`, `shown-none`, `shown-success`; `number-long`, `refusal-long`,
+-- `head-long`, `opening-long`, `success-long` (lengths of what is written).
 use mathlib.Core.Path.{_≡_, refl, sym, ap, ap₂, subst, _∙_}
 use mathlib.Core.Bool.{Bool, true, false}
 use mathlib.Core.List.{List, [], _++_, map, append-assoc}
@@ -26,7 +26,7 @@ placed-long done before area w =
     length-append done (drop (length done) before) in
     omega (arith, w .room, ap length (w .is), length-drop (length done) before)
 
--- The next part comes home.
+-- The next part stands behind the text.
 pub placed-part : (done part before area : List ℕ) (from to : ℕ) → length done ≡ from → length part ≡ to - from → from ≤ to → to ≤ length before
     → Placed done before area → Placed (done ++ part) before (putMid from (to - from) area part)
 placed-part done part before area from to start long order room w =
@@ -71,17 +71,17 @@ placed-number number from to area {part} order room e =
 number-next : (done : List ℕ) (count number from : ℕ) → length done ≡ from → length (done ++ hex count number) ≡ from + count
 number-next done count number from e = omega (arith, length-append done (hex count number), length-hex count number)
 
-pub two : (a : ℕ) → length (hex 2 a) ≡ 2
-two a = length-hex 2 a
+pub number-long : (a : ℕ) → length (hex 2 a) ≡ 2
+number-long a = length-hex 2 a
 
-pub six : (a b : ℕ) → length (hex 2 a ++ hex 4 b) ≡ 6
-six a b = number-next (hex 2 a) 4 b 2 (two a)
+pub refusal-long : (a b : ℕ) → length (hex 2 a ++ hex 4 b) ≡ 6
+refusal-long a b = number-next (hex 2 a) 4 b 2 (number-long a)
 
-pub seven : (a b c : ℕ) → length ((hex 2 a ++ hex 4 b) ++ hex 1 c) ≡ 7
-seven a b c = number-next (hex 2 a ++ hex 4 b) 1 c 6 (six a b)
+pub head-long : (a b c : ℕ) → length ((hex 2 a ++ hex 4 b) ++ hex 1 c) ≡ 7
+head-long a b c = number-next (hex 2 a ++ hex 4 b) 1 c 6 (refusal-long a b)
 
 pub opening-long : (count number blocks : ℕ) → length (opening count number blocks) ≡ 10
-opening-long count number blocks = number-next ((hex 2 0 ++ hex 4 count) ++ hex 1 number) 3 blocks 7 (seven 0 count number)
+opening-long count number blocks = number-next ((hex 2 0 ++ hex 4 count) ++ hex 1 number) 3 blocks 7 (head-long 0 count number)
 
 -- The whole text is there, or there was no room for it.
 pub shown-whole : (text before area : List ℕ) (r : ℕ) → length text ≡ r → Placed text before area → Shown text before r area

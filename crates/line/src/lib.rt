@@ -78,7 +78,7 @@ pub fn answer_line(
 ) -> usize
     ensures { λ r. ⌜ Answered (now (line .entry)) (lineAreas (now (reception .entry)) (now (message .entry)) (now (transmission .entry))) (now (output .entry)) r (lineAreas (now (reception .exit)) (now (message .exit)) (now (transmission .exit))) (now (output .exit)) ⌝ }
 {
-    let asked = questions::holds_frame(line);
+    let asked = questions::first_questions(line);
     if asked.number != 0 {
         return writing::write_refusal(asked, output);
     }

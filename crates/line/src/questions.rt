@@ -11,6 +11,7 @@ use super::MOST_CHARACTERS;
 use super::characters;
 use question::Answer;
 
+// A character's value, 64 bits wide.
 fn wide_digit(character: u8) -> u64
     ensures { λ r. ⌜ r ≡ digitOf character ⌝ }
 {
@@ -89,8 +90,8 @@ fn head_questions(line: &[u8]) -> Answer
     question::yes()
 }
 
-// Questions 11, 9, 1, 3 and 10.
-pub fn holds_frame(line: &[u8]) -> Answer
+// Questions 11, 9, 1, 3 and 10: whether the line holds a frame.
+pub fn first_questions(line: &[u8]) -> Answer
     ensures { λ r. ⌜ r ≡ firstNo (characterQuestions (now (line .entry)) ++ headQuestions (now (line .entry))) ⌝ }
 {
     let first = character_questions(line);

@@ -32,7 +32,7 @@ fn write_number(number: u64, area: &mut [u8])
     }
 }
 
-// A number behind what is written: in the places from one up to another.
+// Writes a number behind what is written: in the places from `from` up to `to`, a digit each.
 fn put_number(number: u64, from: usize, to: usize, output: &mut [u8])
     requires { ⌜ (from ≤ to) × (to ≤ length (now output)) ⌝ }
     ensures { λ _. ⌜ WrittenBehind from (hex (to - from) number) (now (output .entry)) (now (output .exit)) ⌝ }

@@ -10,7 +10,7 @@ use lib.Seq.{ext-getD, getD-set-same, getD-set-other}
 use borrow.Rule.Slice.PartMut.{putMid}
 use Rattle.algebra.specs.Ops.{sub}
 use Rattle.area.specs.Lists.{view}
-use Rattle.area.proofs.Lists.{getD-zeros}
+use Rattle.area.proofs.Lists.{getD-zeros, place-in-blocks}
 use Rattle.field.specs.Fields.{opsOf}
 use Rattle.field.specs.Symbols.{Symbols}
 use Rattle.field.proofs.Symbols.{symbol-below, symbols-zeros}
@@ -21,7 +21,6 @@ use Rattle.code.specs.parts.Sound.{Sound}
 use Rattle.code.specs.Windows.{transmission, windowLength, Message}
 use Rattle.code.proofs.CodeBelow.{laws, positive, message-below, transmission-view, transmission-length, sent-below, transmission-symbols}
 use Rattle.code.proofs.Settings.{block-positive}
-use Rattle.code.proofs.Messages.{place-in-blocks}
 use Rattle.code.proofs.ResidualSteps.{residual-start}
 use Rattle.tables.specs.parts.RowsAdded.{RowsAdded}
 use Rattle.frame.specs.parts.Frame.{Adjusted}

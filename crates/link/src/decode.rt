@@ -84,7 +84,7 @@ fn decode_frame(
     ensures { λ r. ⌜ FrameDecoded p blocks (now (reception .entry)) r (now (message .exit)) (now (transmission .exit)) ⌝ }
 {
     let products = field::products(p.q);
-    let mut rows = [0u8; tables::MOST_ROWS];
+    let mut rows = [0u8; tables::LONGEST_ROWS];
     tables::rows(setting, &mut rows);
     let mut series = [0u8; tables::LONGEST_BLOCK + 1];
     let mut locator = [0u8; tables::LONGEST_BLOCK + 1];

@@ -64,7 +64,7 @@ fn encode_frame(setting: u64, p: Setting, message: &[u8], blocks: usize, area: &
     requires { ⌜ Passes (isSetting setting) × (p ≡ settingOf setting) × Narrow p × Message p blocks (now message) × (blocks ≤ mostBlocks) × (length (now area) ≡ (blocks + p .m) * p .n) ⌝ }
     ensures { λ _. ⌜ now (area .exit) ≡ transmission p (now (message .entry)) ⌝ }
 {
-    let mut rows = [0u8; tables::MOST_ROWS];
+    let mut rows = [0u8; tables::LONGEST_ROWS];
     tables::rows(setting, &mut rows);
     let products = field::products(p.q);
     send(p, &products, &rows, message, blocks, area);

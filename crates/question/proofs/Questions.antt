@@ -2,7 +2,7 @@
 -- Holds: `true-of`; `first-yes`, `first-no` (one question), `append-yes`, `append-no` (a list of questions before others), `all-yes`, `yes-all` (number 0
 -- says that every answer was "yes"); `Left`, `left-all`, `left-yes`, `says-no`, `says-yes`, `first-says-no`, `first-left`, `after-first`, `after-frame` (a
 -- call that asks in order), `setting-known`, `setting-sizes`; `Searched`, `searched-none`, `searched-more`, `searched-stop`, `searched-all` (question 4, as
--- a loop asks it), `map-same`, `symbolsTo-whole`, `whole-symbols`; `Frame`; `FrameYes`, `DecodingYes`, `EncodingYes`, `WindowYes` and `frame-yes`,
+-- a loop asks it), `map-same`, `symbolsTo-whole`, `whole-symbols`; `FrameShape`; `FrameYes`, `DecodingYes`, `EncodingYes`, `WindowYes` and `frame-yes`,
 -- `frame-of-setting`, `decoding-yes`, `encoding-yes`, `display-yes`, `marks-yes`; `message-most`, `transmission-most`, `transmission-small`, `window-small`
 -- (the areas' sizes).
 use mathlib.Core.Path.{_≡_, refl, sym, ap, subst, _∙_}
@@ -25,8 +25,7 @@ use Rattle.code.specs.Settings.{isSetting, settingOf}
 use Rattle.code.specs.Windows.{windowLength, Message}
 use Rattle.code.proofs.Settings.{largestOf, Sizes, sizesOf}
 use Rattle.question.specs.declared.Answer.{Answer}
-use Rattle.question.specs.Questions.{Question, ask, answer, symbolQuestion, transmissionQuestion, firstNo, mostBlocks, mostSymbols, mostInformation}
-use Rattle.question.specs.Questions.{blocksOf, symbolsTo, frameQuestions, decodingQuestions, encodingQuestions, displayQuestions, marksQuestions}
+use Rattle.question.specs.Questions.{Question, ask, answer, symbolQuestion, transmissionQuestion, firstNo, mostBlocks, mostSymbols, mostInformation, blocksOf, symbolsTo, frameQuestions, decodingQuestions, encodingQuestions, displayQuestions, marksQuestions}
 
 pub true-of : (t : Bool) → Passes t → t ≡ true
 true-of true h = refl
@@ -214,7 +213,7 @@ whole-symbols q (x ∷ l) e = at (whole-symbols q l) (ltb x q) refl e
     at more false b e = absurd (omega arith)
 
 -- What questions 1 to 3 say of a frame of this length, over its setting.
-pub record Frame (p : Setting) (long : ℕ) : Type 0 where
+pub record FrameShape (p : Setting) (long : ℕ) : Type 0 where
   pub sizes : Sizes p
   pub blocks : 1 ≤ blocksOf p long
   pub most : blocksOf p long ≤ mostBlocks
@@ -228,7 +227,7 @@ blocks-of-length n m long positive whole room =
     (omega arith, sym (ap (λ (t : ℕ). t * n) back ∙ all))
 
 frame-of : (p : Setting) (long : ℕ) → Sizes p → Passes (eqb (long % p .n) 0 && leb (windowLength p) long) → Passes (leb (blocksOf p long) mostBlocks)
-    → Frame p long
+    → FrameShape p long
 frame-of p long sizes shape few =
     let whole : long % p .n ≡ 0 = eqb→eq (long % p .n) 0 (and-left (eqb (long % p .n) 0) (leb (windowLength p) long) shape) in
     let room : windowLength p ≤ long = leb→le (windowLength p) long (and-right (eqb (long % p .n) 0) (leb (windowLength p) long) shape) in
@@ -237,15 +236,15 @@ frame-of p long sizes shape few =
 
 pub record FrameYes (number long : ℕ) : Type 0 where
   pub setting : Passes (isSetting number)
-  pub frame : Frame (settingOf number) long
+  pub frame : FrameShape (settingOf number) long
 
 pub frame-yes : (number long : ℕ) {r : Answer} → r ≡ firstNo (frameQuestions number long) → r .number ≡ 0 → FrameYes number long
 frame-yes number long asked e =
     let all = all-yes (frameQuestions number long) tt (ap (λ (t : Answer). t .number) (sym asked) ∙ e) in
     record { setting = all .0; frame = frame-of (settingOf number) long (sizesOf number (all .0)) (all .1 .0) (all .1 .1 .0) }
 
-pub frame-of-setting : {number long : ℕ} {p : Setting} → FrameYes number long → p ≡ settingOf number → Frame p long
-frame-of-setting {number} {long} {p} known e = subst (λ (t : Setting). Frame t long) (sym e) (known .frame)
+pub frame-of-setting : {number long : ℕ} {p : Setting} → FrameYes number long → p ≡ settingOf number → FrameShape p long
+frame-of-setting {number} {long} {p} known e = subst (λ (t : Setting). FrameShape t long) (sym e) (known .frame)
 
 -- The areas that a frame of any setting needs, over the setting p in hand.
 pub message-most : (number : ℕ) (p : Setting) (blocks : ℕ) → Passes (isSetting number) → p ≡ settingOf number → blocks ≤ mostBlocks
@@ -326,7 +325,7 @@ encoding-yes number message transmissionRoom e =
 -- What the display knows when its questions got "yes".
 pub record WindowYes (number long j : ℕ) : Type 0 where
   pub setting : Passes (isSetting number)
-  pub frame : Frame (settingOf number) long
+  pub frame : FrameShape (settingOf number) long
   pub inside : j < blocksOf (settingOf number) long
 
 window-of : (number long j : ℕ) → Passes (isSetting number) → Passes (eqb (long % settingOf number .n) 0 && leb (windowLength (settingOf number)) long)

@@ -37,12 +37,14 @@ pub fn no(number: u32, place: u64) -> Answer
     }
 }
 
+// A byte as a size.
 fn wide(symbol: u8) -> usize
     ensures { λ r. ⌜ r ≡ symbol ⌝ }
 {
     symbol as usize
 }
 
+// The larger of two bytes.
 fn larger(a: u8, b: u8) -> u8
     ensures { λ r. ⌜ (a ≤ r) × (b ≤ r) ⌝ }
 {

@@ -12,7 +12,7 @@ pub mod combine;
 use code::Setting;
 
 // The most symbols of any setting's rows, and of a block: what a call that makes these areas makes room for.
-pub const MOST_ROWS: usize = 42;
+pub const LONGEST_ROWS: usize = 42;
 
 pub const LONGEST_BLOCK: usize = 7;
 
@@ -84,7 +84,7 @@ fn lay_generator_row(number: u64, j: usize, r: usize, at: usize, area: &mut [u8]
     lay_row(&generator_3()[j][r], at, area);
 }
 
-// The loop of `rows`, over all rows of G_0, then of G_1 and so on.
+// Lays all rows of a setting out at the front of the area: those of G_0, then of G_1 and so on. The loop of `rows`.
 fn lay_rows(number: u64, area: &mut [u8])
     requires { ⌜ Passes (isSetting number) × (rowsLength (settingOf number) ≤ length (now area)) ⌝ }
     ensures { λ _. ⌜ RowsOf (settingOf number) (now (area .exit)) ⌝ }

@@ -1,5 +1,5 @@
 -- The locator in areas: what the functions that make it promise, as records over the areas they write.
--- Holds: `Unit`, `Multiple`, `LocatorPair`, `LocatorFound`.
+-- Holds: `UnitSeries`, `Multiple`, `LocatorPair`, `LocatorFound`.
 use mathlib.Core.Path.{_≡_}
 use mathlib.Core.List.{List}
 use Prim.Native.Nat.{ℕ, _-_, _<_}
@@ -8,7 +8,7 @@ use Rattle.field.specs.parts.Sequences.{AllBelow, at}
 use Rattle.block.specs.parts.Locator.{Subtracted, Located}
 
 -- The series 1, 0, 0, ..
-pub record Unit (l : List ℕ) : Type 0 where
+pub record UnitSeries (l : List ℕ) : Type 0 where
   pub first : at l 0 ≡ 1
   pub rest : (i : ℕ) → 0 < i → at l i ≡ 0
 

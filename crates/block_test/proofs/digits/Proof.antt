@@ -7,7 +7,7 @@ use lib.ListN.{length, length-set}
 use Rattle.field.specs.Symbols.{Symbols}
 use Rattle.field.proofs.Operations.{good-small}
 use Rattle.field.proofs.Symbols.{symbols-set, symbols-zeros}
-use Rattle.field.proofs.LoopSums.{zero-below}
+use Rattle.field.proofs.Laws.{zero-below}
 use Rattle.tables.specs.parts.Rows.{longestBlock}
 use Rattle.block_test.proofs.digits.Statement.{statement}
 use Rattle.block_test.proofs.digits.Tie as tie

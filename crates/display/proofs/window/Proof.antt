@@ -6,7 +6,7 @@ use lib.ListN.{length}
 use borrow.Author.Needs.{needs}
 use Rattle.question.specs.Questions.{firstNo, displayQuestions}
 use Rattle.question.proofs.Questions.{WindowYes, display-yes}
-use Rattle.display.proofs.Display.{Window, window-yes, window-refused, window-shown}
+use Rattle.display.proofs.Display.{WindowWithin, window-yes, window-refused, window-shown}
 use Rattle.display.proofs.window.Statement.{statement}
 use Rattle.display.proofs.window.Tie as tie
 
@@ -31,7 +31,7 @@ asked c = ap (λ a. a .number) (sym (c .before .before .display-questions .ensur
 known : (c : tie.Else1) → let a = c .before .before .before .before .args in WindowYes (a .setting) (length (now (a .reception))) (a .j)
 known c = display-yes _ _ _ (asked c)
 
-inside : (c : tie.After-setting-of) → let a = entry-of-setting-of c .args in Window (c .setting-of .result) (length (now (a .reception))) (a .j)
+inside : (c : tie.After-setting-of) → let a = entry-of-setting-of c .args in WindowWithin (c .setting-of .result) (length (now (a .reception))) (a .j)
 inside c = window-yes _ _ _ (c .setting-of .result) (c .setting-of .ensures) (known (c .before))
 
 returns-2 : tie.Need-returns-2

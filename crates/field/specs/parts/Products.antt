@@ -12,5 +12,5 @@ abbrev pub Products : Type 0
 Products = List (List ℕ)
 
 -- The table holds the product of a and b, of the field with q elements, in row a at place b.
-pub record ProductsOf (q : ℕ) (tables : Products) : Type 0 where
-  pub product : (a b : ℕ) → a < q → b < q → getD (getD tables a []) b 0 ≡ opsOf q .mul a b
+pub record ProductsOf (q : ℕ) (products : Products) : Type 0 where
+  pub product : (a b : ℕ) → a < q → b < q → getD (getD products a []) b 0 ≡ opsOf q .mul a b

@@ -4,14 +4,14 @@ use mathlib.Core.Path.{_≡_}
 use mathlib.Core.Bool.{Bool, true, false}
 use mathlib.Core.List.{List}
 use Prim.Native.Nat.{ℕ, _+_, _*_, _≤_, _<_}
-use lib.ListN.{length, getD, take, drop, set}
+use lib.ListN.{length, getD, set}
 use Rattle.field.specs.Fields.{opsOf}
 use Rattle.field.specs.Symbols.{Symbols}
 use Rattle.code.specs.declared.Setting.{Setting}
 use Rattle.code.specs.Code.{distancesTo}
-use Rattle.code.specs.Windows.{windowLength, Fits}
+use Rattle.code.specs.Windows.{Fits}
 use Rattle.code.specs.parts.Cost.{zeroCost}
-use Rattle.code.specs.parts.Residual.{IsResidual}
+use Rattle.code.specs.parts.Residual.{IsResidual, windowAt}
 
 -- The areas of a frame: a guessed message of T blocks, and the residual of a reception for it.
 pub record FrameAreas (p : Setting) (T : ℕ) (message residual : List ℕ) : Type 0 where
@@ -59,7 +59,7 @@ pub data FrameRead (p : Setting) (T : ℕ) (reception message residual : List �
 
 -- The last comparison: every window of the residual costs at most d against zeros, that is less than d_0 + .. + d_m; or one costs more.
 pub data Compared (p : Setting) (T : ℕ) (residual : List ℕ) : Bool → Type 0 where
-  all-near : ((j : ℕ) → j < T → zeroCost (p .q) (take (windowLength p) (drop (j * p .n) residual)) < distancesTo (p .n) (p .k) (p .m))
+  all-near : ((j : ℕ) → j < T → zeroCost (p .q) (windowAt p residual j) < distancesTo (p .n) (p .k) (p .m))
       → Compared p T residual true
-  one-far : (j : ℕ) → j < T → distancesTo (p .n) (p .k) (p .m) ≤ zeroCost (p .q) (take (windowLength p) (drop (j * p .n) residual))
+  one-far : (j : ℕ) → j < T → distancesTo (p .n) (p .k) (p .m) ≤ zeroCost (p .q) (windowAt p residual j)
       → Compared p T residual false

@@ -14,23 +14,23 @@ use Rattle.line.proofs.answer_line.Statement.{statement}
 use Rattle.line.proofs.answer_line.Tie as tie
 
 -- Stages of the call, each from a later one.
-abbrev entry-of-holds-frame : tie.After-holds-frame → tie.Start
-entry-of-holds-frame c = c .before .before .before .before .before .before
+abbrev entry-of-first-questions : tie.After-first-questions → tie.Start
+entry-of-first-questions c = c .before .before .before .before .before .before
 
 abbrev before-else2 : tie.Else2 → tie.Else1
 before-else2 c = c .before .before
 
-abbrev before-end : tie.After-slice-known5 → tie.After-holds-frame
+abbrev before-end : tie.After-slice-known5 → tie.After-first-questions
 before-end c = c .before .before .before .before .before .before
 
 abbrev entry-of-end : tie.After-slice-known5 → tie.Start
-entry-of-end c = entry-of-holds-frame (before-end c)
+entry-of-end c = entry-of-first-questions (before-end c)
 
 abbrev before-decode-line : tie.After-decode-line → tie.Else2
 before-decode-line c = c .before .before .before .before
 
 abbrev entry-of-decode-line : tie.After-decode-line → tie.Start
-entry-of-decode-line c = entry-of-holds-frame (before-decode-line c .before .before .before .before)
+entry-of-decode-line c = entry-of-first-questions (before-decode-line c .before .before .before .before)
 
 abbrev before-write-answer-call : tie.After-write-answer-arg2 → tie.After-decode-line
 before-write-answer-call c = c .before .before .before .before .before .before .before .before
@@ -44,7 +44,7 @@ before-end-3 c = c .before .before .before .before .before .before .before .befo
 returns : tie.Need-returns
 returns c =
     let line = now (entry-of-end c .args .line) in
-    let asked = before-end c .holds-frame in
+    let asked = before-end c .first-questions in
     no-frame (λ z. c .before .before .before .before .if1 .taken (ap (λ a. a .number) (asked .ensures) ∙ z))
     (record {
       text = _;
@@ -54,8 +54,8 @@ returns c =
     }) refl
 
 -- The line holds a frame.
-holds : (c : tie.Else1) → HoldsFrame (now (entry-of-holds-frame (c .before .before) .args .line))
-holds c = ap (λ a. a .number) (sym (c .before .before .holds-frame .ensures)) ∙ c .if1 .left
+holds : (c : tie.Else1) → HoldsFrame (now (entry-of-first-questions (c .before .before) .args .line))
+holds c = ap (λ a. a .number) (sym (c .before .before .first-questions .ensures)) ∙ c .if1 .left
 
 has-room-requires : tie.Need-has-room-requires
 has-room-requires c κs = holds c
@@ -64,10 +64,10 @@ returns-2 : tie.Need-returns-2
 returns-2 c = no-room (holds (c .before .before)) (sym (c .before .has-room .ensures) ∙ not-true _ (c .if2 .taken)) refl refl refl
 
 -- Its frame has room.
-room : (c : tie.Else2) → roomIn (now (entry-of-holds-frame (c .before .before .before .before) .args .line))
-    (lineAreas (now (entry-of-holds-frame (c .before .before .before .before) .args .reception))
-    (now (entry-of-holds-frame (c .before .before .before .before) .args .message))
-    (now (entry-of-holds-frame (c .before .before .before .before) .args .transmission))) ≡ true
+room : (c : tie.Else2) → roomIn (now (entry-of-first-questions (c .before .before .before .before) .args .line))
+    (lineAreas (now (entry-of-first-questions (c .before .before .before .before) .args .reception))
+    (now (entry-of-first-questions (c .before .before .before .before) .args .message))
+    (now (entry-of-first-questions (c .before .before .before .before) .args .transmission))) ≡ true
 room c = sym (c .before .has-room .ensures) ∙ not-false _ (c .if2 .left)
 
 decode-line-requires : tie.Need-decode-line-requires

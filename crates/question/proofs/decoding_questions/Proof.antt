@@ -7,8 +7,7 @@ use lib.ListN.{length, drop}
 use borrow.Author.Tests.{eq-eqb, ne-eqb, le-leb, lt-leb}
 use Rattle.code.specs.Settings.{settingOf}
 use Rattle.question.specs.Questions.{answer, frameQuestions, decodingQuestions}
-use Rattle.question.proofs.Questions.{Left, left-yes, says-no, says-yes, first-says-no, after-frame, decodingLater, FrameYes, frame-yes}
-use Rattle.question.proofs.Questions.{frame-of-setting, Frame, message-most, transmission-most}
+use Rattle.question.proofs.Questions.{Left, left-yes, says-no, says-yes, first-says-no, after-frame, decodingLater, FrameYes, frame-yes, frame-of-setting, FrameShape, message-most, transmission-most}
 use Rattle.question.proofs.decoding_questions.Statement.{statement}
 use Rattle.question.proofs.decoding_questions.Tie as tie
 
@@ -26,7 +25,7 @@ returns c =
 asked : (c : tie.Else1) → FrameYes (c .before .before .before .before .args .number) (length (now (c .before .before .before .before .args .reception)))
 asked c = frame-yes _ _ (c .before .before .frame-questions .ensures) (c .if1 .left)
 
-frame : (c : tie.After-setting-of) → Frame (c .setting-of .result) (length (now (entry-of-setting-of c .args .reception)))
+frame : (c : tie.After-setting-of) → FrameShape (c .setting-of .result) (length (now (entry-of-setting-of c .args .reception)))
 frame c = frame-of-setting (asked (c .before)) (c .setting-of .ensures)
 
 -- What is left after questions 1 to 3 and some more, over the setting in hand.

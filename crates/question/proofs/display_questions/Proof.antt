@@ -3,8 +3,7 @@ use native.Mathlib.Omega.{arith}
 use borrow.Author.Tests.{lt-ltb, le-ltb}
 use Rattle.code.specs.Settings.{settingOf}
 use Rattle.question.specs.Questions.{frameQuestions, displayQuestions}
-use Rattle.question.proofs.Questions.{Left, left-yes, says-no, says-yes, first-says-no, after-frame, displayLater, FrameYes, frame-yes}
-use Rattle.question.proofs.Questions.{frame-of-setting, Frame}
+use Rattle.question.proofs.Questions.{Left, left-yes, says-no, says-yes, first-says-no, after-frame, displayLater, FrameYes, frame-yes, frame-of-setting, FrameShape}
 use Rattle.question.proofs.display_questions.Statement.{statement}
 use Rattle.question.proofs.display_questions.Tie as tie
 
@@ -17,7 +16,7 @@ returns c =
 asked : (c : tie.Else1) → FrameYes (c .before .before .before .args .number) (c .before .before .before .args .long)
 asked c = frame-yes _ _ (c .before .before .frame-questions .ensures) (c .if1 .left)
 
-frame : (c : tie.After-setting-of) → Frame (c .setting-of .result) (c .before .before .before .before .args .long)
+frame : (c : tie.After-setting-of) → FrameShape (c .setting-of .result) (c .before .before .before .before .args .long)
 frame c = frame-of-setting (asked (c .before)) (c .setting-of .ensures)
 
 -- What is left of the questions, over the setting in hand.

@@ -1,5 +1,5 @@
 -- The tables of a setting: the generator as 01 keeps it and its rows one after the other.
--- Holds: `generatorOf`, `generatorRow`, `rowsLength`; the limits `mostRows`, `longestBlock`, `Narrow`; `RowsOf`, `Ready`.
+-- Holds: `generatorOf`, `generatorRow`, `rowsLength`; the limits `longestRows`, `longestBlock`, `Narrow`; `RowsOf`, `Ready`.
 use mathlib.Core.Path.{_≡_}
 use mathlib.Core.List.{List, []}
 use Prim.Native.Nat.{ℕ, _+_, _*_, _≤_, _<_}
@@ -24,15 +24,15 @@ abbrev pub rowsLength : Setting → ℕ
 rowsLength p = (p .m + 1) * p .k * p .n
 
 -- The most symbols of any setting's rows, and of a block.
-abbrev pub mostRows : ℕ
-mostRows = largest rowsLength settings
+abbrev pub longestRows : ℕ
+longestRows = largest rowsLength settings
 
 abbrev pub longestBlock : ℕ
 longestBlock = largest (λ p. p .n) settings
 
 -- A setting whose rows and blocks have room in the areas that a call makes: every setting so far.
 pub record Narrow (p : Setting) : Type 0 where
-  pub rows : rowsLength p ≤ mostRows
+  pub rows : rowsLength p ≤ longestRows
   pub block : p .n ≤ longestBlock
 
 -- The rows stand one after the other at the front of an area: symbol i of row r of G_j at ((j k) + r) n + i.

@@ -6,7 +6,7 @@ use native.Mathlib.Omega.{arith}
 use borrow.Author.Needs.{needs}
 use denote.Ref.{now}
 use lib.ListN.{length}
-use Rattle.field.proofs.LoopSums.{alpha-below}
+use Rattle.field.proofs.Laws.{alpha-below}
 use Rattle.block.specs.parts.Information.{InformationRead}
 use Rattle.block.proofs.InformationRead.{read-none, read-more}
 use Rattle.block.proofs.information.read.Statement.{statement}

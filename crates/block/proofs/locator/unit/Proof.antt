@@ -7,14 +7,14 @@ use lib.ListN.{set, replicate, length-replicate}
 use lib.Seq.{getD-set-same, getD-set-other}
 use borrow.Author.Needs.{needs}
 use Rattle.area.proofs.Lists.{getD-zeros}
-use Rattle.block.specs.parts.LocatorAreas.{Unit}
+use Rattle.block.specs.parts.LocatorAreas.{UnitSeries}
 use Rattle.block.proofs.locator.unit.Statement.{statement}
 use Rattle.block.proofs.locator.unit.Tie as tie
 
 -- Zeros with a 1 in the first place.
-unit-of : (w : ℕ) (l : List ℕ) → 0 < w → l ≡ replicate w 0 → Unit (set l 0 1)
+unit-of : (w : ℕ) (l : List ℕ) → 0 < w → l ≡ replicate w 0 → UnitSeries (set l 0 1)
 unit-of w l h e =
-    subst (λ (t : List ℕ). Unit (set t 0 1)) (sym e)
+    subst (λ (t : List ℕ). UnitSeries (set t 0 1)) (sym e)
     (record {
       first = getD-set-same (replicate w 0) 0 1 0 (subst (λ (t : ℕ). 0 < t) (sym (length-replicate w 0)) h);
       rest = λ i l. getD-set-other (replicate w 0) 0 i 1 0 (omega arith) ∙ getD-zeros w i;

@@ -6,7 +6,7 @@ use lib.ListN.{length, length-set}
 use Rattle.algebra.specs.Sum.{power}
 use Rattle.field.specs.Fields.{opsOf, alpha}
 use Rattle.field.specs.parts.Operations.{Is}
-use Rattle.field.proofs.LoopSums.{alpha-below}
+use Rattle.field.proofs.Laws.{alpha-below}
 use Rattle.block.specs.parts.Spectrum.{SpectrumOf}
 use Rattle.block.proofs.Spectra.{point-more, spectrum-more}
 use Rattle.block.proofs.spectrum.add_values.Statement.{statement}

@@ -4,7 +4,7 @@ use native.Mathlib.Omega.{arith}
 use denote.Ref.{now}
 use lib.ListN.{length}
 use Rattle.question.proofs.Questions.{WindowYes, marks-yes}
-use Rattle.display.proofs.Display.{Window, window-yes, marked-refused, marked-found}
+use Rattle.display.proofs.Display.{WindowWithin, window-yes, marked-refused, marked-found}
 use Rattle.display.proofs.mark.marks.Statement.{statement}
 use Rattle.display.proofs.mark.marks.Tie as tie
 
@@ -28,7 +28,7 @@ known c =
     (ap (λ a. a .number) (sym (c .before .before .marks-questions .ensures)) ∙ c .if1 .left)
 
 inside : (c : tie.After-setting-of)
-    → let a = entry-of-if1 (c .before .before) .args in Window (c .setting-of .result) (length (now (a .reception))) (a .j)
+    → let a = entry-of-if1 (c .before .before) .args in WindowWithin (c .setting-of .result) (length (now (a .reception))) (a .j)
 inside c = window-yes _ _ _ (c .setting-of .result) (c .setting-of .ensures) (known (c .before) .0)
 
 returns-2 : tie.Need-returns-2

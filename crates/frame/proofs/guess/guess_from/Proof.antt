@@ -50,14 +50,14 @@ loop-holds : tie.Need-loop-holds Inv-loop μ-loop
 loop-holds c = (omega arith, revised-none (c .before .before .before .before .pre .4))
 
 -- The symbol that is taken is there.
-inside : (c : tie.After-taken Inv-loop μ-loop)
+inside : (c : tie.After-symbol-in-turn Inv-loop μ-loop)
     → let a = entry-of-at-loop (c .before .before) .args in
-    a .i * a .p .n + a .first + c .taken .result < length (c .before .before .loop .residual)
+    a .i * a .p .n + a .first + c .symbol-in-turn .result < length (c .before .before .loop .residual)
 inside c =
     let entry = entry-of-at-loop (c .before .before) in
     let a = entry .args in
     let l = c .before .before .loop in
-    omega (arith, block-room (a .p) (a .blocks) (a .i) (l .message) (l .residual) (l .inv .1 .areas) (entry .pre .3), entry .pre .2, c .taken .ensures)
+    omega (arith, block-room (a .p) (a .blocks) (a .i) (l .message) (l .residual) (l .inv .1 .areas) (entry .pre .3), entry .pre .2, c .symbol-in-turn .ensures)
 
 add-multiply : tie.Need-add-multiply Inv-loop μ-loop
 add-multiply c = omega (arith, inside c, entry-of-at-loop (c .before .before) .pre .4, c .before .before .loop .inv .1 .areas)
@@ -74,14 +74,14 @@ multiply-requires c κs =
       entry .pre .0 .products,
       entry .pre .1,
       symbol-below (a .p .q) (l .residual) (l .inv .1 .areas .residual-symbols) (positive (a .p) (entry .pre .0 .sound))
-          (a .i * a .p .n + a .first + c .before .taken .result),
+          (a .i * a .p .n + a .first + c .before .symbol-in-turn .result),
     )
 
 adjust-requires : tie.Need-adjust-requires Inv-loop μ-loop
 adjust-requires c κs =
     let step = c .before .before .before .before in
     let entry = entry-of-adjust-call c in
-    (entry .pre .0, entry .pre .3, step .taken .ensures, c .before .before .multiply .ensures .below, step .before .before .loop .inv .1 .areas)
+    (entry .pre .0, entry .pre .3, step .symbol-in-turn .ensures, c .before .before .multiply .ensures .below, step .before .before .loop .inv .1 .areas)
 
 add-turn : tie.Need-add-turn Inv-loop μ-loop
 add-turn c =

@@ -3,7 +3,7 @@ use native.Mathlib.Omega.{arith}
 use denote.Ref.{now}
 use borrow.Author.Needs.{needs}
 use Rattle.frame.specs.parts.Frame.{none}
-use Rattle.frame.proofs.Settled.{begin}
+use Rattle.frame.proofs.Settled.{settled-begun}
 use Rattle.frame.proofs.Advance.{advance-more, stopped-none}
 use Rattle.frame.proofs.Ends.{frame-compared}
 use Rattle.frame.proofs.reading.read.Statement.{statement}
@@ -48,7 +48,7 @@ read-windows-requires c κs =
       before-copy (before-read-windows-call c) .before .before .distances-to .ensures,
       entry .pre .2,
       entry .pre .3,
-      begin _ (entry .pre .0 .sound) _ _ (now (a .residual)) _ (now (a .message)) _
+      settled-begun _ (entry .pre .0 .sound) _ _ (now (a .residual)) _ (now (a .message)) _
           (entry .pre .3) (entry .pre .2) (entry .pre .4) (before-copy (before-read-windows-call c) .clear .ensures) (entry .pre .5)
           (before-read-windows-call c .copy .ensures .1),
       entry .pre .6,

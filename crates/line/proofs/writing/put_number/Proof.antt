@@ -1,4 +1,4 @@
--- `line::writing::put_number`: the digits come home to their places.
+-- `line::writing::put_number`: the digits stand in their places, behind what was written.
 use denote.Ref.{now}
 use borrow.Author.Needs.{needs}
 use Rattle.line.proofs.Placed.{placed-number}

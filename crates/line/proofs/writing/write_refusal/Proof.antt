@@ -6,7 +6,7 @@ use denote.Ref.{now}
 use lib.ListN.{length}
 use borrow.Author.Needs.{needs}
 use Rattle.line.specs.Answering.{refusal}
-use Rattle.line.proofs.Placed.{placed-none, shown-whole, shown-none, two, six}
+use Rattle.line.proofs.Placed.{placed-none, shown-whole, shown-none, number-long, refusal-long}
 use Rattle.line.proofs.writing.write_refusal.Statement.{statement}
 use Rattle.line.proofs.writing.write_refusal.Tie as tie
 
@@ -18,14 +18,14 @@ returns : tie.Need-returns
 returns c =
     let answer = c .before .before .args .answer in
     let before = now (c .before .before .args .output) in
-    let small : length before < length (refusal answer) = omega (arith, c .if1 .taken, six (answer .number) (answer .place)) in
+    let small : length before < length (refusal answer) = omega (arith, c .if1 .taken, refusal-long (answer .number) (answer .place)) in
     shown-none (refusal answer) before small
 
 returns-2 : tie.Need-returns-2
 returns-2 c =
     let number = before-end-2 c .put-number .ensures .behind refl (placed-none _) in
-    let place = c .before .before .put-number2 .ensures .behind (two _) number in
-    shown-whole _ _ _ 6 (six _ _) place
+    let place = c .before .before .put-number2 .ensures .behind (number-long _) number in
+    shown-whole _ _ _ 6 (refusal-long _ _) place
 
 pub write-refusal-spec : {M : Type 1} → statement M
 write-refusal-spec = tie.close (tie.spec returns (search needs) (search needs) (search needs) (search needs) returns-2)

@@ -7,7 +7,7 @@ use borrow.Author.Needs.{needs}
 use Rattle.code.specs.declared.Setting.{Setting}
 use Rattle.code.specs.parts.Sound.{Sound}
 use Rattle.code.proofs.Settings.{soundOf, sizes}
-use Rattle.tables.specs.parts.Rows.{rowsLength, mostRows, longestBlock}
+use Rattle.tables.specs.parts.Rows.{rowsLength, longestRows, longestBlock}
 use Rattle.tables.proofs.Lending.{readyOf}
 use Rattle.link.proofs.decode.decode_frame.Statement.{statement}
 use Rattle.link.proofs.decode.decode_frame.Tie as tie
@@ -38,7 +38,7 @@ products-requires c κs = sound (c .before .before .before) .good
 rows-requires : tie.Need-rows-requires
 rows-requires c κs =
     let known = entry-of-rows c .pre in
-    (known .0, subst (λ (p : Setting). rowsLength p ≤ mostRows) (known .1) (known .2 .rows))
+    (known .0, subst (λ (p : Setting). rowsLength p ≤ longestRows) (known .1) (known .2 .rows))
 
 add-room : tie.Need-add-room
 add-room c = let entry = entry-of-rows (c .before .before .before) in omega (arith, sizes (entry .args .p) (sound entry) .symbols-most)

@@ -6,7 +6,7 @@ use borrow.Author.Needs.{needs}
 use Rattle.code.specs.declared.Setting.{Setting}
 use Rattle.code.specs.parts.Sound.{Sound}
 use Rattle.code.proofs.Settings.{soundOf}
-use Rattle.tables.specs.parts.Rows.{rowsLength, mostRows}
+use Rattle.tables.specs.parts.Rows.{rowsLength, longestRows}
 use Rattle.tables.proofs.Lending.{readyOf}
 use Rattle.link.proofs.encode.encode_frame.Statement.{statement}
 use Rattle.link.proofs.encode.encode_frame.Tie as tie
@@ -31,7 +31,7 @@ products-requires c κs = sound (entry-of-rows2 (c .before)) .good
 rows-requires : tie.Need-rows-requires
 rows-requires c κs =
     let known = c .before .before .before .pre in
-    (known .0, subst (λ (p : Setting). rowsLength p ≤ mostRows) (known .1) (known .2 .rows))
+    (known .0, subst (λ (p : Setting). rowsLength p ≤ longestRows) (known .1) (known .2 .rows))
 
 send-requires : tie.Need-send-requires
 send-requires c κs =

@@ -4,7 +4,7 @@ use Prim.Native.Nat.{ℕ, _-_, _≤_, _<_}
 use native.Mathlib.Omega.{arith}
 use denote.Ref.{now}
 use lib.ListN.{length}
-use Rattle.field.proofs.LoopSums.{zero-below}
+use Rattle.field.proofs.Laws.{zero-below}
 use Rattle.field.proofs.Symbols.{symbol-below}
 use Rattle.tables.specs.parts.RowsAdded.{MultipleAdded}
 use Rattle.tables.proofs.RowsAdded.{multiple-none, multiple-more}

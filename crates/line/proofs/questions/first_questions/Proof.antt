@@ -1,11 +1,11 @@
--- `line::questions::holds_frame` asks 11 and 9, then 1, 3 and 10.
+-- `line::questions::first_questions` asks 11 and 9, then 1, 3 and 10.
 use mathlib.Core.Path.{sym, _∙_}
 use denote.Ref.{now}
 use Rattle.question.proofs.Questions.{first-says-no, first-left}
 use Rattle.line.specs.Questions.{characterQuestions, headQuestions}
 use Rattle.line.proofs.Asked.{characters-least}
-use Rattle.line.proofs.questions.holds_frame.Statement.{statement}
-use Rattle.line.proofs.questions.holds_frame.Tie as tie
+use Rattle.line.proofs.questions.first_questions.Statement.{statement}
+use Rattle.line.proofs.questions.first_questions.Tie as tie
 
 -- Stages of the call, each from a later one.
 abbrev entry-of-head-questions : tie.After-head-questions → tie.Start
@@ -26,5 +26,5 @@ returns-2 c =
     c .head-questions .ensures
     ∙ sym (first-left (characterQuestions line) (headQuestions line) (c .before .before .before .character-questions .ensures) tt (c .before .if1 .left) .same)
 
-pub holds-frame-spec : {M : Type 1} → statement M
-holds-frame-spec = tie.close (tie.spec (λ c κs. tt) returns head-questions-requires returns-2)
+pub first-questions-spec : {M : Type 1} → statement M
+first-questions-spec = tie.close (tie.spec (λ c κs. tt) returns head-questions-requires returns-2)
