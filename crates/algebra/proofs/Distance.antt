@@ -21,7 +21,8 @@ use Rattle.algebra.proofs.Laws.{Field, Tested, is-zero, non-zero, mul-z
 use Rattle.algebra.proofs.HasOrder.{HasOrder}
 use Rattle.algebra.proofs.Sums.{sum-zeros, sum-single}
 use Rattle.algebra.proofs.Powers.{power-add, power-nonzero, root-nonzero}
-use Rattle.algebra.proofs.Polynomials.{valueOf-ext, valueOf-short, valueOf-sub, valueOf-twist, In, here, there, value-at-root, value-off-roots, length-fromRoots}
+use Rattle.algebra.proofs.Polynomials.{valueOf-ext, valueOf-short, valueOf-sub, valueOf-twist, In, here, there, value-at-root, value-off-roots}
+use Rattle.algebra.proofs.Polynomials.{length-fromRoots}
 use Rattle.algebra.proofs.Pairing.{pairing}
 use Rattle.algebra.proofs.Weights.{countOf-ext, countOf-le, countOf-without, weight-short, zero-test, nonzero-test}
 

@@ -25,7 +25,8 @@ use Rattle.code.specs.parts.Sound.{Sound}
 use Rattle.code.proofs.Certainty.{weight-apart}
 use Rattle.code.proofs.Cost.{cost-same, byteCost, bytes-apart}
 use Rattle.code.proofs.Recovery.{recovered-step}
-use Rattle.code.proofs.CodeBelow.{laws, fieldOf, rootOf, orderAt, overField, lifted, timesG-number, combination-number, ending-number, received, received-number, value-number}
+use Rattle.code.proofs.CodeBelow.{laws, fieldOf, rootOf, orderAt, overField, lifted, timesG-number, combination-number, ending-number, received}
+use Rattle.code.proofs.CodeBelow.{received-number, value-number}
 use Rattle.code.proofs.Settings.{level-fits, information-fits}
 use Rattle.block.specs.parts.Locator.{Located, Extended}
 use Rattle.block.specs.parts.LocatorAreas.{LocatorFound}

@@ -17,7 +17,8 @@ use Rattle.algebra.proofs.Laws.{Field, mul-zero, mul-comm, ring}
 use Rattle.algebra.proofs.HasOrder.{HasOrder}
 use Rattle.algebra.proofs.Sums.{sum-ext, sum-scale, sum-zeros, sum-single}
 use Rattle.algebra.proofs.Powers.{power-add, power-power, power-wraps}
-use Rattle.algebra.proofs.Polynomials.{valueOf-ext, valueOf-short, valueOf-scale, valueOf-twist, valueOf-of-sum, valueOf-is-sum, value-is-valueOf, value-shift, value-at-root, value-off-roots, length-fromRoots, In, here, there}
+use Rattle.algebra.proofs.Polynomials.{valueOf-ext, valueOf-short, valueOf-scale, valueOf-twist, valueOf-of-sum, valueOf-is-sum, value-is-valueOf}
+use Rattle.algebra.proofs.Polynomials.{value-shift, value-at-root, value-off-roots, length-fromRoots, In, here, there}
 use Rattle.code.specs.Code.{Code}
 use Rattle.code.specs.Generator.{points, generatorPolynomial, rowSymbol, timesG}
 use Rattle.code.specs.Level.{combination}

@@ -1,5 +1,6 @@
 -- The bridge for the code (see algebra/proofs/Below): what a setting's definitions give on numbers below q is what the abstract code gives on elements.
--- Holds: `transmission-long`; `fieldOf`, `rootOf`, `orderAt`, `overField`, `number-zero`, `number-sub`, `root-number`, `mapped-code`, `lifted`;
+-- Holds: `transmission-long`; of the field: `laws`, `positive`, `fieldOf`, `rootOf`, `orderAt`, `overField`, `keeps`, `number-zero`, `number-sub`,
+-- `root-number`, `mapped-code`; of information: `lifted`, `number-lifted`, `lifted-same`, `message-below`, `message-blocks`; of symbols:
 -- `sent-number`, `timesG-number`, `combination-number`, `ending-number`, `received`, `received-number`, `value-number`, `rowSymbol-number`,
 -- `rowSymbol-below`; `transmission-view`, `transmission-length`, `sent-below`, `transmission-symbols`.
 use mathlib.Core.Path.{_≡_, sym, ap, ap₂, subst, fun-ext, _∙_}

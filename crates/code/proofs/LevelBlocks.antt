@@ -26,7 +26,8 @@ use Rattle.code.proofs.Blocks.{combination-vanishes}
 use Rattle.code.proofs.LevelCode.{informationOf, level-code}
 use Rattle.code.proofs.Naturality.{combination-natural}
 use Rattle.code.proofs.Settings.{soundOf, level-fits}
-use Rattle.code.proofs.CodeBelow.{laws, fieldOf, rootOf, orderAt, overField, keeps, number-zero, mapped-code, lifted, combination-number, received, received-number, value-number}
+use Rattle.code.proofs.CodeBelow.{laws, fieldOf, rootOf, orderAt, overField, keeps, number-zero, mapped-code, lifted, combination-number, received}
+use Rattle.code.proofs.CodeBelow.{received-number, value-number}
 
 module _ (p : Setting) (S : Sound p) (l : ℕ) (fits : (l + 1) * p .k ≤ p .n) (block : List ℕ) (long : length block ≡ p .n) (symbols : Symbols (p .q) block) where
   vanishes-over : Vanishes p l block → (s : ℕ) → s < p .n - (l + 1) * p .k

@@ -25,7 +25,8 @@ use Rattle.code.specs.parts.Residual.{IsResidual}
 use Rattle.code.proofs.Blocks.{timesG-ext}
 use Rattle.code.proofs.Differences.{sent-sub, sent-zeros}
 use Rattle.code.proofs.Window.{contribution, single, sent-single}
-use Rattle.code.proofs.CodeBelow.{laws, positive, fieldOf, rootOf, overField, keeps, number-zero, number-sub, lifted, number-lifted, sent-number, timesG-number, rowSymbol-number}
+use Rattle.code.proofs.CodeBelow.{laws, positive, fieldOf, rootOf, overField, keeps, number-zero, number-sub, lifted, number-lifted, sent-number}
+use Rattle.code.proofs.CodeBelow.{timesG-number, rowSymbol-number}
 
 module _ (p : Setting) (S : Sound p) where
   -- The same information blocks send the same symbols, over any field: only symbols below k count.

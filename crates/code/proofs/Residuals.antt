@@ -27,7 +27,8 @@ use Rattle.code.specs.parts.InformationBlocks.{BlocksBelow}
 use Rattle.code.specs.parts.Residual.{IsResidual}
 use Rattle.code.proofs.Blocks.{combination-ext}
 use Rattle.code.proofs.Differences.{sent-sub, sent-ahead}
-use Rattle.code.proofs.CodeBelow.{laws, positive, fieldOf, rootOf, overField, keeps, number-zero, number-sub, lifted, number-lifted, sent-number, combination-number, message-below, sent-below}
+use Rattle.code.proofs.CodeBelow.{laws, positive, fieldOf, rootOf, overField, keeps, number-zero, number-sub, lifted, number-lifted, sent-number}
+use Rattle.code.proofs.CodeBelow.{combination-number, message-below, sent-below}
 use Rattle.code.proofs.Cost.{cost-shift}
 use Rattle.code.proofs.WindowBelow.{zero-cost}
 

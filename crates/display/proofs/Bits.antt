@@ -1,5 +1,5 @@
 -- Marks as bits of a number. Holds: `bit-inside` and `bit-past` (bit i of the number is the test at i for i < n, and 0 from n on), `bits-small`,
--- `bits-front` (one more test before the others), `ones-bits` (as many ones as tests that hold).
+-- `bits-front` (one more test before the others), `bits-more`, `bits-whole` (as a loop makes them), `ones-bits` (as many ones as tests that hold).
 use mathlib.Core.Path.{_≡_, refl, sym, ap, ap₂, fun-ext, _∙_}
 use mathlib.Core.Bool.{Bool}
 use Prim.Native.Nat.{ℕ, zero, suc, _+_, _-_, _*_, _/_, _%_, _^_, _≤_, _<_}

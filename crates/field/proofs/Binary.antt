@@ -5,7 +5,8 @@ use mathlib.Core.Path.{_≡_, refl, sym, ap, ap₂, _∙_}
 use mathlib.Core.Bool.{Bool, true, false}
 use mathlib.Core.List.{List}
 use Prim.Native.Nat.{ℕ, zero, suc, _*_, _/_, _%_, _^_, _<_, _≤_}
-use native.Mathlib.Nat.{div-add-mod', mod-lt, zero-mul, one-mul, not-suc-le-zero, le-of-suc-le-suc, div-eq-of-lt, div-eq-of-lt-le, div-lt-iff-lt-mul, pow-suc, lt-of-lt-of-le, le-refl}
+use native.Mathlib.Nat.{div-add-mod', mod-lt, zero-mul, one-mul, not-suc-le-zero, le-of-suc-le-suc, div-eq-of-lt, div-eq-of-lt-le, div-lt-iff-lt-mul, pow-suc}
+use native.Mathlib.Nat.{lt-of-lt-of-le, le-refl}
 use native.Mathlib.Omega.{arith}
 use lib.Arith.{lt-one}
 use lib.Pow.{pow-pos, pow-mono}
@@ -17,7 +18,8 @@ use Rattle.algebra.specs.Sum.{sum}
 use Rattle.algebra.proofs.Below.{FieldBelow, OrderBelow}
 use Rattle.field.specs.Binary.{timesAlpha, timesBits, binary}
 use Rattle.field.proofs.Xor.{xor-assoc, xor-swap, xor-double}
-use Rattle.field.proofs.FromPowers.{Addition, Doubling, Listed, Generated, productOf, field-with, order-with, product-nought, product-one, product-comm, product-distributes-right, product-double, one-below}
+use Rattle.field.proofs.FromPowers.{Addition, Doubling, Listed, Generated, productOf, field-with, order-with, product-nought, product-one}
+use Rattle.field.proofs.FromPowers.{product-comm, product-distributes-right, product-double, one-below}
 
 pub binary-addition : (w : ℕ) → Addition (2 ^ w) bitXor (λ a. a)
 binary-addition w =

@@ -1,7 +1,7 @@
 -- What the code returns in each branch is the symbol that the field's operation gives.
 -- Holds: `sum-modulo`, `sum-modulo-less`, `sum-xor`; `negative-modulo`, `negative-of-zero`, `negative-same`;
--- `product-listed`; `is-inverse`; `good-small`, q is at most 256; `good-listed`, q is at most 8; `eight-else`, q is 8 where it is not 5; `products-by-test`, a
--- table's rule over all pairs by one computed test.
+-- `product-listed`; `inverse-start`, `is-inverse`; `good-small`, q is at most 256; `good-listed`, q is at most 8; `eight-else`, q is 8 where it is not 5;
+-- `products-by-test`, a table's rule over all pairs by one computed test.
 use mathlib.Core.Path.{_≡_, refl, sym, _∙_, subst}
 use mathlib.Core.List.{List, []}
 use Prim.Native.Nat.{ℕ, _+_, _-_, _%_, _<_, _≤_}

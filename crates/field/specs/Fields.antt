@@ -1,6 +1,6 @@
 -- The two fields of 01 ("Two fields and three settings") and the field with q elements, q chosen at run time.
--- Holds: `five`, `eightPolynomial`, `eight`, `alpha`, `fieldPart`, `opsOf` (the field with q elements); 01's list of the powers of α,
--- computed.
+-- Holds: `five`, `eightPolynomial`, `eight`, `alpha`, `fieldPart`, `opsOf` (the field with q elements); 01's lists of the powers of α,
+-- computed (`powers-of-five`, `powers-of-eight`).
 use mathlib.Core.Path.{_≡_, refl}
 use mathlib.Core.List.{[], _∷_, map}
 use Prim.Native.Nat.{ℕ}

@@ -1,6 +1,6 @@
 -- Changes of the guessed message, and the residual after them.
--- Holds: `window-room`, `symbol-room`, `block-room`, `blocks-few`; `revised-none`, `revised-then`; `adjusted`; `Adding` (the first r symbols of a
--- block were added) and its steps; `added-past`, `added-zero`, `added-then`.
+-- Holds: `window-room`, `symbol-room`, `block-room`, `blocks-few`; `revised-none`, `revised-then`; `adjusted`, `adjusted-exact`; `Adding` (the first r
+-- symbols of a block were added) and its steps to `adding-all`; `added-past`, `added-zero`, `added-then`.
 use mathlib.Core.Path.{_≡_, refl, sym, ap, ap₂, subst, _∙_}
 use mathlib.Core.Bool.{Bool, true, false}
 use mathlib.Core.List.{List}

@@ -1,5 +1,5 @@
--- What the questions of a line say. Holds: `head-of`, `after-setting` (questions 1, 3 and 10 over the numbers in hand); `characters-least`, `HeadYes`,
--- `head-yes` (a line whose questions got "yes"); `after-head`, `in-head` (question 4 is the last).
+-- What the questions of a line say. Holds: `headLater`, `headOf`, `head-of`, `after-setting` (questions 1, 3 and 10 over the numbers in hand);
+-- `characters-least`, `HeadYes`, `head-yes` (a line whose questions got "yes"); `after-head`, `in-head` (question 4 is the last).
 use mathlib.Core.Path.{_≡_, sym, ap, ap₂, _∙_}
 use mathlib.Core.List.{List, [], _∷_, _++_}
 use Prim.Native.Nat.{ℕ, _+_, _-_, _*_, _≤_}
@@ -11,7 +11,8 @@ use Rattle.code.specs.Settings.{isSetting, settingOf}
 use Rattle.question.specs.declared.Answer.{Answer}
 use Rattle.question.specs.Questions.{Question, ask, firstNo, mostBlocks, symbolQuestion}
 use Rattle.question.proofs.Questions.{Left, all-yes, append-yes, append-no, after-first}
-use Rattle.line.specs.Questions.{settingIn, blocksIn, symbolsIn, digitsTo, mostCharacters, characterQuestions, lengthQuestion, headQuestions, HoldsFrame, lineQuestions}
+use Rattle.line.specs.Questions.{settingIn, blocksIn, symbolsIn, digitsTo, mostCharacters, characterQuestions, lengthQuestion, headQuestions}
+use Rattle.line.specs.Questions.{HoldsFrame, lineQuestions}
 
 -- Questions 1, 3 and 10 over the setting's number, T and the count of the digits left; 3 and 10 over the setting.
 abbrev pub headLater : ℕ → ℕ → Setting → List Question

@@ -1,4 +1,4 @@
--- Numbers in digits, as a loop writes them from the last place back. Holds: `length-hex`, `hex-step`, `hex-back`, `hex-all`.
+-- Numbers in digits, as a loop writes them from the last place back. Holds: `length-hex`, `hex-start`, `hex-step`, `hex-back`, `hex-all`.
 use mathlib.Core.Path.{_≡_, refl, sym, ap, ap₂, subst, _∙_}
 use mathlib.Core.List.{List, [], _∷_, _++_, append-assoc, append-nil}
 use Prim.Native.Nat.{ℕ, zero, suc, _-_, _/_, _%_, _≤_, _<_}

@@ -1,6 +1,6 @@
 -- From what reading a frame promises to what decoding promises.
--- Holds: `restored-none`, `restored-more`; `frame-decoded-found`, `frame-decoded-none`; `Receiving`, `receiving`; `decoded-refused`,
--- `decoded-asked`.
+-- Holds: `restored-none`, `restored-more`; `frame-residual-symbols`, `frame-residual-long`, `frame-decoded-found`, `frame-decoded-none`; `Receiving`,
+-- `receiving`; `decoded-refused`, `decoded-asked`.
 use mathlib.Core.Path.{_≡_, refl, sym, ap, subst, _∙_}
 use mathlib.Core.Bool.{Bool, true, false, not}
 use mathlib.Core.List.{List, _++_}

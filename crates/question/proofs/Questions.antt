@@ -1,10 +1,12 @@
 -- What the first "no" of a list of questions says, and what a call knows when every answer was "yes".
--- Holds: `true-of`; `first-yes`, `first-no` (one question), `append-yes`, `append-no` (a list of questions before others), `all-yes`, `yes-all` (number 0
--- says that every answer was "yes"); `Left`, `left-all`, `left-yes`, `says-no`, `says-yes`, `first-says-no`, `first-left`, `after-first`, `after-frame` (a
--- call that asks in order), `setting-known`, `setting-sizes`; `Searched`, `searched-none`, `searched-more`, `searched-stop`, `searched-all` (question 4, as
--- a loop asks it), `map-same`, `symbolsTo-whole`, `whole-symbols`; `FrameShape`; `FrameYes`, `DecodingYes`, `EncodingYes`, `WindowYes` and `frame-yes`,
--- `frame-of-setting`, `decoding-yes`, `encoding-yes`, `display-yes`, `marks-yes`; `message-most`, `transmission-most`, `transmission-small`, `window-small`
--- (the areas' sizes).
+-- Holds: of one question `first-yes`, `first-no`; of a list before others `append-yes`, `append-no`; `numbered`, `AllYes`, `all-yes`, `yes-all` (number 0
+-- says that every answer was "yes"), `true-of`;
+-- of each call what it asks over the setting in hand, `frameLater`, `decodingLater`, `encodingLater`, `displayLater`;
+-- of a call that asks in order `Left`, `left-all`, `left-yes`, `says-no`, `says-yes`, `first-says-no`, `first-left`, `after-first`, `after-frame`,
+-- `setting-known`, `setting-sizes`;
+-- of question 4, as a loop asks it, `Searched`, `searched-none`, `searched-more`, `searched-stop`, `searched-all`, `map-same`, `symbolsTo-whole`,
+-- `whole-symbols`; what a call knows, `FrameShape`, `frame-of-setting`, `FrameYes`, `DecodingYes`, `EncodingYes`, `WindowYes`, `frame-yes`, `decoding-yes`,
+-- `encoding-yes`, `display-yes`, `marks-yes`; the areas' sizes, `message-most`, `transmission-most`, `transmission-small`, `window-small`.
 use mathlib.Core.Path.{_≡_, refl, sym, ap, subst, _∙_}
 use mathlib.Core.Bool.{Bool, true, false, not, _&&_}
 use mathlib.Core.List.{List, [], _∷_, _++_, map}
@@ -25,7 +27,8 @@ use Rattle.code.specs.Settings.{isSetting, settingOf}
 use Rattle.code.specs.Windows.{windowLength, Message}
 use Rattle.code.proofs.Settings.{largestOf, Sizes, sizesOf}
 use Rattle.question.specs.declared.Answer.{Answer}
-use Rattle.question.specs.Questions.{Question, ask, answer, symbolQuestion, transmissionQuestion, firstNo, mostBlocks, mostSymbols, mostInformation, blocksOf, symbolsTo, frameQuestions, decodingQuestions, encodingQuestions, displayQuestions, marksQuestions}
+use Rattle.question.specs.Questions.{Question, ask, answer, symbolQuestion, transmissionQuestion, firstNo, mostBlocks, mostSymbols, mostInformation}
+use Rattle.question.specs.Questions.{blocksOf, symbolsTo, frameQuestions, decodingQuestions, encodingQuestions, displayQuestions, marksQuestions}
 
 pub true-of : (t : Bool) → Passes t → t ≡ true
 true-of true h = refl

@@ -7,7 +7,8 @@ use lib.ListN.{length, drop}
 use borrow.Author.Tests.{eq-eqb, ne-eqb, le-leb, lt-leb}
 use Rattle.code.specs.Settings.{settingOf}
 use Rattle.question.specs.Questions.{answer, frameQuestions, decodingQuestions}
-use Rattle.question.proofs.Questions.{Left, left-yes, says-no, says-yes, first-says-no, after-frame, decodingLater, FrameYes, frame-yes, frame-of-setting, FrameShape, message-most, transmission-most}
+use Rattle.question.proofs.Questions.{Left, left-yes, says-no, says-yes, first-says-no, after-frame, decodingLater, FrameYes, frame-yes}
+use Rattle.question.proofs.Questions.{frame-of-setting, FrameShape, message-most, transmission-most}
 use Rattle.question.proofs.decoding_questions.Statement.{statement}
 use Rattle.question.proofs.decoding_questions.Tie as tie
 

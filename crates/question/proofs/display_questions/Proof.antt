@@ -3,7 +3,8 @@ use native.Mathlib.Omega.{arith}
 use borrow.Author.Tests.{lt-ltb, le-ltb}
 use Rattle.code.specs.Settings.{settingOf}
 use Rattle.question.specs.Questions.{frameQuestions, displayQuestions}
-use Rattle.question.proofs.Questions.{Left, left-yes, says-no, says-yes, first-says-no, after-frame, displayLater, FrameYes, frame-yes, frame-of-setting, FrameShape}
+use Rattle.question.proofs.Questions.{Left, left-yes, says-no, says-yes, first-says-no, after-frame, displayLater, FrameYes, frame-yes}
+use Rattle.question.proofs.Questions.{frame-of-setting, FrameShape}
 use Rattle.question.proofs.display_questions.Statement.{statement}
 use Rattle.question.proofs.display_questions.Tie as tie
 

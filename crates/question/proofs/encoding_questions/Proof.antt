@@ -10,7 +10,8 @@ use borrow.Author.Tests.{eq-eqb, ne-eqb, le-leb, lt-leb, not-true}
 use Rattle.code.specs.Settings.{isSetting}
 use Rattle.code.proofs.Settings.{Sizes}
 use Rattle.question.specs.Questions.{Question, answer, encodingQuestions}
-use Rattle.question.proofs.Questions.{Left, left-all, left-yes, says-no, says-yes, after-first, encodingLater, setting-known, setting-sizes, transmission-most}
+use Rattle.question.proofs.Questions.{Left, left-all, left-yes, says-no, says-yes, after-first, encodingLater, setting-known, setting-sizes}
+use Rattle.question.proofs.Questions.{transmission-most}
 use Rattle.question.proofs.encoding_questions.Statement.{statement}
 use Rattle.question.proofs.encoding_questions.Tie as tie
 

@@ -1,12 +1,13 @@
 -- `line::questions::character_questions` asks 11, then 9.
 use mathlib.Core.Path.{sym, ap, _∙_}
-use Prim.Native.Nat.{ℕ}
+use Prim.Native.Nat.{ℕ, _<_}
+use native.Mathlib.Omega.{arith}
 use borrow.Author.Tests.{le-leb, lt-leb, eq-eqb, ne-eqb}
 use denote.Ref.{now}
-use lib.ListN.{drop}
+use lib.ListN.{length, drop}
 use Rattle.question.specs.Questions.{answer}
 use Rattle.question.proofs.Questions.{Left, left-all, left-yes, says-no, says-yes}
-use Rattle.line.specs.Questions.{characterQuestions}
+use Rattle.line.specs.Questions.{mostCharacters, characterQuestions}
 use Rattle.line.proofs.questions.character_questions.Statement.{statement}
 use Rattle.line.proofs.questions.character_questions.Tie as tie
 
@@ -17,7 +18,10 @@ none : (c : tie.Start) → After c 0
 none c = left-all (characterQuestions (now (c .args .line)))
 
 returns : tie.Need-returns
-returns c = says-no (none (c .before .before .before)) (lt-leb _ _ (c .before .if1 .taken)) (c .no .ensures)
+returns c =
+    let line = now (c .before .before .before .args .line) in
+    let more : mostCharacters < length line = omega (arith, c .before .if1 .taken) in
+    says-no (none (c .before .before .before)) (lt-leb (length line) mostCharacters more) (c .no .ensures)
 
 eleven : (c : tie.Else1) → After (c .before .before) 1
 eleven c = left-yes (none (c .before .before)) (le-leb _ _ (c .if1 .left))
