@@ -102,7 +102,7 @@ pub fn repair(
     requires { ⌜ Ready p (now products) (now rows) × (length (now block) ≡ p .n) × Symbols (p .q) (now block) × (l ≤ p .m) × BlockAreas p (now series) (now locator) (now values) (now information) ⌝ }
     ensures { λ r. ⌜ Step p l (now (block .entry)) (now (information .exit)) r ⌝ }
 {
-    let distance = p.n - (l + 1) * p.k + 1;
+    let distance = code::level_distance(p, l);
     let start = begin(p, products, block, l, series, locator, values, information);
     if distance <= 2 * start.degree {
         return false;

@@ -2,7 +2,7 @@
 ghost use mathlib.Core.Path.{_≡_};
 ghost use Prim.Native.Nat.{_≤_};
 ghost use lib.Dec.{T as Passes};
-ghost use Rattle.code.specs.Code.{distancesTo};
+ghost use Rattle.code.specs.Code.{levelDistance, distancesTo};
 ghost use Rattle.code.specs.Settings.{isSetting, settingOf};
 ghost use Rattle.code.specs.parts.Sound.{Sound};
 
@@ -54,20 +54,24 @@ pub fn setting_of(number: u64) -> Setting
     }
 }
 
-// d_0 + .. + d_l, the sum of the level codes' distances.
+// d_l = n - (l+1)k + 1, the distance of the level-l code.
+pub fn level_distance(p: Setting, l: usize) -> usize
+    requires { ⌜ Sound p × (l ≤ p .m) ⌝ }
+    ensures { λ r. ⌜ r ≡ levelDistance (p .n) (p .k) l ⌝ }
+{
+    p.n - (l + 1) * p.k + 1
+}
+
+// d_0 + .. + d_l
 pub fn distances_to(p: Setting, l: usize) -> usize
     requires { ⌜ Sound p × (l ≤ p .m) ⌝ }
     ensures { λ r. ⌜ r ≡ distancesTo (p .n) (p .k) l ⌝ }
 {
-    let n = p.n;
-    let k = p.k;
-    let mut zeros = n - k;
-    let mut sum = zeros + 1;
+    let mut sum = level_distance(p, 0);
     let mut i: usize = 0;
     while i < l {
-        zeros -= k;
-        sum += zeros + 1;
         i += 1;
+        sum += level_distance(p, i);
     }
     sum
 }

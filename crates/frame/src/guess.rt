@@ -157,7 +157,7 @@ fn is_light(p: Setting, i: usize, residual: &[u8]) -> bool
 {
     let start = i * p.n;
     let end = start + p.n;
-    let distance = p.n - p.k + 1;
+    let distance = code::level_distance(p, 0);
     super::window::zero_cost(&residual[start..end]) <= distance
 }
 

@@ -9,16 +9,19 @@ use Rattle.block.proofs.repair.Statement.{statement}
 use Rattle.block.proofs.repair.Tie as tie
 
 -- Stages of the call, each from a later one.
-abbrev entry-of-add-distance : tie.After-slice-known4 → tie.Start
-entry-of-add-distance c = c .before .before .before .before .before .before
+abbrev entry-of-level-distance-call : tie.After-slice-known4 → tie.Start
+entry-of-level-distance-call c = c .before .before .before .before .before .before
 
 abbrev entry-of-begin : tie.After-begin → tie.Start
-entry-of-begin c = c .before .before .before .before .before .before .before .before .before .before .before .before .before
+entry-of-begin c = c .before .before .before .before .before .before .before .before .before .before .before .before
 
-abbrev before-if1 : tie.After-struct-known3 → tie.After-begin
+abbrev before-begin : tie.After-begin → tie.After-level-distance
+before-begin c = c .before .before .before .before .before
+
+abbrev before-if1 : tie.After-struct-known → tie.After-begin
 before-if1 c = c .before .before .before .before .before .before .before .before .before
 
-abbrev entry-of-if1 : tie.After-struct-known3 → tie.Start
+abbrev entry-of-if1 : tie.After-struct-known → tie.Start
 entry-of-if1 c = entry-of-begin (before-if1 c)
 
 abbrev before-read-candidate-call : tie.After-read-candidate-arg4 → tie.After-begin
@@ -39,20 +42,8 @@ entry-of-cost-call c = entry-of-read-candidate-call (before-cost-call c .before)
 abbrev before-cost : tie.After-cost → tie.After-read-candidate
 before-cost c = c .before .before .before .before .before .before .before .before
 
-add-distance : tie.Need-add-distance
-add-distance c = let entry = entry-of-add-distance c in omega (arith, entry .pre .3, sizes (entry .args .p) (entry .pre .0 .sound) .memory-most)
-
-mul-distance : tie.Need-mul-distance
-mul-distance c =
-    let entry = entry-of-add-distance (c .before) in
-    omega (
-      arith,
-      level-fits (entry .args .p) (entry .pre .0 .sound) (entry .args .l) (entry .pre .3),
-      sizes (entry .args .p) (entry .pre .0 .sound) .symbols-most,
-    )
-
-sub-distance : tie.Need-sub-distance
-sub-distance c = let entry = entry-of-add-distance (c .before .before) in level-fits (entry .args .p) (entry .pre .0 .sound) (entry .args .l) (entry .pre .3)
+level-distance-requires : tie.Need-level-distance-requires
+level-distance-requires c κs = let entry = entry-of-level-distance-call c in (entry .pre .0 .sound, entry .pre .3)
 
 mul-if1 : tie.Need-mul-if1
 mul-if1 c =
@@ -87,18 +78,20 @@ cost-requires c κs =
 returns-2 : tie.Need-returns-2
 returns-2 c =
     let entry = entry-of-cost-call (c .before .before) in
-    step-near (entry .pre .0 .sound) (entry .pre .3) (entry .pre .1) (entry .pre .2) (before-read-candidate (before-cost (c .before)) .begin .ensures)
-    (before-cost (c .before) .read-candidate .ensures) (c .before .cost .ensures) (omega arith)
+    let begun = before-read-candidate (before-cost (c .before)) in
+    step-near (entry .pre .0 .sound) (entry .pre .3) (entry .pre .1) (entry .pre .2) (begun .begin .ensures)
+    (before-cost (c .before) .read-candidate .ensures) (c .before .cost .ensures) (omega (arith, before-begin begun .level-distance .ensures))
 
 returns-3 : tie.Need-returns-3
 returns-3 c =
     let entry = entry-of-cost-call (c .before .before) in
-    step-far (entry .pre .0 .sound) (entry .pre .3) (entry .pre .1) (entry .pre .2) (before-read-candidate (before-cost (c .before)) .begin .ensures)
-    (before-cost (c .before) .read-candidate .ensures) (c .before .cost .ensures) (omega arith)
+    let begun = before-read-candidate (before-cost (c .before)) in
+    step-far (entry .pre .0 .sound) (entry .pre .3) (entry .pre .1) (entry .pre .2) (begun .begin .ensures)
+    (before-cost (c .before) .read-candidate .ensures) (c .before .cost .ensures) (omega (arith, before-begin begun .level-distance .ensures))
 
 pub repair-spec : {M : Type 1} → statement M
 repair-spec =
     tie.close
-    (tie.spec add-distance mul-distance sub-distance (search needs) (λ c κs. search needs) mul-if1 (λ c. omega arith) (λ c. omega arith)
+    (tie.spec level-distance-requires (λ c κs. search needs) mul-if1 (λ c. omega arith) (λ c. omega arith)
     (λ c. omega arith) (λ c. omega arith) returns read-candidate-requires cost-requires (λ c. omega arith) (λ c. omega arith) (λ c. omega arith)
     (λ c. omega arith) returns-2 (λ c. omega arith) (λ c. omega arith) (λ c. omega arith) (λ c. omega arith) returns-3)

@@ -1,5 +1,5 @@
 -- `frame::reading::read_windows`: the windows before j were read.
-use mathlib.Core.Path.{_≡_, refl, subst, _∙_}
+use mathlib.Core.Path.{_≡_, refl, sym, subst, _∙_}
 use Prim.Native.Nat.{ℕ, _-_, _*_, _≤_}
 use native.Mathlib.Nat.{mul-le-mul-left}
 use native.Mathlib.Omega.{arith}
@@ -95,25 +95,17 @@ settle-requires c κs =
 
 same-length : tie.Need-same-length Inv-loop μ-loop
 same-length c =
-    let entry = entry-of-if1 (c .before) in
-    omega (
-      arith,
-      before-if1 (c .before) .settle .kept,
-      before-settle (before-if1 (c .before)) .guess-window .kept,
-      before-guess-window (before-settle (before-if1 (c .before))) .loop .inv .0 .areas,
-      entry .pre .4 .areas,
-    )
+    let settled = before-if1 (c .before) in
+    let guessed = before-settle settled in
+    settled .settle .kept .1 .1 .1 .1 .1 .1 .1 .0 ∙ guessed .guess-window .kept .1 .1 .1 .1 .1 .1 .0
+    ∙ before-guess-window guessed .loop .inv .0 .areas .message-long ∙ sym (entry-of-if1 (c .before) .pre .4 .areas .message-long)
 
 same-length-2 : tie.Need-same-length-2 Inv-loop μ-loop
 same-length-2 c =
-    let entry = entry-of-if1 (c .before) in
-    omega (
-      arith,
-      before-if1 (c .before) .settle .kept,
-      before-settle (before-if1 (c .before)) .guess-window .kept,
-      before-guess-window (before-settle (before-if1 (c .before))) .loop .inv .0 .areas,
-      entry .pre .4 .areas,
-    )
+    let settled = before-if1 (c .before) in
+    let guessed = before-settle settled in
+    settled .settle .kept .1 .1 .1 .1 .1 .1 .1 .1 .0 ∙ guessed .guess-window .kept .1 .1 .1 .1 .1 .1 .1 .0
+    ∙ before-guess-window guessed .loop .inv .0 .areas .residual-long ∙ sym (entry-of-if1 (c .before) .pre .4 .areas .residual-long)
 
 same-length-3 : tie.Need-same-length-3 Inv-loop μ-loop
 same-length-3 c = before-if1 (c .before) .settle .kept .1 .1 .1 .1 .1 .1 .1 .1 .1 .0
