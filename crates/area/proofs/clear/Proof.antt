@@ -23,7 +23,7 @@ loop-again : tie.Need-loop-again Inv-loop μ-loop
 loop-again c =
     let l = c .before .loop in (
       omega arith,
-      length-set (l .area) (l .i) 0 ∙ l .inv .1,
+      simp length-set (l .inv .1),
       ap (λ (t : List ℕ). set t (l .i) 0) (l .inv .2) ∙ fill-more (l .i) 0 (now (c .before .before .args .area)) (omega arith),
     )
 
