@@ -1,7 +1,7 @@
 -- The bridge from the numbers below q to the abstract carrier. A concrete field proves its laws once, for numbers below q (`FieldBelow`);
 -- the pairs of a number and a proof that it is below q are then a field (`fieldBelow`), and taking the number keeps the operations (`number-keeps`).
 -- Holds: `FieldBelow`, `positive`, `OrderBelow`, `Element`, `number`, `element`, `fieldBelow`, `number-keeps`, `number-injective`, `number-element`,
--- `orderBelow`.
+-- `number-power`, `orderBelow`.
 use mathlib.Core.Path.{_≡_, refl, sym, ap, subst, _∙_}
 use mathlib.Core.HLevel.{Σ-prop-path}
 use mathlib.Core.Bool.{Bool, true, false}
@@ -40,10 +40,11 @@ pub record FieldBelow (q : ℕ) (o : Ops ℕ) : Type 0 where
 pub positive : {q : ℕ} {o : Ops ℕ} → FieldBelow q o → 0 < q
 positive B = omega (arith, B .one-below)
 
--- The number α has order n: α^0 .. α^(n-1) are distinct numbers below q, and α^n = 1; n times 1 is -1.
+-- The number α has order n: α^0 .. α^(n-1) are distinct, each number below q but 0 is one of them, and α^n = 1; n times 1 is -1.
 pub record OrderBelow (q : ℕ) (o : Ops ℕ) (n α : ℕ) : Type 0 where
   pub root-below : α < q
   pub distinct : (i j : ℕ) → i < n → j < n → power o α i ≡ power o α j → i ≡ j
+  pub reached : (a : ℕ) → a < q → (a ≡ 0 → ⊥) → (i : ℕ) × (i < n) × (power o α i ≡ a)
   pub full : power o α n ≡ 1
   pub ones : sum o n (λ i. 1) ≡ o .neg 1
 
@@ -122,6 +123,10 @@ module _ (q : ℕ) (o : Ops ℕ) (B : FieldBelow q o) where
         on-test = λ a. refl;
       }
 
+  pub number-power : (α : ℕ) (h : 0 < q) → α < q → (i : ℕ) → number (power (fieldBelow .ops) (element q h α) i) ≡ power o α i
+  number-power α h l i =
+      power-natural (fieldBelow .ops) o number number-keeps (element q h α) i ∙ ap (λ (a : ℕ). power o a i) (number-element q h α l)
+
   -- The order of a number is that of its element.
   pub orderBelow : (n α : ℕ) (h : 0 < q) → OrderBelow q o n α → HasOrder (fieldBelow .ops) n (element q h α)
   orderBelow n α h A =
@@ -134,6 +139,4 @@ module _ (q : ℕ) (o : Ops ℕ) (B : FieldBelow q o) where
       }
     where
       at : (i : ℕ) → number (power (fieldBelow .ops) (element q h α) i) ≡ power o α i
-      at i =
-          power-natural (fieldBelow .ops) o number number-keeps (element q h α) i
-          ∙ ap (λ (a : ℕ). power o a i) (number-element q h α (A .root-below))
+      at = number-power α h (A .root-below)

@@ -1,7 +1,7 @@
 -- Lists as blocks: tabulated lists, symbols of a list, equal parts.
--- Holds: `length-tabulate`, `getD-tabulate`, `view-tabulate`, `getD-zeros`, `equal-part`, `part-equal`, `copied-whole`; `stored` (a loop that fills places);
--- `place-in-blocks`, `window-view` (places by block and symbol).
-use mathlib.Core.Path.{_≡_, refl, sym, ap, ap₂, _∙_}
+-- Holds: `length-tabulate`, `getD-tabulate`, `view-tabulate`, `getD-zeros`, `equal-part`, `part-equal`, `copied-whole`;
+-- `filled`, `stored` (a loop that fills places); `place-in-blocks`, `window-view` (places by block and symbol).
+use mathlib.Core.Path.{_≡_, refl, sym, ap, ap₂, _∙_, subst}
 use mathlib.Core.List.{List, _++_, append-nil}
 use Prim.Native.Nat.{ℕ, zero, suc, _+_, _*_, _/_, _%_, _≤_, _<_}
 use native.Mathlib.Nat.{div-lt-iff-lt-mul, mod-lt, div-add-mod'}
@@ -57,14 +57,20 @@ copied-whole source area after same e =
     let short : length area ≤ length source = omega arith in
     e ∙ (ap₂ _++_ (take-length source) (drop-of-length-le area short) ∙ append-nil source)
 
--- A loop fills places one after the other: place a is to hold f a, it does for a < i, and f i is stored in place i.
+-- A loop fills places one after the other: place a is to hold what is right for a, it does for a < i, and what is right for i is stored in place i.
+pub filled : {A : Type 0} (none : A) (l : List A) (place : ℕ → ℕ) (right : ℕ → A → Type 0) (i : ℕ) (v : A) → place i < length l → right i v
+    → ((a : ℕ) → a < i → place a ≡ place i → ⊥) → ((a : ℕ) → a < i → right a (getD l (place a) none))
+    → (a : ℕ) → a < i + 1 → right a (getD (set l (place i) v) (place a) none)
+filled {A} none l place right i v room e apart before a h = at (ℕ-discrete a i)
+  where
+    at : Dec (a ≡ i) → right a (getD (set l (place i) v) (place a) none)
+    at (yes s) = subst (λ (t : ℕ). right t (getD (set l (place i) v) (place t) none)) (sym s) (subst (right i) (sym (getD-set-same l (place i) v none room)) e)
+    at (no d) = let below : a < i = omega arith in subst (right a) (sym (getD-set-other l (place i) (place a) v none (apart a below))) (before a below)
+
+-- The same where place a is to hold f a.
 pub stored : (l : List ℕ) (place f : ℕ → ℕ) (i v : ℕ) → place i < length l → v ≡ f i → ((a : ℕ) → a < i → place a ≡ place i → ⊥)
     → ((a : ℕ) → a < i → getD l (place a) 0 ≡ f a) → (a : ℕ) → a < i + 1 → getD (set l (place i) v) (place a) 0 ≡ f a
-stored l place f i v room e apart filled a h = at (ℕ-discrete a i)
-  where
-    at : Dec (a ≡ i) → getD (set l (place i) v) (place a) 0 ≡ f a
-    at (yes s) = ap (λ (t : ℕ). getD (set l (place i) v) (place t) 0) s ∙ getD-set-same l (place i) v 0 room ∙ e ∙ ap f (sym s)
-    at (no d) = let below : a < i = omega arith in getD-set-other l (place i) (place a) v 0 (apart a below) ∙ filled a below
+stored l place f = filled 0 l place (λ a x. x ≡ f a)
 
 -- A place of a list of blocks of w symbols is a block and a symbol of it.
 pub place-in-blocks : (j i w : ℕ) → 1 ≤ w → i < j * w → (i / w < j) × (i % w < w) × (i / w * w + i % w ≡ i)

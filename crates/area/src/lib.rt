@@ -1,9 +1,16 @@
-// Areas of bytes, whatever they mean: cleared, and their bytes that are not zero counted.
+// Bytes and areas of them, whatever they mean: a byte as a size, an area cleared, its bytes that are not zero counted.
 ghost use mathlib.Core.Path.{_≡_};
 ghost use mathlib.Core.Bool.{not};
 ghost use lib.Dec.{eqb};
 ghost use lib.ListN.{length, getD, replicate};
 ghost use Rattle.algebra.specs.Weight.{countOf};
+
+// A byte as a size.
+pub fn wide(byte: u8) -> usize
+    ensures { λ r. ⌜ r ≡ byte ⌝ }
+{
+    byte as usize
+}
 
 // Zeros in every place.
 pub fn clear(area: &mut [u8])

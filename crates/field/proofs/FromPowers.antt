@@ -306,6 +306,12 @@ module _ {q n : ℕ} {add : ℕ → ℕ → ℕ} {neg double : ℕ → ℕ} {pow
               λ i j hi hj e.
               sym (mod-eq-of-lt hi) ∙ sym (exponent-of i) ∙ ap (at exponents) (sym (power-is i) ∙ e ∙ power-is j)
               ∙ exponent-of j ∙ mod-eq-of-lt hj;
+          reached =
+              λ a h z. (
+                at exponents a,
+                exponent-below a h,
+                power-is (at exponents a) ∙ doublings-one (at exponents a) ∙ ap (at powers) (mod-eq-of-lt (exponent-below a h)) ∙ power-of-exponent a h z,
+              );
           full = power-is n ∙ doublings-one n ∙ ap (at powers) (mod-self n) ∙ first;
           ones = ones;
         }

@@ -7,6 +7,7 @@ pub mod Five
 pub mod Eight
 pub mod Laws
 pub mod Operations
+pub mod ByExponents
 pub mod Symbols
 pub mod LoopSums
 pub mod PolynomialValue

@@ -1,15 +1,14 @@
 -- What the code returns in each branch is the symbol that the field's operation gives.
 -- Holds: `sum-modulo`, `sum-modulo-less`, `sum-xor`; `negative-modulo`, `negative-of-zero`, `negative-same`;
--- `product-listed`; `inverse-start`, `is-inverse`; `good-small`, q is at most 256; `good-listed`, q is at most 8; `eight-else`, q is 8 where it is not 5;
--- `products-by-test`, a table's rule over all pairs by one computed test.
+-- `is-product`, `product-listed`; `inverse-start`, `is-inverse`; `good-small`, q is at most 256; `good-listed`, q is at most 8;
+-- `eight-else`, q is 8 where it is not 5.
 use mathlib.Core.Path.{_≡_, refl, sym, _∙_, subst}
 use mathlib.Core.List.{List, []}
 use Prim.Native.Nat.{ℕ, _+_, _-_, _%_, _<_, _≤_}
 use native.Mathlib.Omega.{arith}
 use lib.Bits.{bitXor}
-use lib.Dec.{T, eqb, lit≤}
+use lib.Dec.{lit≤}
 use lib.ListN.{getD}
-use Rattle.algebra.proofs.Tests.{all, same-pairs}
 use Rattle.field.specs.Numbers.{inverseBelow}
 use Rattle.field.specs.Modular.{modular}
 use Rattle.field.specs.Binary.{binary}
@@ -60,7 +59,7 @@ module _ (q a b : ℕ) (good : Good q) (ha : a < q) (hb : b < q) where
   is-sum : (r : ℕ) → r ≡ opsOf q .add a b → Is q r (opsOf q .add a b)
   is-sum r e = symbol q r (opsOf q .add a b) e (lawsOf q good .add-below a b ha hb)
 
-  is-product : (r : ℕ) → r ≡ opsOf q .mul a b → Is q r (opsOf q .mul a b)
+  pub is-product : (r : ℕ) → r ≡ opsOf q .mul a b → Is q r (opsOf q .mul a b)
   is-product r e = symbol q r (opsOf q .mul a b) e (lawsOf q good .mul-below a b ha hb)
 
   pub sum-xor : (q ≡ 5 → ⊥) → Is q (bitXor a b) (opsOf q .add a b)
@@ -73,7 +72,7 @@ module _ (q a b : ℕ) (good : Good q) (ha : a < q) (hb : b < q) where
   sum-modulo-less e h = let less : a + b - 5 ≡ (a + b) % 5 = omega arith in is-sum (a + b - 5) (less ∙ sym (add-modulo q e a b))
 
   pub product-listed : (products : List (List ℕ)) → ProductsOf q products → Is q (getD (getD products a []) b 0) (opsOf q .mul a b)
-  product-listed products lent = is-product (getD (getD products a []) b 0) (lent .product a b ha hb)
+  product-listed products lent = is-product (getD (getD products a []) b 0) (lent .row a ha .product b hb)
 
 module _ (q a : ℕ) (good : Good q) (ha : a < q) where
   is-negative : (r : ℕ) → r ≡ opsOf q .neg a → Is q r (opsOf q .neg a)
@@ -95,8 +94,3 @@ module _ (q a : ℕ) (good : Good q) (ha : a < q) where
 
   pub is-inverse : (r : ℕ) → r ≡ opsOf q .inv a → Is q r (opsOf q .inv a)
   is-inverse r e = symbol q r (opsOf q .inv a) e (lawsOf q good .inv-below a ha)
-
--- A table's rule over all pairs, by one computed test.
-pub products-by-test : (q r : ℕ) (products : List (List ℕ)) → q ≡ r → T (all r (λ a. all r (λ b. eqb (getD (getD products a []) b 0) (opsOf r .mul a b))))
-    → ProductsOf q products
-products-by-test q r products e t = rw e (record { product = same-pairs r (λ a b. getD (getD products a []) b 0) (opsOf r .mul) t })

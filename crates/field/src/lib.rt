@@ -1,49 +1,83 @@
 // The fields of 01 with q elements, q chosen at run time: five or eight. A symbol is a `u8` below q.
-// Products are read from the field's table, which the outermost call makes once and lends down.
-ghost use Prim.Native.Nat.{_<_};
+// Read-only in the source are a field's powers of α and their exponents. The outermost call makes the table of products from them, in its working memory, and
+// lends it down.
+ghost use Prim.Native.Nat.{_<_, _≤_};
+ghost use lib.ListN.{length};
 ghost use Rattle.algebra.specs.Ops.{sub};
 ghost use Rattle.algebra.specs.Polynomial as polynomial;
 ghost use Rattle.field.specs.parts.Operations.{Good, Is};
 ghost use Rattle.field.specs.Fields.{opsOf};
 ghost use Rattle.field.specs.Symbols.{Symbols};
-ghost use Rattle.field.specs.parts.Products.{ProductsOf};
+ghost use Rattle.field.specs.parts.Products.{ListsOf, MultiplesOf, ProductsOf};
+
+// The powers of α from α^0 on, and the exponents: place α^i holds i. 0 is no power of α, and its place is never read.
+const POWERS_5: [u8; 4] = [1, 2, 4, 3];
+
+const EXPONENTS_5: [u8; 5] = [0, 0, 1, 3, 2];
+
+const POWERS_8: [u8; 7] = [1, 2, 4, 3, 6, 7, 5];
+
+const EXPONENTS_8: [u8; 8] = [0, 0, 1, 3, 2, 6, 4, 5];
 
 // The products of a field, with room for the larger: a × b in row a, place b.
 pub type Products = [[u8; 8]; 8];
 
-// Those of the five-element field. Past its five rows and columns stand zeros, which nothing reads.
-const PRODUCTS_5: Products = [
-    [0, 0, 0, 0, 0, 0, 0, 0],
-    [0, 1, 2, 3, 4, 0, 0, 0],
-    [0, 2, 4, 1, 3, 0, 0, 0],
-    [0, 3, 1, 4, 2, 0, 0, 0],
-    [0, 4, 3, 2, 1, 0, 0, 0],
-    [0, 0, 0, 0, 0, 0, 0, 0],
-    [0, 0, 0, 0, 0, 0, 0, 0],
-    [0, 0, 0, 0, 0, 0, 0, 0],
-];
+// a × b from the lists: the power at the sum of the exponents, counted round the list. Products with zero are zero.
+fn product_by_exponents(q: usize, powers: &[u8], exponents: &[u8], a: u8, b: u8) -> u8
+    requires { ⌜ Good q × ListsOf q (now powers) (now exponents) × (a < q) × (b < q) ⌝ }
+    ensures { λ r. ⌜ Is q r (opsOf q .mul a b) ⌝ }
+{
+    if a == 0 {
+        return 0;
+    }
+    if b == 0 {
+        return 0;
+    }
+    let n = q - 1;
+    let sum = area::wide(exponents[a as usize]) + area::wide(exponents[b as usize]);
+    if sum < n {
+        powers[sum]
+    } else {
+        powers[sum - n]
+    }
+}
 
-// The sixty-four products of the eight-element field.
-const PRODUCTS: Products = [
-    [0, 0, 0, 0, 0, 0, 0, 0],
-    [0, 1, 2, 3, 4, 5, 6, 7],
-    [0, 2, 4, 6, 3, 1, 7, 5],
-    [0, 3, 6, 5, 7, 4, 1, 2],
-    [0, 4, 3, 7, 6, 2, 5, 1],
-    [0, 5, 1, 4, 2, 7, 3, 6],
-    [0, 6, 7, 1, 5, 3, 2, 4],
-    [0, 7, 5, 2, 1, 6, 4, 3],
-];
+// Lays the multiples of a out: a × b at place b.
+fn lay_multiples(q: usize, powers: &[u8], exponents: &[u8], a: u8, row: &mut [u8])
+    requires { ⌜ Good q × ListsOf q (now powers) (now exponents) × (a < q) × (q ≤ length (now row)) ⌝ }
+    ensures { λ _. ⌜ MultiplesOf q a (now (row .exit)) ⌝ }
+{
+    let mut b: usize = 0;
+    while b < q {
+        row[b] = product_by_exponents(q, powers, exponents, a, b as u8);
+        b += 1;
+    }
+}
 
-// The table of the field with q elements.
+// The table of products from the lists.
+fn products_from(q: usize, powers: &[u8], exponents: &[u8]) -> Products
+    requires { ⌜ Good q × ListsOf q (now powers) (now exponents) ⌝ }
+    ensures { λ r. ⌜ ProductsOf q r ⌝ }
+{
+    let mut products: Products = [[0; 8]; 8];
+    let mut a: usize = 0;
+    while a < q {
+        lay_multiples(q, powers, exponents, a as u8, &mut products[a]);
+        a += 1;
+    }
+    products
+}
+
+// The table of the field with q elements: the one place that tells the fields' lists apart. Each call has its q as a constant: from constants the compiler
+// works the table out itself, which takes less code than the loops (docs/PERFORMANCE.md, "Products from lists").
 pub fn products(q: usize) -> Products
     requires { ⌜ Good q ⌝ }
     ensures { λ r. ⌜ ProductsOf q r ⌝ }
 {
     if q == 5 {
-        return PRODUCTS_5;
+        return products_from(5, &POWERS_5, &EXPONENTS_5);
     }
-    PRODUCTS
+    products_from(8, &POWERS_8, &EXPONENTS_8)
 }
 
 // a + b

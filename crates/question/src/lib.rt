@@ -37,13 +37,6 @@ pub fn no(number: u32, place: u64) -> Answer
     }
 }
 
-// A byte as a size.
-fn wide(symbol: u8) -> usize
-    ensures { λ r. ⌜ r ≡ symbol ⌝ }
-{
-    symbol as usize
-}
-
 // The larger of two bytes.
 fn larger(a: u8, b: u8) -> u8
     ensures { λ r. ⌜ (a ≤ r) × (b ≤ r) ⌝ }
@@ -70,7 +63,7 @@ fn search_not_below(q: usize, bytes: &[u8]) -> usize
 {
     let mut i: usize = 0;
     while i < bytes.len() {
-        if q <= wide(bytes[i]) {
+        if q <= area::wide(bytes[i]) {
             return i;
         }
         i += 1;
@@ -82,7 +75,7 @@ fn search_not_below(q: usize, bytes: &[u8]) -> usize
 fn first_not_below(q: usize, bytes: &[u8]) -> usize
     ensures { λ r. ⌜ r ≡ symbolsTo q (now (bytes .entry)) ⌝ }
 {
-    if wide(largest_byte(bytes)) < q {
+    if area::wide(largest_byte(bytes)) < q {
         return bytes.len();
     }
     search_not_below(q, bytes)

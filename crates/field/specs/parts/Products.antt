@@ -1,16 +1,30 @@
--- What functions that multiply require of the table that is lent to them, one for each field (01: "The products of the eight-element field stand as
--- a table of sixty-four entries"). Callers only pass it on: what it says of the table concerns this crate alone.
--- Holds: `Products` (the shape of the table), `ProductsOf`.
+-- What functions that multiply require: of the two lists that are read-only (02's request 103, which replaces 01's "table of sixty-four entries"), and
+-- of the table of products that a call makes from them in its working memory and lends down. Callers only pass the table on.
+-- Holds: `ListsOf`; `MultiplesOf`, `Products` (the shape of the table), `ProductsOf`.
 use mathlib.Core.Path.{_≡_}
 use mathlib.Core.List.{List, []}
-use Prim.Native.Nat.{ℕ, _<_}
-use lib.ListN.{getD}
-use Rattle.field.specs.Fields.{opsOf}
+use Prim.Native.Nat.{ℕ, _-_, _<_}
+use lib.ListN.{length, getD}
+use Rattle.algebra.specs.Sum.{power}
+use Rattle.field.specs.Fields.{alpha, opsOf}
+use Rattle.field.specs.parts.Sequences.{at}
+
+-- "the list of powers and their exponents" of the field with q elements: place i of the first holds α^i, and the exponent of α^i is i.
+-- 0 is no power of α: of its place in the second nothing is said.
+pub record ListsOf (q : ℕ) (powers exponents : List ℕ) : Type 0 where
+  pub powers-count : length powers ≡ q - 1
+  pub exponents-count : length exponents ≡ q
+  pub power-at : (i : ℕ) → i < q - 1 → at powers i ≡ power (opsOf q) alpha i
+  pub exponent-at : (i : ℕ) → i < q - 1 → at exponents (power (opsOf q) alpha i) ≡ i
+
+-- The row holds a × b at place b.
+pub record MultiplesOf (q a : ℕ) (row : List ℕ) : Type 0 where
+  pub product : (b : ℕ) → b < q → at row b ≡ opsOf q .mul a b
 
 -- Row after row.
 abbrev pub Products : Type 0
 Products = List (List ℕ)
 
--- The table holds the product of a and b, of the field with q elements, in row a at place b.
+-- Row a of the table holds the multiples of a.
 pub record ProductsOf (q : ℕ) (products : Products) : Type 0 where
-  pub product : (a b : ℕ) → a < q → b < q → getD (getD products a []) b 0 ≡ opsOf q .mul a b
+  pub row : (a : ℕ) → a < q → MultiplesOf q a (getD products a [])
