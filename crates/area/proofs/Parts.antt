@@ -1,12 +1,18 @@
 -- A part of a list as it is lent, and the list with another part in its place (`putMid`, what a lent part leaves in the whole), place by place.
--- Holds: `part-size`, `part-length`, `part-symbol`; `put-length`, `put-before`, `put-inside`, `put-after`.
+-- Holds: `part-size`, `part-length`, `part-symbol`, `part-weight`; `put-length`, `put-before`, `put-inside`, `put-after`.
 use mathlib.Core.Path.{_≡_, sym, ap, _∙_}
+use mathlib.Core.Bool.{not}
 use mathlib.Core.List.{List, _++_}
 use Prim.Native.Nat.{ℕ, _+_, _-_, _≤_, _<_}
 use native.Mathlib.Omega.{arith}
+use lib.Dec.{eqb}
 use lib.ListN.{length, getD, take, drop, length-drop, List·getD-append}
 use lib.Seq.{getD-take, getD-drop, getD-append-add, length-take-le}
 use borrow.Rule.Slice.PartMut.{putMid, same-len-mid}
+use Rattle.algebra.specs.Ops.{pick}
+use Rattle.algebra.specs.Weight.{countOf}
+use Rattle.algebra.proofs.Weights.{countOf-ext, total-split}
+use Rattle.area.specs.Lists.{weightOf}
 
 -- The n elements from `start` on, with their number as the code computes it.
 module _ (n start : ℕ) (whole : List ℕ) where
@@ -20,6 +26,17 @@ module _ (n start : ℕ) (whole : List ℕ) where
   part-symbol i l =
       let below : i < start + n - start = omega arith in
       getD-take (start + n - start) (drop start whole) i 0 below ∙ getD-drop start whole i 0
+
+  -- What the part adds to the weight of the list up to it.
+  pub part-weight : start + n ≤ length whole
+      → countOf start (λ i. not (eqb (getD whole i 0) 0)) + weightOf (take (start + n - start) (drop start whole))
+      ≡ countOf (start + n) (λ i. not (eqb (getD whole i 0) 0))
+  part-weight h =
+      ap (λ (t : ℕ). countOf start (λ i. not (eqb (getD whole i 0) 0)) + t)
+      (ap (λ (t : ℕ). countOf t (λ i. not (eqb (getD (take (start + n - start) (drop start whole)) i 0) 0))) (part-length h)
+      ∙ countOf-ext n (λ i. not (eqb (getD (take (start + n - start) (drop start whole)) i 0) 0)) (λ i. not (eqb (getD whole (start + i) 0) 0))
+      (λ i l. ap (λ (t : ℕ). not (eqb t 0)) (part-symbol i l)))
+      ∙ sym (total-split start n (λ i. pick (not (eqb (getD whole i 0) 0)) 1 0))
 
 -- The whole with another part ys in the place of the k elements from a on.
 module _ (a k : ℕ) (xs ys : List ℕ) (room : a + k ≤ length xs) (long : length ys ≡ k) where

@@ -1,29 +1,19 @@
--- What every setting satisfies (`Sound`), shown for each setting of the list.
--- Holds: `Each`, `each-at`, `setting-range`, `soundOf`, `block-positive`, `level-fits`, `information-fits`; `Sizes`, `sizes`, `sizesOf` (the bounds that follow
+-- What every setting satisfies (`Sound`), by one computed test over the list.
+-- Holds: `setting-range`, `soundOf`, `block-positive`, `level-fits`, `information-fits`; `Sizes`, `sizes`, `sizesOf` (the bounds that follow
 -- for every setting there can be); `largest-at`, `largestOf` (a setting's figure is at most the largest).
-use mathlib.Core.Path.{refl}
+use mathlib.Core.Bool.{Bool, true, _&&_}
 use mathlib.Core.List.{List, [], _∷_}
 use Prim.Native.Nat.{ℕ, zero, suc, _+_, _-_, _*_, _≤_, _<_}
 use native.Mathlib.Omega.{arith}
 use native.Mathlib.Nat.{not-suc-le-zero, le-of-suc-le-suc, mul-le-mul, mul-le-mul-right}
-use lib.Dec.{T as Passes, leb, leb→le}
+use lib.Dec.{T as Passes, eqb, eqb→eq, leb, leb→le}
 use lib.ListN.{length, getD}
 use Rattle.algebra.proofs.Tests.{and-left, and-right}
-use Rattle.field.specs.parts.Operations.{Good, five-elements, eight-elements}
+use Rattle.field.specs.Fields.{fields, isField}
 use Rattle.field.proofs.Operations.{good-small}
 use Rattle.code.specs.declared.Setting.{Setting}
 use Rattle.code.specs.Settings.{setting, settings, isSetting, settingOf, largest}
 use Rattle.code.specs.parts.Sound.{Sound}
-
--- The property holds of each setting of a list.
-pub data Each (P : Setting → Type 0) : List Setting → Type 0 where
-  none : Each P []
-  next : {p : Setting} {rest : List Setting} → P p → Each P rest → Each P (p ∷ rest)
-
-pub each-at : {P : Setting → Type 0} {l : List Setting} → Each P l → (i : ℕ) (d : Setting) → i < length l → P (getD l i d)
-each-at none i d h = absurd (not-suc-le-zero h)
-each-at (next p rest) zero d h = p
-each-at (next p rest) (suc i) d h = each-at rest i d (le-of-suc-le-suc h)
 
 -- A setting's number is in the list's range.
 pub setting-range : (s : ℕ) → Passes (isSetting s) → (1 ≤ s) × (s ≤ length settings)
@@ -32,17 +22,35 @@ setting-range s t = (
   leb→le s (length settings) (and-right (leb 1 s) (leb s (length settings)) t),
 )
 
-sound : (q k m : ℕ) → Good q → 1 ≤ k → (m + 1) * k ≤ q - 1 → Sound (setting q k m)
-sound q k m g i r = record { good = g; block = refl; information = i; room = r }
+-- `Sound` as a test, of a setting and of each in a list.
+abbrev isSound : Setting → Bool
+isSound p = isField (p .q) fields && (eqb (p .n) (p .q - 1) && (leb 1 (p .k) && leb ((p .m + 1) * p .k) (p .n)))
 
-sounds : Each Sound settings
-sounds =
-    next (sound 5 1 2 five-elements (omega arith) (omega arith))
-    (next (sound 8 2 2 eight-elements (omega arith) (omega arith))
-    (next (sound 8 3 1 eight-elements (omega arith) (omega arith)) none))
+sound-by-test : (p : Setting) → Passes (isSound p) → Sound p
+sound-by-test p t =
+    let block = eqb (p .n) (p .q - 1) in
+    let information = leb 1 (p .k) in
+    let room = leb ((p .m + 1) * p .k) (p .n) in
+    let t' = and-right (isField (p .q) fields) (block && (information && room)) t in
+    let t'' = and-right block (information && room) t' in
+    record {
+      good = record { listed = and-left (isField (p .q) fields) (block && (information && room)) t };
+      block = eqb→eq (p .n) (p .q - 1) (and-left block (information && room) t');
+      information = leb→le 1 (p .k) (and-left information room t'');
+      room = leb→le ((p .m + 1) * p .k) (p .n) (and-right information room t'');
+    }
+
+abbrev allSound : List Setting → Bool
+allSound [] = true
+allSound (p ∷ rest) = isSound p && allSound rest
+
+sound-at : (l : List Setting) → Passes (allSound l) → (i : ℕ) (d : Setting) → i < length l → Sound (getD l i d)
+sound-at [] t i d h = absurd (not-suc-le-zero h)
+sound-at (p ∷ rest) t zero d h = sound-by-test p (and-left (isSound p) (allSound rest) t)
+sound-at (p ∷ rest) t (suc i) d h = sound-at rest (and-right (isSound p) (allSound rest) t) i d (le-of-suc-le-suc h)
 
 pub soundOf : (s : ℕ) → Passes (isSetting s) → Sound (settingOf s)
-soundOf s t = each-at sounds (s - 1) (setting 0 0 0) (omega (arith, setting-range s t))
+soundOf s t = sound-at settings tt (s - 1) (setting 0 0 0) (omega (arith, setting-range s t))
 
 -- A block has symbols.
 pub block-positive : (p : Setting) → Sound p → 1 ≤ p .n

@@ -1,4 +1,4 @@
--- The three settings (01, "Two fields and three settings"), chosen by number, and the code of each.
+-- The settings (01, "Two fields and three settings"; 02, #101), chosen by number, and the code of each.
 -- Holds: `setting`, `settings`, `isSetting`, `settingOf`, `codeOf`, `largest`; 01's table of distances, computed (`table-of-distances`).
 use mathlib.Core.Path.{_≡_, refl}
 use mathlib.Core.Bool.{Bool, _&&_}
@@ -15,9 +15,9 @@ use Rattle.code.specs.Code.{Code, levelDistance, distancesTo, designDist
 abbrev pub setting : ℕ → ℕ → ℕ → Setting
 setting q k m = record { q = q; n = q - 1; k = k; m = m }
 
--- Settings 1, 2 and 3.
+-- Settings 1, 2 and so on: 01's three, and the two of 02's #101.
 abbrev pub settings : List Setting
-settings = setting 5 1 2 ∷ setting 8 2 2 ∷ setting 8 3 1 ∷ []
+settings = setting 5 1 2 ∷ setting 8 2 2 ∷ setting 8 3 1 ∷ setting 16 3 3 ∷ setting 16 5 2 ∷ []
 
 -- Question 1: is it the number of a setting?
 abbrev pub isSetting : ℕ → Bool
@@ -36,10 +36,16 @@ abbrev pub largest : (Setting → ℕ) → List Setting → ℕ
 largest figure [] = 0
 largest figure (p ∷ rest) = max (figure p) (largest figure rest)
 
--- Examples, computed: 01's table, d_0, .., d_m, d and t of each setting.
+-- Examples, computed: 01's table and what 02 says of the others, d_0, .., d_m, d and t of each setting.
 abbrev pub distancesOf : Setting → List ℕ
 distancesOf p = tabulate (p .m + 1) (levelDistance (p .n) (p .k)) ++ designDistance (p .n) (p .k) (p .m) ∷ limit (p .n) (p .k) (p .m) ∷ []
 
-pub table-of-distances : map distancesOf settings ≡ (4 ∷ 3 ∷ 2 ∷ 8 ∷ 4 ∷ []) ∷ (6 ∷ 4 ∷ 2 ∷ 11 ∷ 5 ∷ []) ∷ (5 ∷ 2 ∷ 6 ∷ 3 ∷ []) ∷ []
+pub table-of-distances : map distancesOf settings
+    ≡ (4 ∷ 3 ∷ 2 ∷ 8 ∷ 4 ∷ [])
+    ∷ (6 ∷ 4 ∷ 2 ∷ 11 ∷ 5 ∷ [])
+    ∷ (5 ∷ 2 ∷ 6 ∷ 3 ∷ [])
+    ∷ (13 ∷ 10 ∷ 7 ∷ 4 ∷ 33 ∷ 16 ∷ [])
+    ∷ (11 ∷ 6 ∷ 1 ∷ 17 ∷ 8 ∷ [])
+    ∷ []
 unfolding distancesTo tabulate
 table-of-distances = refl

@@ -21,7 +21,7 @@ pub fn is_setting(number: u64) -> bool
     if number < 1 {
         return false;
     }
-    number <= 3
+    number <= 5
 }
 
 // The parameters of a setting. Told apart by `<`: with `==` the compiler takes k for the number itself, and decoding is up to a tenth slower
@@ -46,11 +46,27 @@ pub fn setting_of(number: u64) -> Setting
             m: 2,
         };
     }
+    if number < 4 {
+        return Setting {
+            q: 8,
+            n: 7,
+            k: 3,
+            m: 1,
+        };
+    }
+    if number < 5 {
+        return Setting {
+            q: 16,
+            n: 15,
+            k: 3,
+            m: 3,
+        };
+    }
     Setting {
-        q: 8,
-        n: 7,
-        k: 3,
-        m: 1,
+        q: 16,
+        n: 15,
+        k: 5,
+        m: 2,
     }
 }
 

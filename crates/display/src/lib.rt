@@ -11,7 +11,7 @@ use question::Answer;
 #[repr(C)]
 pub struct Marks {
     pub answer: Answer,
-    pub marks: u32,
+    pub marks: u64,
     pub set: u32,
 }
 

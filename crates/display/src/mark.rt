@@ -9,7 +9,7 @@ ghost use Rattle.display.specs.Marks.{bits, Marked};
 use super::Marks;
 
 // 1 where two symbols differ, 0 where they are the same.
-fn differ(a: u8, b: u8) -> u32
+fn differ(a: u8, b: u8) -> u64
     ensures { λ r. ⌜ r ≡ pick (not (eqb a b)) 1 0 ⌝ }
 {
     if a == b {
@@ -19,11 +19,11 @@ fn differ(a: u8, b: u8) -> u32
 }
 
 // The differences in `long` places, one bit a place, the first lowest: made from the last place on.
-fn differences(reception: &[u8], transmission: &[u8], from: usize, long: usize) -> u32
-    requires { ⌜ (long ≤ 32) × (from + long ≤ length (now reception)) × (from + long ≤ length (now transmission)) ⌝ }
+fn differences(reception: &[u8], transmission: &[u8], from: usize, long: usize) -> u64
+    requires { ⌜ (long ≤ 64) × (from + long ≤ length (now reception)) × (from + long ≤ length (now transmission)) ⌝ }
     ensures { λ r. ⌜ r ≡ bits long (λ i. not (eqb (getD (now (reception .entry)) (from + i) 0) (getD (now (transmission .entry)) (from + i) 0))) ⌝ }
 {
-    let mut set: u32 = 0;
+    let mut set: u64 = 0;
     let mut left = long;
     while 0 < left {
         left -= 1;
@@ -53,6 +53,6 @@ pub fn marks(setting: u64, reception: &[u8], transmission: &[u8], j: u64) -> Mar
     Marks {
         answer: answer,
         marks: found,
-        set: u32::count_ones(found),
+        set: u64::count_ones(found),
     }
 }

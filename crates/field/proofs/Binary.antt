@@ -1,10 +1,10 @@
 -- Fields with w bits a symbol (`specs/Binary.antt`): exclusive or is a commutative group, "times α" is additive, and the product by the bits
 -- of a factor is the product by exponents. So what is left for such a field is its two lists, and tests over the numbers below 2^w.
--- Holds: `binary-addition`, `binary-doubling`, `product-by-bits`; from the two lists `binary-field` and `binary-order`.
-use mathlib.Core.Path.{_≡_, refl, sym, ap, ap₂, _∙_}
+-- Holds: `binary-addition`, `binary-doubling`, `product-by-bits`; from the two lists `binary-lawful`.
+use mathlib.Core.Path.{_≡_, refl, sym, ap, ap₂, _∙_, subst}
 use mathlib.Core.Bool.{Bool, true, false}
 use mathlib.Core.List.{List}
-use Prim.Native.Nat.{ℕ, zero, suc, _*_, _/_, _%_, _^_, _<_, _≤_}
+use Prim.Native.Nat.{ℕ, zero, suc, _-_, _*_, _/_, _%_, _^_, _<_, _≤_}
 use native.Mathlib.Nat.{div-add-mod', mod-lt, zero-mul, one-mul, not-suc-le-zero, le-of-suc-le-suc, div-eq-of-lt, div-eq-of-lt-le, div-lt-iff-lt-mul, pow-suc}
 use native.Mathlib.Nat.{lt-of-lt-of-le, le-refl}
 use native.Mathlib.Omega.{arith}
@@ -15,8 +15,10 @@ use lib.Dec.{eqb, ltb, lit<}
 use borrow.Author.Tests.{ltb-true, ltb-false, lt-ltb}
 use Rattle.algebra.specs.Ops.{pick}
 use Rattle.algebra.specs.Sum.{sum}
-use Rattle.algebra.proofs.Below.{FieldBelow, OrderBelow}
+use Rattle.algebra.proofs.Below.{OrderBelow}
 use Rattle.field.specs.Binary.{timesAlpha, timesBits, binary}
+use Rattle.field.specs.Fields.{alpha}
+use Rattle.field.proofs.Lawful.{Lawful}
 use Rattle.field.proofs.Xor.{xor-assoc, xor-swap, xor-double}
 use Rattle.field.proofs.FromPowers.{Addition, Doubling, Listed, Generated, productOf, field-with, order-with, product-nought, product-one}
 use Rattle.field.proofs.FromPowers.{product-comm, product-distributes-right, product-double, one-below}
@@ -97,12 +99,12 @@ module _ (w r : ℕ) (low : 2 ^ w ≤ r) (high : r < 2 * 2 ^ w) where
       }
 
   -- With the lists of powers and exponents.
-  module _ (n : ℕ) (powers exponents : List ℕ) (listed : Listed (2 ^ w) n (timesAlpha w r) powers exponents) where
-    generated : Generated (2 ^ w) n bitXor (λ a. a) (timesAlpha w r) powers exponents
+  module _ (powers exponents : List ℕ) (listed : Listed (2 ^ w) (2 ^ w - 1) (timesAlpha w r) powers exponents) where
+    generated : Generated (2 ^ w) (2 ^ w - 1) bitXor (λ a. a) (timesAlpha w r) powers exponents
     generated = record { addition = binary-addition w; doubling = binary-doubling; listed = listed }
 
     abbrev product : ℕ → ℕ → ℕ
-    product = productOf n powers exponents
+    product = productOf (2 ^ w - 1) powers exponents
 
     -- The product with the lowest bit of a.
     times-lowest : (a b : ℕ) → a < 2 → b < 2 ^ w → pick (eqb a 1) b 0 ≡ product a b
@@ -135,10 +137,13 @@ module _ (w r : ℕ) (low : 2 ^ w ≤ r) (high : r < 2 * 2 ^ w) where
     agrees : (a b : ℕ) → a < 2 ^ w → b < 2 ^ w → timesBits (timesAlpha w r) w a b ≡ product a b
     agrees a b ha hb = product-by-bits w a b (le-refl w) ha hb
 
-    pub binary-field : FieldBelow (2 ^ w) (binary w r)
+    pub binary-lawful : sum (binary w r) (2 ^ w - 1) (λ i. 1) ≡ 1 → timesAlpha w r 1 ≡ alpha → 2 ^ w ≤ 16 → Lawful (2 ^ w) (binary w r)
     unfolding binary
-    binary-field = field-with generated (timesBits (timesAlpha w r) w) agrees
-
-    pub binary-order : sum (binary w r) n (λ i. 1) ≡ 1 → OrderBelow (2 ^ w) (binary w r) n (timesAlpha w r 1)
-    unfolding binary
-    binary-order = order-with generated (timesBits (timesAlpha w r) w) agrees
+    binary-lawful ones root small =
+        record {
+          laws = field-with generated (timesBits (timesAlpha w r) w) agrees;
+          order = subst (OrderBelow (2 ^ w) (binary w r) (2 ^ w - 1)) root (order-with generated (timesBits (timesAlpha w r) w) agrees ones);
+          small = small;
+          sums = λ other a b. refl;
+          negatives = λ other a. refl;
+        }

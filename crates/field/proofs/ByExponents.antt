@@ -13,7 +13,7 @@ use Rattle.algebra.proofs.HasOrder.{HasOrder}
 use Rattle.algebra.proofs.Powers.{power-add, power-wraps}
 use Rattle.algebra.proofs.Below.{Element, number, element, fieldBelow, number-keeps, number-power, orderBelow}
 use Rattle.algebra.proofs.Tests.{all, same}
-use Rattle.field.specs.Fields.{alpha, opsOf}
+use Rattle.field.specs.Fields.{alpha, fields, isField, opsOf}
 use Rattle.field.specs.parts.Operations.{Good, Is}
 use Rattle.field.specs.parts.Products.{ListsOf}
 use Rattle.field.specs.parts.Sequences.{at}
@@ -93,7 +93,10 @@ module _ (q : ℕ) (good : Good q) where
         }
 
 -- What the lists hold, by computed tests: the first power is 1, each is α times the one before, and each has its place for its exponent.
-module _ (q : ℕ) (powers exponents : List ℕ) (good : Good q) where
+module _ (q : ℕ) (powers exponents : List ℕ) (in-use : T (isField q fields)) where
+  good : Good q
+  good = record { listed = in-use }
+
   powers-at : at powers 0 ≡ 1 → ((i : ℕ) → i < q - 2 → at powers (suc i) ≡ opsOf q .mul alpha (at powers i))
       → (i : ℕ) → i < q - 1 → at powers i ≡ power (opsOf q) alpha i
   unfolding power
@@ -104,14 +107,16 @@ module _ (q : ℕ) (powers exponents : List ℕ) (good : Good q) where
       → T (eqb (at powers 0) 1)
       → T (all (q - 2) (λ i. eqb (at powers (suc i)) (opsOf q .mul alpha (at powers i))))
       → T (all (q - 1) (λ i. eqb (at exponents (at powers i)) i))
-      → ListsOf q powers exponents
-  lists-by-tests powers-count exponents-count t₁ t₂ t₃ =
-      record {
-        powers-count = powers-count;
-        exponents-count = exponents-count;
-        power-at = powered;
-        exponent-at = λ i h. ap (at exponents) (sym (powered i h)) ∙ same (q - 1) (λ i. at exponents (at powers i)) (λ i. i) t₃ i h;
-      }
+      → Good q × ListsOf q powers exponents
+  lists-by-tests powers-count exponents-count t₁ t₂ t₃ = (
+    good,
+    record {
+      powers-count = powers-count;
+      exponents-count = exponents-count;
+      power-at = powered;
+      exponent-at = λ i h. ap (at exponents) (sym (powered i h)) ∙ same (q - 1) (λ i. at exponents (at powers i)) (λ i. i) t₃ i h;
+    },
+  )
     where
       powered : (i : ℕ) → i < q - 1 → at powers i ≡ power (opsOf q) alpha i
       powered = powers-at (eqb→eq (at powers 0) 1 t₁) (same (q - 2) (λ i. at powers (suc i)) (λ i. opsOf q .mul alpha (at powers i)) t₂)

@@ -1,15 +1,15 @@
 -- The field with five elements by its powers of α: 1 2 4 3. Every hypothesis is a computed test.
--- Holds: `five-field`, `five-order`.
+-- Holds: `five-lawful`.
 use mathlib.Core.Path.{_≡_, refl}
 use mathlib.Core.List.{List, [], _∷_}
 use Prim.Native.Nat.{ℕ, _+_, _-_, _*_, _%_, _<_}
 use native.Mathlib.Nat.{mod-lt}
-use lib.Dec.{lit<}
+use lib.Dec.{lit<, lit≤}
 use Rattle.algebra.specs.Sum.{sum as total}
-use Rattle.algebra.proofs.Below.{FieldBelow, OrderBelow}
 use Rattle.algebra.proofs.Tests.{all, same, same-pairs, same-triples}
 use Rattle.field.specs.Modular.{modular}
-use Rattle.field.specs.Fields.{five, alpha}
+use Rattle.field.specs.Fields.{five}
+use Rattle.field.proofs.Lawful.{Lawful}
 use Rattle.field.proofs.FromPowers.{Addition, Doubling, Listed, Generated, listed-by-tests, productOf, field-with, order-with}
 
 abbrev sum : ℕ → ℕ → ℕ
@@ -62,10 +62,13 @@ agrees : (a b : ℕ) → a < 5 → b < 5 → a * b % 5 ≡ productOf 4 powers ex
 unfolding all productOf
 agrees = same-pairs 5 (λ a b. a * b % 5) (productOf 4 powers exponents) tt
 
-pub five-field : FieldBelow 5 five
-unfolding five modular
-five-field = field-with generated (λ a b. a * b % 5) agrees
-
-pub five-order : OrderBelow 5 five 4 alpha
+pub five-lawful : Lawful 5 five
 unfolding five modular total
-five-order = order-with generated (λ a b. a * b % 5) agrees refl
+five-lawful =
+    record {
+      laws = field-with generated (λ a b. a * b % 5) agrees;
+      order = order-with generated (λ a b. a * b % 5) agrees refl;
+      small = lit≤ tt;
+      sums = λ other a b. absurd (other refl);
+      negatives = λ other a. absurd (other refl);
+    }

@@ -2,9 +2,11 @@
 pub mod Xor
 pub mod Numbers
 pub mod FromPowers
+pub mod Lawful
 pub mod Binary
 pub mod Five
 pub mod Eight
+pub mod Sixteen
 pub mod Laws
 pub mod Operations
 pub mod ByExponents

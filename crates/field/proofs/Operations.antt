@@ -1,7 +1,6 @@
 -- What the code returns in each branch is the symbol that the field's operation gives.
 -- Holds: `sum-modulo`, `sum-modulo-less`, `sum-xor`; `negative-modulo`, `negative-of-zero`, `negative-same`;
--- `is-product`, `product-listed`; `inverse-start`, `is-inverse`; `good-small`, q is at most 256; `good-listed`, q is at most 8;
--- `eight-else`, q is 8 where it is not 5.
+-- `is-product`, `product-listed`; `inverse-start`, `is-inverse`; `good-small`, q is at most 256; `good-listed`, q is at most 16.
 use mathlib.Core.Path.{_≡_, refl, sym, _∙_, subst}
 use mathlib.Core.List.{List, []}
 use Prim.Native.Nat.{ℕ, _+_, _-_, _%_, _<_, _≤_}
@@ -11,11 +10,10 @@ use lib.Dec.{lit≤}
 use lib.ListN.{getD}
 use Rattle.field.specs.Numbers.{inverseBelow}
 use Rattle.field.specs.Modular.{modular}
-use Rattle.field.specs.Binary.{binary}
-use Rattle.field.specs.parts.Operations.{Good, five-elements, eight-elements, Is}
-use Rattle.field.specs.Fields.{five, eight, opsOf}
+use Rattle.field.specs.parts.Operations.{Good, Is}
+use Rattle.field.specs.Fields.{five, opsOf}
 use Rattle.field.specs.parts.Products.{ProductsOf}
-use Rattle.field.proofs.Laws.{lawsOf}
+use Rattle.field.proofs.Laws.{lawful, lawsOf}
 
 -- The operations with five elements.
 module _ (q : ℕ) (e : q ≡ 5) where
@@ -27,30 +25,13 @@ module _ (q : ℕ) (e : q ≡ 5) where
   unfolding opsOf five modular
   neg-modulo a = rw e
 
--- The operations with any other number of elements.
-add-xor : (q a b : ℕ) → Good q → (q ≡ 5 → ⊥) → opsOf q .add a b ≡ bitXor a b
-unfolding opsOf eight binary
-add-xor q a b five-elements other = absurd (other refl)
-add-xor q a b eight-elements other = refl
-
-neg-same : (q a : ℕ) → Good q → (q ≡ 5 → ⊥) → opsOf q .neg a ≡ a
-unfolding opsOf eight binary
-neg-same q a five-elements other = absurd (other refl)
-neg-same q a eight-elements other = refl
-
-pub eight-else : (q : ℕ) → Good q → (q ≡ 5 → ⊥) → q ≡ 8
-eight-else q five-elements other = absurd (other refl)
-eight-else q eight-elements other = refl
+-- Every symbol is the number of a row of the table, and of a place in it.
+pub good-listed : (q : ℕ) → Good q → q ≤ 16
+good-listed q good = lawful q good .small
 
 -- Every symbol is a byte.
 pub good-small : (q : ℕ) → Good q → q ≤ 256
-good-small q five-elements = lit≤ tt
-good-small q eight-elements = lit≤ tt
-
--- Every symbol is the number of a row of the table, and of a place in it.
-pub good-listed : (q : ℕ) → Good q → q ≤ 8
-good-listed q five-elements = lit≤ tt
-good-listed q eight-elements = lit≤ tt
+good-small q good = omega (arith, good-listed q good)
 
 symbol : (q r v : ℕ) → r ≡ v → v < q → Is q r v
 symbol q r v e h = record { same = e; below = subst (λ (x : ℕ). x < q) (sym e) h }
@@ -63,7 +44,7 @@ module _ (q a b : ℕ) (good : Good q) (ha : a < q) (hb : b < q) where
   is-product r e = symbol q r (opsOf q .mul a b) e (lawsOf q good .mul-below a b ha hb)
 
   pub sum-xor : (q ≡ 5 → ⊥) → Is q (bitXor a b) (opsOf q .add a b)
-  sum-xor other = is-sum (bitXor a b) (sym (add-xor q a b good other))
+  sum-xor other = is-sum (bitXor a b) (sym (lawful q good .sums other a b))
 
   pub sum-modulo : q ≡ 5 → a + b < 5 → Is q (a + b) (opsOf q .add a b)
   sum-modulo e h = let small : a + b ≡ (a + b) % 5 = omega arith in is-sum (a + b) (small ∙ sym (add-modulo q e a b))
@@ -79,7 +60,7 @@ module _ (q a : ℕ) (good : Good q) (ha : a < q) where
   is-negative r e = symbol q r (opsOf q .neg a) e (lawsOf q good .neg-below a ha)
 
   pub negative-same : (q ≡ 5 → ⊥) → Is q a (opsOf q .neg a)
-  negative-same other = is-negative a (sym (neg-same q a good other))
+  negative-same other = is-negative a (sym (lawful q good .negatives other a))
 
   pub negative-of-zero : q ≡ 5 → a ≡ 0 → Is q 0 (opsOf q .neg a)
   negative-of-zero e z = let none : 0 ≡ (5 - a) % 5 = omega arith in is-negative 0 (none ∙ sym (neg-modulo q e a))

@@ -1,4 +1,4 @@
-// The fields of 01 with q elements, q chosen at run time: five or eight. A symbol is a `u8` below q.
+// The fields of 01 and 02 with q elements, q chosen at run time: five, eight or sixteen. A symbol is a `u8` below q.
 // Read-only in the source are a field's powers of α and their exponents. The outermost call makes the table of products from them, in its working memory, and
 // lends it down.
 ghost use Prim.Native.Nat.{_<_, _≤_};
@@ -19,8 +19,12 @@ const POWERS_8: [u8; 7] = [1, 2, 4, 3, 6, 7, 5];
 
 const EXPONENTS_8: [u8; 8] = [0, 0, 1, 3, 2, 6, 4, 5];
 
-// The products of a field, with room for the larger: a × b in row a, place b.
-pub type Products = [[u8; 8]; 8];
+const POWERS_16: [u8; 15] = [1, 2, 4, 8, 3, 6, 12, 11, 5, 10, 7, 14, 15, 13, 9];
+
+const EXPONENTS_16: [u8; 16] = [0, 0, 1, 4, 2, 8, 5, 10, 3, 14, 9, 7, 6, 13, 11, 12];
+
+// The products of a field, with room for the largest: a × b in row a, place b.
+pub type Products = [[u8; 16]; 16];
 
 // a × b from the lists: the power at the sum of the exponents, counted round the list. Products with zero are zero.
 fn product_by_exponents(q: usize, powers: &[u8], exponents: &[u8], a: u8, b: u8) -> u8
@@ -59,7 +63,7 @@ fn products_from(q: usize, powers: &[u8], exponents: &[u8]) -> Products
     requires { ⌜ Good q × ListsOf q (now powers) (now exponents) ⌝ }
     ensures { λ r. ⌜ ProductsOf q r ⌝ }
 {
-    let mut products: Products = [[0; 8]; 8];
+    let mut products: Products = [[0; 16]; 16];
     let mut a: usize = 0;
     while a < q {
         lay_multiples(q, powers, exponents, a as u8, &mut products[a]);
@@ -77,7 +81,10 @@ pub fn products(q: usize) -> Products
     if q == 5 {
         return products_from(5, &POWERS_5, &EXPONENTS_5);
     }
-    products_from(8, &POWERS_8, &EXPONENTS_8)
+    if q == 8 {
+        return products_from(8, &POWERS_8, &EXPONENTS_8);
+    }
+    products_from(16, &POWERS_16, &EXPONENTS_16)
 }
 
 // a + b

@@ -12,9 +12,9 @@ mod writing;
 use question::Answer;
 
 // The most symbols of a frame, and of its message, in any setting.
-pub const MOST_SYMBOLS: usize = 3598;
+pub const MOST_SYMBOLS: usize = 7725;
 
-pub const MOST_INFORMATION: usize = 1536;
+pub const MOST_INFORMATION: usize = 2560;
 
 // The longest line, four characters before a frame; and the longest answer, ten before a message.
 pub const MOST_CHARACTERS: usize = 4 + MOST_SYMBOLS;

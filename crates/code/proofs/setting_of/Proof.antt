@@ -1,25 +1,24 @@
--- `code::setting_of` gives 01's table.
+-- `code::setting_of` gives the entry of the list of settings: in each branch the number is known.
 use mathlib.Core.Path.{_≡_, ap}
+use Prim.Native.Nat.{ℕ, _≤_}
 use native.Mathlib.Omega.{arith}
-use Rattle.code.specs.Settings.{settingOf}
+use lib.ListN.{length}
+use Rattle.code.specs.Settings.{settings, settingOf}
 use Rattle.code.proofs.Settings.{setting-range}
 use Rattle.code.proofs.setting_of.Statement.{statement}
 use Rattle.code.proofs.setting_of.Tie as tie
 
-returns : tie.Need-returns
-returns c =
-    let first : 1 ≡ c .before .args .number = omega (arith, setting-range (c .before .args .number) (c .before .pre)) in
-    ap settingOf first
+-- The setting with the number of the call.
+known : (c : tie.Start) (s : ℕ) → s ≡ c .args .number → settingOf s ≡ settingOf (c .args .number)
+known c s e = ap settingOf e
 
-returns-2 : tie.Need-returns-2
-returns-2 c =
-    let second : 2 ≡ c .before .before .args .number = omega (arith, setting-range (c .before .before .args .number) (c .before .before .pre)) in
-    ap settingOf second
-
-returns-3 : tie.Need-returns-3
-returns-3 c =
-    let third : 3 ≡ c .before .before .args .number = omega (arith, setting-range (c .before .before .args .number) (c .before .before .pre)) in
-    ap settingOf third
+range : (c : tie.Start) → (1 ≤ c .args .number) × (c .args .number ≤ length settings)
+range c = setting-range (c .args .number) (c .pre)
 
 pub setting-of-spec : {M : Type 1} → statement M
-setting-of-spec = tie.close (tie.spec returns returns-2 returns-3)
+setting-of-spec =
+    tie.close
+    (tie.spec (λ c. known (c .before) 1 (omega (arith, range (c .before)))) (λ c. known (c .before .before) 2 (omega (arith, range (c .before .before))))
+    (λ c. known (c .before .before .before) 3 (omega (arith, range (c .before .before .before))))
+    (λ c. known (c .before .before .before .before) 4 (omega (arith, range (c .before .before .before .before))))
+    (λ c. known (c .before .before .before .before) 5 (omega (arith, range (c .before .before .before .before)))))

@@ -11,7 +11,7 @@ use Rattle.field.proofs.products_from.Statement.{statement}
 use Rattle.field.proofs.products_from.Tie as tie
 
 abbrev Inv-loop : tie.InvT-loop
-Inv-loop q powers exponents products₀ a₀ products a = (a ≤ q) × (length products ≡ 8) × ((i : ℕ) → i < a → MultiplesOf q i (getD products i []))
+Inv-loop q powers exponents products₀ a₀ products a = (a ≤ q) × (length products ≡ 16) × ((i : ℕ) → i < a → MultiplesOf q i (getD products i []))
 
 abbrev μ-loop : tie.MeasureT-loop
 μ-loop q powers exponents products₀ a₀ products a = q - a
