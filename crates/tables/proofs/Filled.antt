@@ -17,7 +17,6 @@ use Rattle.area.proofs.Parts.{put-length, put-before, put-inside}
 use Rattle.code.specs.declared.Setting.{Setting}
 use Rattle.code.specs.Generator.{rowSymbol}
 use Rattle.code.specs.Settings.{codeOf}
-use Rattle.code.specs.parts.Sound.{Sound}
 use Rattle.tables.specs.parts.Rows.{generatorOf, generatorRow, rowsLength, RowsOf}
 
 -- A row laid out is the part in its place.
@@ -48,27 +47,28 @@ module _ (p : Setting) where
         ∙ ap (paste before at (generatorRow p j r)) row-long
 
   -- Row a of all is one of the generator's, and has room.
-  pub row-within : Sound p → (a : ℕ) (rows : List ℕ) → a < (p .m + 1) * p .k → rowsLength p ≤ length rows
-      → (a / p .k < p .m + 1) × (a % p .k < p .k) × (a * p .n + p .n ≤ length rows)
-  row-within S a rows l room =
-      let next : a + 1 ≤ (p .m + 1) * p .k = omega arith in
-      (div-lt-iff-lt-mul (S .information) .1 l, mod-lt a (S .information), omega (arith, mul-le-mul-right (p .n) next))
+  pub row-within : (a : ℕ) (rows : List ℕ) → a < p .k * (p .m + 1) → rowsLength p ≤ length rows
+      → (a % (p .m + 1) < p .m + 1) × (a / (p .m + 1) < p .k) × (a * p .n + p .n ≤ length rows)
+  row-within a rows l room =
+      let next : a + 1 ≤ p .k * (p .m + 1) = omega arith in
+      let some : 0 < p .m + 1 = omega arith in
+      (mod-lt a some, div-lt-iff-lt-mul some .1 l, omega (arith, mul-le-mul-right (p .n) next))
 
   -- The first a rows stand in their places.
   pub record Filled (a : ℕ) (rows : List ℕ) : Type 0 where
-    pub at : (b i : ℕ) → b < a → i < p .n → getD rows (b * p .n + i) 0 ≡ rowSymbol (codeOf p) (b / p .k) (b % p .k) i
+    pub at : (b i : ℕ) → b < a → i < p .n → getD rows (b * p .n + i) 0 ≡ rowSymbol (codeOf p) (b % (p .m + 1)) (b / (p .m + 1)) i
 
   pub filled-none : (rows : List ℕ) → Filled 0 rows
   filled-none rows = record { at = λ b i l h. absurd (omega arith) }
 
   -- One row more.
-  module _ (a : ℕ) (rows after : List ℕ) (f : Filled a rows) (within : (a / p .k < p .m + 1) × (a % p .k < p .k) × (a * p .n + p .n ≤ length rows))
-      (laid : after ≡ paste rows (a * p .n) (generatorRow p (a / p .k) (a % p .k)) (p .n)) where
+  module _ (a : ℕ) (rows after : List ℕ) (f : Filled a rows) (within : (a % (p .m + 1) < p .m + 1) × (a / (p .m + 1) < p .k) × (a * p .n + p .n ≤ length rows))
+      (laid : after ≡ paste rows (a * p .n) (generatorRow p (a % (p .m + 1)) (a / (p .m + 1))) (p .n)) where
     abbrev row : List ℕ
-    row = generatorRow p (a / p .k) (a % p .k)
+    row = generatorRow p (a % (p .m + 1)) (a / (p .m + 1))
 
     long : length row ≡ p .n
-    long = row-long (a / p .k) (a % p .k) (within .0) (within .1)
+    long = row-long (a % (p .m + 1)) (a / (p .m + 1)) (within .0) (within .1)
 
     room : a * p .n + length row ≤ length rows
     room = omega (arith, long, within .2)
@@ -83,20 +83,20 @@ module _ (p : Setting) where
     filled-more = record { at = λ b i l h. ap (λ (t : List ℕ). getD t (b * p .n + i) 0) put ∙ at b i l h (decLt b a) }
       where
         at : (b i : ℕ) → b < a + 1 → i < p .n → Dec (b < a)
-            → getD (putMid (a * p .n) (length row) rows row) (b * p .n + i) 0 ≡ rowSymbol (codeOf p) (b / p .k) (b % p .k) i
+            → getD (putMid (a * p .n) (length row) rows row) (b * p .n + i) 0 ≡ rowSymbol (codeOf p) (b % (p .m + 1)) (b / (p .m + 1)) i
         at b i l h (yes g) = put-before (a * p .n) (length row) rows row room refl (b * p .n + i) (digits-lt g h) ∙ f .at b i g h
         at b i l h (no g) =
             let last : b ≡ a = omega arith in
             rw last (put-inside (a * p .n) (length row) rows row room refl i (subst (λ (t : ℕ). i < t) (sym long) h)
-            ∙ ap (λ (t : List ℕ). getD t i 0) (row-list (a / p .k) (a % p .k) (within .0) (within .1))
-            ∙ getD-tabulate (p .n) (rowSymbol (codeOf p) (a / p .k) (a % p .k)) i 0 h)
+            ∙ ap (λ (t : List ℕ). getD t i 0) (row-list (a % (p .m + 1)) (a / (p .m + 1)) (within .0) (within .1))
+            ∙ getD-tabulate (p .n) (rowSymbol (codeOf p) (a % (p .m + 1)) (a / (p .m + 1))) i 0 h)
 
   -- The filled rows are the generator's.
-  pub rows-of : (rows : List ℕ) → Filled ((p .m + 1) * p .k) rows → rowsLength p ≤ length rows → RowsOf p rows
+  pub rows-of : (rows : List ℕ) → Filled (p .k * (p .m + 1)) rows → rowsLength p ≤ length rows → RowsOf p rows
   rows-of rows f room =
       record {
         room = room;
         at = λ j r i lj lr li.
-            f .at (j * p .k + r) i (digits-lt lj lr) li
-            ∙ ap₂ (λ (b a : ℕ). rowSymbol (codeOf p) b a i) (digits-div j lr) (digits-mod j lr);
+            f .at (r * (p .m + 1) + j) i (digits-lt lr lj) li
+            ∙ ap₂ (λ (b a : ℕ). rowSymbol (codeOf p) b a i) (digits-mod r lj) (digits-div r lj);
       }

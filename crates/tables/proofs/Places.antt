@@ -23,17 +23,17 @@ use Rattle.tables.specs.parts.Rows.{rowsLength, RowsOf}
 
 -- The steps of computing a place stay within the rows, and the symbol there is the generator's.
 pub record Place (p : Setting) (rows : List ℕ) (j r i : ℕ) : Type 0 where
-  pub group : j * p .k ≤ length rows
-  pub row : j * p .k + r ≤ length rows
-  pub start : (j * p .k + r) * p .n ≤ length rows
-  pub place : (j * p .k + r) * p .n + i < length rows
-  pub below : getD rows ((j * p .k + r) * p .n + i) 0 < p .q
+  pub group : r * (p .m + 1) ≤ length rows
+  pub row : r * (p .m + 1) + j ≤ length rows
+  pub start : (r * (p .m + 1) + j) * p .n ≤ length rows
+  pub place : (r * (p .m + 1) + j) * p .n + i < length rows
+  pub below : getD rows ((r * (p .m + 1) + j) * p .n + i) 0 < p .q
 
 pub place-of : (p : Setting) → Sound p → (rows : List ℕ) → RowsOf p rows → (j r i : ℕ) → j ≤ p .m → r < p .k → i < p .n → Place p rows j r i
 place-of p S rows R j r i lj lr li =
     let inside : j < p .m + 1 = omega arith in
-    let fits : (j * p .k + r) * p .n + i < rowsLength p = digits-lt (digits-lt inside lr) li in
-    let wide : j * p .k + r ≤ (j * p .k + r) * p .n = omega (arith, mul-le-mul-left (j * p .k + r) (block-positive p S)) in
+    let fits : (r * (p .m + 1) + j) * p .n + i < rowsLength p = digits-lt (digits-lt lr inside) li in
+    let wide : r * (p .m + 1) + j ≤ (r * (p .m + 1) + j) * p .n = omega (arith, mul-le-mul-left (r * (p .m + 1) + j) (block-positive p S)) in
     record {
       group = omega (arith, R .room);
       row = omega (arith, R .room);
@@ -46,17 +46,17 @@ place-of p S rows R j r i lj lr li =
 pub first-place : (p : Setting) → Sound p → (rows : List ℕ) → RowsOf p rows → (0 < length rows) × (getD rows 0 0 < p .q)
 first-place p S rows R =
     let at : Place p rows 0 0 0 = place-of p S rows R 0 0 0 (omega arith) (S .information) (block-positive p S) in
-    let first : (0 * p .k + 0) * p .n + 0 ≡ 0 = omega arith in
+    let first : (0 * (p .m + 1) + 0) * p .n + 0 ≡ 0 = omega arith in
     (subst (λ (t : ℕ). t < length rows) first (at .place), subst (λ (t : ℕ). getD rows t 0 < p .q) first (at .below))
 
 -- The first r terms of the sum over the rows of G_j, from the lent rows.
 abbrev pub product-sum : ℕ → List ℕ → List ℕ → ℕ → ℕ → ℕ → ℕ → ℕ → ℕ → ℕ
-product-sum q rows information from n k j i r =
-    sum (opsOf q) r (λ a. opsOf q .mul (getD information (from + a) 0) (getD rows ((j * k + a) * n + i) 0))
+product-sum q rows information from n powers j i r =
+    sum (opsOf q) r (λ a. opsOf q .mul (getD information (from + a) 0) (getD rows ((a * powers + j) * n + i) 0))
 
 -- The whole sum is (information block) × G_j.
 pub product-sum-all : (p : Setting) (rows information : List ℕ) (from j i : ℕ) → RowsOf p rows → j ≤ p .m → i < p .n
-    → product-sum (p .q) rows information from (p .n) (p .k) j i (p .k) ≡ timesG (codeOf p) (λ a. getD information (from + a) 0) j i
+    → product-sum (p .q) rows information from (p .n) (p .m + 1) j i (p .k) ≡ timesG (codeOf p) (λ a. getD information (from + a) 0) j i
 unfolding timesG
 product-sum-all p rows information from j i R lj li =
     let below : j < p .m + 1 = omega arith in

@@ -1,118 +1,117 @@
--- Multiples of the generator's rows, added to a block symbol by symbol and to a window block by block.
--- Holds: `multiple-none`, `multiple-more`; `row-room`, `row-symbols`, `row-added`; `rows-none`, `rows-more`.
-use mathlib.Core.Path.{_≡_, refl, sym, ap, ap₂, subst, _∙_}
+-- Multiples of the generator's rows, added to a window.
+-- Holds: `added-none`, `added-one`, `added-up`, `added-down` (a multiple of a row, added to some symbols of an area); `window-row-room`,
+-- `window-row-symbols`, `rows-added` (row r of G_0, .., G_m is a part of the rows, as long as a window).
+use mathlib.Core.Path.{_≡_, refl, sym, ap, subst, _∙_}
 use mathlib.Core.List.{List}
-use Prim.Native.Nat.{ℕ, _+_, _-_, _*_, _≤_, _<_}
+use Prim.Native.Nat.{ℕ, _+_, _-_, _*_, _/_, _%_, _≤_, _<_}
 use native.Mathlib.Nat.{mul-le-mul-right}
 use native.Mathlib.Omega.{arith}
-use native.Mathlib.Decide.{ℕ-discrete}
+use native.Mathlib.Decide.{decLt}
 use lib.ListN.{length, getD, take, drop, set, length-set}
 use lib.Arith.{digits-lt}
-use lib.Seq.{getD-set-other}
-use borrow.Rule.Slice.PartMut.{putMid}
-use Rattle.area.specs.Lists.{view}
-use Rattle.area.proofs.Lists.{stored}
-use Rattle.area.proofs.Parts.{part-length, part-symbol, put-length, put-before, put-inside, put-after}
+use lib.Seq.{getD-set-same, getD-set-other}
+use Rattle.area.proofs.Lists.{place-in-blocks}
+use Rattle.area.proofs.Parts.{part-length, part-symbol}
 use Rattle.field.specs.Fields.{opsOf}
 use Rattle.field.specs.parts.Operations.{Is}
 use Rattle.field.specs.Symbols.{Symbols}
-use Rattle.field.proofs.Symbols.{symbols-set, put-symbols}
+use Rattle.field.proofs.Symbols.{symbols-set}
 use Rattle.code.specs.declared.Setting.{Setting}
 use Rattle.code.specs.Generator.{rowSymbol}
 use Rattle.code.specs.Settings.{codeOf}
+use Rattle.code.specs.Windows.{windowLength}
 use Rattle.code.specs.parts.Sound.{Sound}
 use Rattle.code.proofs.CodeBelow.{rowSymbol-below}
+use Rattle.code.proofs.Settings.{block-positive}
 use Rattle.tables.specs.parts.Rows.{RowsOf}
-use Rattle.tables.specs.parts.RowsAdded.{plusRow, MultipleAdded, RowAdded, RowsAdded}
+use Rattle.tables.specs.parts.RowsAdded.{MultipleAdded, RowsAdded}
 
-module _ (q u : ℕ) (row before : List ℕ) where
-  pub multiple-none : Symbols q before → MultipleAdded q u 0 row before before
-  multiple-none S = record { long = refl; symbols = S; inside = λ i l. absurd (omega arith); outside = λ i l. refl }
+-- v × a row, added to symbols of an area: to none, to one, and to more above or below.
+module _ (q v : ℕ) (row : List ℕ) where
+  -- a + v × (symbol i of the row)
+  abbrev plus : ℕ → ℕ → ℕ
+  plus i a = opsOf q .add a (opsOf q .mul v (getD row i 0))
 
-  pub multiple-more : (i : ℕ) (after : List ℕ) (v : ℕ) → MultipleAdded q u i row before after → i < length before
-      → Is q v (opsOf q .add (getD after i 0) (opsOf q .mul u (getD row i 0))) → MultipleAdded q u (i + 1) row before (set after i v)
-  multiple-more i after v L l is =
+  pub added-none : (a : ℕ) (area : List ℕ) → Symbols q area → MultipleAdded q v a a row area area
+  added-none a area S = record { long = refl; symbols = S; inside = λ i l h. absurd (omega arith); under = λ i l. refl; over = λ i l. refl }
+
+  pub added-one : (i : ℕ) (area : List ℕ) (s : ℕ) → Symbols q area → i < length area → Is q s (plus i (getD area i 0))
+      → MultipleAdded q v i (i + 1) row area (set area i s)
+  added-one i area s S room is =
       record {
-        long = length-set after i v ∙ L .long;
-        symbols = symbols-set q after i v (is .below) (L .symbols);
-        inside = stored after (λ a. a) (λ a. opsOf q .add (getD before a 0) (opsOf q .mul u (getD row a 0))) i v (omega (arith, L .long))
-            (is .same ∙ ap (λ (t : ℕ). opsOf q .add t (opsOf q .mul u (getD row i 0))) (L .outside i (omega arith))) (λ a h. omega arith) (L .inside);
-        outside = λ a h. getD-set-other after i a v 0 (omega arith) ∙ L .outside a (omega arith);
+        long = length-set area i s;
+        symbols = symbols-set q area i s (is .below) S;
+        inside = λ a l h. let here : a ≡ i = omega arith in
+            rw here (getD-set-same area i s 0 room ∙ is .same);
+        under = λ a l. getD-set-other area i a s 0 (omega arith);
+        over = λ a l. getD-set-other area i a s 0 (omega arith);
       }
 
--- A row of the generator is that part of the lent rows.
-module _ (p : Setting) (S : Sound p) (rows : List ℕ) (R : RowsOf p rows) (j r : ℕ) (lj : j ≤ p .m) (lr : r < p .k) where
+  module _ (a b b' c c' : ℕ) (lower : a ≤ b) (joined : b ≡ b') (upper : b' ≤ c) (end : c ≡ c') (before between after : List ℕ) where
+    pub added-up : MultipleAdded q v a b row before between → MultipleAdded q v b' c row between after → MultipleAdded q v a c' row before after
+    added-up L M =
+        record {
+          long = M .long ∙ L .long;
+          symbols = M .symbols;
+          inside = λ i l h. at i l h (decLt i b);
+          under = λ i l. M .under i (omega arith) ∙ L .under i l;
+          over = λ i l. M .over i (omega arith) ∙ L .over i (omega arith);
+        }
+      where
+        at : (i : ℕ) → a ≤ i → i < c' → Dec (i < b) → getD after i 0 ≡ plus i (getD before i 0)
+        at i l h (yes d) = M .under i (omega arith) ∙ L .inside i l d
+        at i l h (no d) = M .inside i (omega arith) (omega arith) ∙ ap (plus i) (L .over i (omega arith))
+
+    pub added-down : MultipleAdded q v b' c row before between → MultipleAdded q v a b row between after → MultipleAdded q v a c' row before after
+    added-down L M =
+        record {
+          long = M .long ∙ L .long;
+          symbols = M .symbols;
+          inside = λ i l h. at i l h (decLt i b);
+          under = λ i l. M .under i l ∙ L .under i (omega arith);
+          over = λ i l. M .over i (omega arith) ∙ L .over i (omega arith);
+        }
+      where
+        at : (i : ℕ) → a ≤ i → i < c' → Dec (i < b) → getD after i 0 ≡ plus i (getD before i 0)
+        at i l h (yes d) = M .inside i l d ∙ ap (plus i) (L .under i (omega arith))
+        at i l h (no d) = M .over i (omega arith) ∙ L .inside i (omega arith) (omega arith)
+
+-- Row r of G_0, .., G_m is a part of the lent rows.
+module _ (p : Setting) (S : Sound p) (rows : List ℕ) (R : RowsOf p rows) (r : ℕ) (lr : r < p .k) where
   abbrev start : ℕ
-  start = (j * p .k + r) * p .n
+  start = r * windowLength p
 
   abbrev row : List ℕ
-  row = take (start + p .n - start) (drop start rows)
+  row = take (start + windowLength p - start) (drop start rows)
 
-  pub row-room : start + p .n ≤ length rows
-  row-room =
-      let below : j < p .m + 1 = omega arith in
-      let next : j * p .k + r + 1 ≤ (p .m + 1) * p .k = omega (arith, digits-lt below lr) in
-      omega (arith, mul-le-mul-right (p .n) next, R .room)
+  pub window-row-room : start + windowLength p ≤ length rows
+  window-row-room =
+      let next : r + 1 ≤ p .k = omega arith in
+      omega (arith, mul-le-mul-right (windowLength p) next, R .room)
 
-  row-symbol : (i : ℕ) → i < p .n → getD row i 0 ≡ rowSymbol (codeOf p) j r i
-  row-symbol i l = part-symbol (p .n) start rows i l ∙ R .at j r i (omega arith) lr l
+  row-symbol : (s i : ℕ) → s < p .m + 1 → i < p .n → getD row (s * p .n + i) 0 ≡ rowSymbol (codeOf p) s r i
+  row-symbol s i l h =
+      let place : start + (s * p .n + i) ≡ (r * (p .m + 1) + s) * p .n + i = omega arith in
+      part-symbol (windowLength p) start rows (s * p .n + i) (digits-lt l h) ∙ ap (λ (t : ℕ). getD rows t 0) place ∙ R .at s r i l lr h
 
-  pub row-symbols : Symbols (p .q) row
-  row-symbols =
+  pub window-row-symbols : Symbols (p .q) row
+  window-row-symbols =
       record {
-        below = λ i l. let inside : i < p .n = omega (arith, part-length (p .n) start rows row-room) in
-            subst (λ (t : ℕ). t < p .q) (sym (row-symbol i inside)) (rowSymbol-below p S j r i);
+        below = λ a l.
+            let inside : a < windowLength p = omega (arith, part-length (windowLength p) start rows window-row-room) in
+            let place = place-in-blocks (p .m + 1) a (p .n) (block-positive p S) inside in
+            subst (λ (t : ℕ). getD row t 0 < p .q) (place .2)
+            (subst (λ (t : ℕ). t < p .q) (sym (row-symbol (a / p .n) (a % p .n) (place .0) (place .1))) (rowSymbol-below p S (a / p .n) r (a % p .n)));
       }
 
-  pub row-added : (v : ℕ) (before after : List ℕ) → length before ≡ p .n → MultipleAdded (p .q) v (length before) row before after
-      → RowAdded p r v j before after
-  row-added v before after long M =
+  pub rows-added : (v : ℕ) (before after : List ℕ) → length before ≡ windowLength p → MultipleAdded (p .q) v 0 (length before) row before after
+      → RowsAdded p r v (p .m + 1) before after
+  rows-added v before after long M =
       record {
         long = M .long;
         symbols = M .symbols;
-        inside = λ i l. M .inside i (omega arith) ∙ ap (λ (t : ℕ). opsOf (p .q) .add (getD before i 0) (opsOf (p .q) .mul v t)) (row-symbol i l);
+        inside = λ s i l h.
+            M .inside (s * p .n + i) (omega arith) (subst (λ (t : ℕ). s * p .n + i < t) (sym long) (digits-lt l h))
+            ∙ ap (λ (t : ℕ). opsOf (p .q) .add (getD before (s * p .n + i) 0) (opsOf (p .q) .mul v t)) (row-symbol s i l h);
+        outside = λ a l. M .over a (omega arith);
       }
-
-module _ (p : Setting) (r u : ℕ) (before : List ℕ) where
-  pub rows-none : Symbols (p .q) before → RowsAdded p r u 0 before before
-  rows-none S = record { long = refl; symbols = S; inside = λ s i l h. absurd (omega arith); outside = λ a l. refl }
-
-  pub rows-more : (s start : ℕ) (window part : List ℕ) → start ≡ s * p .n → start + p .n ≤ length window → RowsAdded p r u s before window
-      → RowAdded p r u s (take (start + p .n - start) (drop start window)) part
-      → RowsAdded p r u (s + 1) before (putMid start (start + p .n - start) window part)
-  rows-more s start window part e room L M =
-      record {
-        long = put-length start size window part fits part-long ∙ L .long;
-        symbols = put-symbols start size window part (p .q) (L .symbols) (M .symbols);
-        inside = λ b i l h. at b i l h (ℕ-discrete b s);
-        outside = λ a h. put-after start size window part fits part-long a (omega (arith, same)) ∙ L .outside a (omega arith);
-      }
-    where
-      size : ℕ
-      size = start + p .n - start
-
-      same : size ≡ p .n
-      same = omega arith
-
-      fits : start + size ≤ length window
-      fits = omega (arith, same)
-
-      part-long : length part ≡ size
-      part-long = M .long ∙ (part-length (p .n) start window room ∙ sym same)
-
-      at : (b i : ℕ) → b < s + 1 → i < p .n → Dec (b ≡ s)
-          → view (p .n) (putMid start size window part) b i ≡ plusRow p r u b i (view (p .n) before b i)
-      at b i l h (yes d) =
-          let place : b * p .n + i ≡ start + i = ap (λ (t : ℕ). t * p .n + i) d ∙ ap (λ (t : ℕ). t + i) (sym e) in
-          let past : s * p .n ≤ s * p .n + i = omega arith in
-          ap (λ (t : ℕ). getD (putMid start size window part) t 0) place
-          ∙ put-inside start size window part fits part-long i (omega (arith, same))
-          ∙ M .inside i h
-          ∙ ap₂ (λ (t v : ℕ). plusRow p r u v i t)
-          (part-symbol (p .n) start window i h ∙ ap (λ (t : ℕ). getD window (t + i) 0) e ∙ L .outside (s * p .n + i) past
-          ∙ ap (λ (t : ℕ). getD before (t * p .n + i) 0) (sym d))
-          (sym d)
-      at b i l h (no d) =
-          let lower : b < s = omega arith in
-          put-before start size window part fits part-long (b * p .n + i) (subst (λ (t : ℕ). b * p .n + i < t) (sym e) (digits-lt lower h))
-          ∙ L .inside b i lower h

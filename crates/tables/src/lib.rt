@@ -9,8 +9,6 @@ ghost use Rattle.tables.specs.parts.Rows.{generatorOf, generatorRow, row
 
 pub mod combine;
 
-use code::Setting;
-
 // The most symbols of any setting's rows, and of a block: what a call that makes these areas makes room for.
 pub const LONGEST_ROWS: usize = 225;
 
@@ -151,43 +149,19 @@ fn lay_generator_row(number: u64, j: usize, r: usize, at: usize, area: &mut [u8]
     lay_row(&generator_5()[j][r], at, area);
 }
 
-// Lays all rows of a setting out at the front of the area: those of G_0, then of G_1 and so on. The loop of `rows`.
-fn lay_rows(number: u64, area: &mut [u8])
-    requires { ⌜ Passes (isSetting number) × (rowsLength (settingOf number) ≤ length (now area)) ⌝ }
-    ensures { λ _. ⌜ RowsOf (settingOf number) (now (area .exit)) ⌝ }
-{
-    let p = code::setting_of(number);
-    let k = p.k;
-    let n = p.n;
-    let count = (p.m + 1) * k;
-    let mut a: usize = 0;
-    while a < count {
-        lay_generator_row(number, a / k, a % k, a * n, area);
-        a += 1;
-    }
-}
-
-// A setting's rows one after the other, at the front of the area. Each call of the loop has its number as a constant, so that the compiler unrolls it to
-// the table's bytes. Told apart by `==`: by `<`, as in `code::setting_of`, encoding takes up to 8 % more instructions.
+// A setting's rows one after the other, at the front of the area: row 0 of G_0, .., G_m, then row 1 of them and so on. So what one information symbol is
+// multiplied with stands together.
 pub fn rows(number: u64, area: &mut [u8])
     requires { ⌜ Passes (isSetting number) × (rowsLength (settingOf number) ≤ length (now area)) ⌝ }
     ensures { λ _. ⌜ RowsOf (settingOf number) (now (area .exit)) ⌝ }
 {
-    if number == 1 {
-        lay_rows(1, area);
-        return;
+    let p = code::setting_of(number);
+    let n = p.n;
+    let powers = p.m + 1;
+    let count = p.k * powers;
+    let mut a: usize = 0;
+    while a < count {
+        lay_generator_row(number, a % powers, a / powers, a * n, area);
+        a += 1;
     }
-    if number == 2 {
-        lay_rows(2, area);
-        return;
-    }
-    if number == 3 {
-        lay_rows(3, area);
-        return;
-    }
-    if number == 4 {
-        lay_rows(4, area);
-        return;
-    }
-    lay_rows(5, area);
 }

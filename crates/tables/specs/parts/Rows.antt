@@ -21,7 +21,7 @@ generatorRow p j r = getD (getD (generatorOf p) j []) r []
 
 -- How many symbols a setting's rows have.
 abbrev pub rowsLength : Setting → ℕ
-rowsLength p = (p .m + 1) * p .k * p .n
+rowsLength p = p .k * (p .m + 1) * p .n
 
 -- The most symbols of any setting's rows, and of a block.
 abbrev pub longestRows : ℕ
@@ -35,10 +35,10 @@ pub record Narrow (p : Setting) : Type 0 where
   pub rows : rowsLength p ≤ longestRows
   pub block : p .n ≤ longestBlock
 
--- The rows stand one after the other at the front of an area: symbol i of row r of G_j at ((j k) + r) n + i.
+-- The rows stand one after the other at the front of an area, row r of G_0, .., G_m before row r + 1 of them: symbol i of row r of G_j at (r (m+1) + j) n + i.
 pub record RowsOf (p : Setting) (rows : List ℕ) : Type 0 where
   pub room : rowsLength p ≤ length rows
-  pub at : (j r i : ℕ) → j < p .m + 1 → r < p .k → i < p .n → getD rows ((j * p .k + r) * p .n + i) 0 ≡ rowSymbol (codeOf p) j r i
+  pub at : (j r i : ℕ) → j < p .m + 1 → r < p .k → i < p .n → getD rows ((r * (p .m + 1) + j) * p .n + i) 0 ≡ rowSymbol (codeOf p) j r i
 
 -- What a setting's functions are lent: its field's products and its rows.
 pub record Ready (p : Setting) (lent-products : Products) (lent-rows : List ℕ) : Type 0 where

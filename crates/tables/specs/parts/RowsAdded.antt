@@ -1,4 +1,4 @@
--- Multiples of the generator's rows, added to a block and to a window. Holds: `MultipleAdded`, `plusRow`, `RowAdded`, `RowsAdded`.
+-- Multiples of the generator's rows, added to a window. Holds: `MultipleAdded`, `plusRow`, `RowsAdded`.
 use mathlib.Core.Path.{_≡_}
 use mathlib.Core.List.{List}
 use Prim.Native.Nat.{ℕ, _*_, _≤_, _<_}
@@ -14,18 +14,13 @@ use Rattle.code.specs.Settings.{codeOf}
 abbrev pub plusRow : Setting → ℕ → ℕ → ℕ → ℕ → ℕ → ℕ
 plusRow p r v j i a = opsOf (p .q) .add a (opsOf (p .q) .mul v (rowSymbol (codeOf p) j r i))
 
--- v × a row was added to the first `count` symbols of a block.
-pub record MultipleAdded (q v count : ℕ) (row before after : List ℕ) : Type 0 where
+-- v × a row was added to the symbols `from` .. `to - 1` of an area.
+pub record MultipleAdded (q v from to : ℕ) (row before after : List ℕ) : Type 0 where
   pub long : length after ≡ length before
   pub symbols : Symbols q after
-  pub inside : (i : ℕ) → i < count → getD after i 0 ≡ opsOf q .add (getD before i 0) (opsOf q .mul v (getD row i 0))
-  pub outside : (i : ℕ) → count ≤ i → getD after i 0 ≡ getD before i 0
-
--- v × row r of G_j was added to a block.
-pub record RowAdded (p : Setting) (r v j : ℕ) (before after : List ℕ) : Type 0 where
-  pub long : length after ≡ length before
-  pub symbols : Symbols (p .q) after
-  pub inside : (i : ℕ) → i < p .n → getD after i 0 ≡ plusRow p r v j i (getD before i 0)
+  pub inside : (i : ℕ) → from ≤ i → i < to → getD after i 0 ≡ opsOf q .add (getD before i 0) (opsOf q .mul v (getD row i 0))
+  pub under : (i : ℕ) → i < from → getD after i 0 ≡ getD before i 0
+  pub over : (i : ℕ) → to ≤ i → getD after i 0 ≡ getD before i 0
 
 -- v × row r of G_0, .., G_(j-1) was added to the blocks 0 .. j-1 of a window.
 pub record RowsAdded (p : Setting) (r v j : ℕ) (before after : List ℕ) : Type 0 where

@@ -1,88 +1,58 @@
--- `tables::combine::add_rows`: the multiples of the rows were added to the first j blocks.
-use mathlib.Core.Path.{_≡_, subst}
-use Prim.Native.Nat.{ℕ, _+_, _-_, _*_, _≤_}
+-- `tables::combine::add_rows`: row r of G_0, .., G_m is that part of the rows, and as long as the window.
+use mathlib.Core.Path.{sym, _∙_}
+use Prim.Native.Nat.{ℕ, _+_, _*_, _≤_}
 use native.Mathlib.Omega.{arith}
-use native.Mathlib.Nat.{mul-le-mul-right}
+use borrow.Author.Needs.{needs}
 use denote.Ref.{now}
 use lib.ListN.{length}
 use Rattle.area.proofs.Parts.{part-length}
-use Rattle.field.proofs.Symbols.{symbols-part}
+use Rattle.code.specs.Windows.{windowLength}
 use Rattle.code.proofs.Settings.{sizes}
-use Rattle.tables.specs.parts.RowsAdded.{RowsAdded}
-use Rattle.tables.proofs.RowsAdded.{rows-none, rows-more}
+use Rattle.tables.proofs.RowsAdded.{window-row-room, window-row-symbols, rows-added}
 use Rattle.tables.proofs.combine.add_rows.Statement.{statement}
 use Rattle.tables.proofs.combine.add_rows.Tie as tie
 
-abbrev Inv-loop : tie.InvT-loop
-Inv-loop p products rows r v window₀ n m start₀ j₀ window start j = (j ≤ p .m + 1) × (start ≡ j * p .n) × RowsAdded p r v j window₀ window
-
-abbrev μ-loop : tie.MeasureT-loop
-μ-loop p products rows r v window₀ n m start₀ j₀ window start j = p .m + 1 - j
-
 -- Stages of the call, each from a later one.
-abbrev entry-of-at-loop : tie.At-loop Inv-loop μ-loop → tie.Start Inv-loop μ-loop
-entry-of-at-loop c = c .before .before .before
+abbrev entry-of : tie.After-struct-known2 → tie.Start
+entry-of c = c .before .before .before .before
 
-abbrev before-add-j : tie.After-slice-known2 Inv-loop μ-loop → tie.At-loop Inv-loop μ-loop
-before-add-j c = c .before .before .before .before .before
+abbrev before-multiple : tie.After-slice-known2 → tie.After-struct-known2
+before-multiple c = c .before .before .before .before .before
 
-abbrev entry-of-add-j : tie.After-slice-known2 Inv-loop μ-loop → tie.Start Inv-loop μ-loop
-entry-of-add-j c = entry-of-at-loop (before-add-j c)
+-- The row lies within the rows.
+room : (c : tie.Start) → c .args .r * windowLength (c .args .p) + windowLength (c .args .p) ≤ length (now (c .args .rows))
+room c = let a = c .args in window-row-room (a .p) (c .pre .0 .sound) (now (a .rows)) (c .pre .0 .rows) (a .r) (c .pre .1)
 
-loop-holds : tie.Need-loop-holds Inv-loop μ-loop
-loop-holds c =
-    let entry = c .before .before in
-    (omega arith, omega arith, rows-none (entry .args .p) (entry .args .r) (entry .args .v) (now (entry .args .window)) (entry .pre .4))
+add-size : tie.Need-add-size
+add-size c = let entry = c .before .before .before in omega (arith, sizes (entry .args .p) (entry .pre .0 .sound) .memory-most)
 
--- The block in turn lies within the window.
-inside : (c : tie.In-loop Inv-loop μ-loop) → c .before .loop .start + c .before .before .before .before .args .p .n ≤ length (c .before .loop .window)
-inside c =
-    let entry = c .before .before .before .before in
-    let l = c .before .loop in
-    let top : l .j + 1 ≤ entry .args .p .m + 1 = omega arith in
-    omega (arith, mul-le-mul-right (entry .args .p .n) top, entry .pre .3, l .inv .2 .long, l .inv .1)
+mul-start : tie.Need-mul-start
+mul-start c = omega (arith, room (entry-of c))
 
-add-end : tie.Need-add-end Inv-loop μ-loop
-add-end c = omega (arith, inside c, c .before .loop .inv .2 .long)
+add-end : tie.Need-add-end
+add-end c = omega (arith, room (entry-of c))
 
-part-add-row-end : tie.Need-part-add-row-end Inv-loop μ-loop
-part-add-row-end c = inside c
-
-add-row-requires : tie.Need-add-row-requires Inv-loop μ-loop
-add-row-requires c κs =
-    let entry = entry-of-at-loop (c .before .before) in
-    let l = c .before .before .loop in
-    let a = entry .args in (
-      entry .pre .0,
-      entry .pre .1,
-      entry .pre .2,
-      omega arith,
-      part-length (a .p .n) (l .start) (l .window) (inside (c .before)),
-      symbols-part (a .p .q) (l .start) (l .start + a .p .n) (l .window) (l .inv .2 .symbols),
+add-multiple-requires : tie.Need-add-multiple-requires
+add-multiple-requires c κs =
+    let entry = entry-of (c .before .before) in
+    let a = entry .args in
+    let p = entry .pre in (
+      p .0 .sound .good,
+      p .0 .products,
+      p .2,
+      window-row-symbols (a .p) (p .0 .sound) (now (a .rows)) (p .0 .rows) (a .r) (p .1),
+      p .4,
+      part-length (windowLength (a .p)) (a .r * windowLength (a .p)) (now (a .rows)) (room entry) ∙ sym (p .3),
     )
 
-add-j : tie.Need-add-j Inv-loop μ-loop
-add-j c = let entry = entry-of-add-j c in omega (arith, sizes (entry .args .p) (entry .pre .0 .sound) .memory-most)
-
-loop-again : tie.Need-loop-again Inv-loop μ-loop
-loop-again c =
-    let entry = entry-of-add-j c in
-    let l = before-add-j c .loop in
-    let a = entry .args in (
-      omega arith,
-      omega (arith, l .inv .1),
-      rows-more (a .p) (a .r) (a .v) (now (a .window)) (l .j) (l .start) (l .window) (c .before .before .add-row .last .1 .1 .1 .1 .1 .1 .0)
-          (l .inv .1) (inside (c .before .before .before .before)) (l .inv .2) (c .before .before .add-row .ensures),
-    )
-
-returns : tie.Need-returns Inv-loop μ-loop
+returns : tie.Need-returns
 returns c =
-    let a = c .before .before .before .before .args in
-    let done : c .before .loop .j ≡ a .p .m + 1 = omega arith in
-    subst (λ (t : ℕ). RowsAdded (a .p) (a .r) (a .v) t (now (a .window)) (c .before .loop .window)) done (c .before .loop .inv .2)
+    let entry = entry-of (before-multiple c) in
+    let a = entry .args in
+    let p = entry .pre in
+    rows-added (a .p) (p .0 .sound) (now (a .rows)) (p .0 .rows) (a .r) (p .1) (a .v) (now (a .window)) _ (p .3) (c .before .before .add-multiple .ensures)
 
 pub add-rows-spec : {M : Type 1} → statement M
 add-rows-spec =
     tie.close
-    (tie.spec Inv-loop μ-loop loop-holds add-end (λ c. omega arith) (λ c. omega arith) part-add-row-end add-row-requires add-j (λ c. omega arith)
-    loop-again (omega arith) returns)
+    (tie.spec add-size (search needs) mul-start add-end (search needs) (search needs) (λ c. room (entry-of c)) add-multiple-requires (search needs) returns)

@@ -13,17 +13,20 @@ use Rattle.tables.proofs.combine.times_g.Statement.{statement}
 use Rattle.tables.proofs.combine.times_g.Tie as tie
 
 abbrev Inv-loop : tie.InvT-loop
-Inv-loop products rows information from j i q k n sum₀ r₀ sum r = (r ≤ k) × Is q sum (product-sum q rows information from n k j i r)
+Inv-loop products rows information from j i q k n powers sum₀ r₀ sum r = (r ≤ k) × Is q sum (product-sum q rows information from n powers j i r)
 
 abbrev μ-loop : tie.MeasureT-loop
-μ-loop products rows information from j i q k n sum₀ r₀ sum r = k - r
+μ-loop products rows information from j i q k n powers sum₀ r₀ sum r = k - r
 
 -- Stages of the call, each from a later one.
 abbrev entry-of-shared-slice-read-add-product : tie.After-shared-slice-known3 Inv-loop μ-loop → tie.Start Inv-loop μ-loop
-entry-of-shared-slice-read-add-product c = c .before .before .before .before .before
+entry-of-shared-slice-read-add-product c = c .before .before .before .before .before .before
 
 loop-holds : tie.Need-loop-holds Inv-loop μ-loop
-loop-holds c = (omega arith, sum-none _ _ (c .before .before .pre .0 .sound .good))
+loop-holds c = (omega arith, sum-none _ _ (c .before .before .before .pre .0 .sound .good))
+
+add-powers : tie.Need-add-powers Inv-loop μ-loop
+add-powers c = let entry = c .before .before .before in omega (arith, sizes (entry .args .p) (entry .pre .0 .sound) .memory-most)
 
 -- The place of the row's symbol.
 placed : (c : tie.After-shared-slice-known3 Inv-loop μ-loop)
@@ -72,13 +75,13 @@ loop-again c =
 
 returns : tie.Need-returns Inv-loop μ-loop
 returns c =
-    let entry = c .before .before .before .before in
+    let entry = c .before .before .before .before .before in
     let all : c .before .loop .r ≡ entry .args .p .k = omega arith in
     record {
       same =
           c .before .loop .inv .1 .same
           ∙ (ap (product-sum (entry .args .p .q) (now (entry .args .rows)) (now (entry .args .information)) (entry .args .from) (entry .args .p .n)
-          (entry .args .p .k) (entry .args .j) (entry .args .i)) all
+          (entry .args .p .m + 1) (entry .args .j) (entry .args .i)) all
           ∙ product-sum-all (entry .args .p) (now (entry .args .rows)) (now (entry .args .information)) (entry .args .from) (entry .args .j) (entry .args .i)
           (entry .pre .0 .rows) (entry .pre .3) (entry .pre .4));
       below = c .before .loop .inv .1 .below;
@@ -87,5 +90,5 @@ returns c =
 pub times-g-spec : {M : Type 1} → statement M
 times-g-spec =
     tie.close
-    (tie.spec Inv-loop μ-loop loop-holds (λ c. omega arith) (λ c. omega arith) mul-add-product add-add-product-2 mul-add-product-2 add-add-product-3
+    (tie.spec Inv-loop μ-loop add-powers loop-holds (λ c. omega arith) (λ c. omega arith) mul-add-product add-add-product-2 mul-add-product-2 add-add-product-3
     shared-slice-read-add-product-2 add-product-requires add-r (λ c. omega arith) loop-again returns)
