@@ -64,9 +64,9 @@ ones-bits (suc n) test =
     ∙ (ap₂ (λ (a b : ℕ). a + ones b) (lowest n test) (others n test)
     ∙ (ap (λ (t : ℕ). pick (test 0) 1 0 + t) (ones-bits n (λ i. test (suc i))) ∙ sym (total-first n (λ i. pick (test i) 1 0))))
 
--- A loop from the last test down: below the marks of the tests from `left` on comes the mark of the one before, and 32 bits suffice.
-pub bits-more : (long left : ℕ) (test : ℕ → Bool) (set mark : ℕ) → 0 < left → left ≤ long → long ≤ 32 → set ≡ bits (long - left) (λ i. test (left + i))
-    → mark ≡ pick (test (left - 1)) 1 0 → (set * 2 + mark ≡ bits (long - (left - 1)) (λ i. test (left - 1 + i))) × (set * 2 + mark < 2 ^ 32)
+-- A loop from the last test down: below the marks of the tests from `left` on comes the mark of the one before, and 64 bits suffice.
+pub bits-more : (long left : ℕ) (test : ℕ → Bool) (set mark : ℕ) → 0 < left → left ≤ long → long ≤ 64 → set ≡ bits (long - left) (λ i. test (left + i))
+    → mark ≡ pick (test (left - 1)) 1 0 → (set * 2 + mark ≡ bits (long - (left - 1)) (λ i. test (left - 1 + i))) × (set * 2 + mark < 2 ^ 64)
 bits-more long left test set mark some within small e m =
     let size : suc (long - left) ≡ long - (left - 1) = omega arith in
     let first : left - 1 + 0 ≡ left - 1 = omega arith in
@@ -76,8 +76,8 @@ bits-more long left test set mark some within small e m =
     (e ∙ ap (bits (long - left)) (fun-ext (λ i. ap test (sym (place i)))))
     (m ∙ ap (λ (t : ℕ). pick (test t) 1 0) (sym first))
     ∙ (bits-front (long - left) (λ i. test (left - 1 + i)) ∙ ap (λ (t : ℕ). bits t (λ i. test (left - 1 + i))) size) in
-    let top : long - (left - 1) ≤ 32 = omega arith in
-    let most : 2 ^ (long - (left - 1)) ≤ 2 ^ 32 = pow-mono top in
+    let top : long - (left - 1) ≤ 64 = omega arith in
+    let most : 2 ^ (long - (left - 1)) ≤ 2 ^ 64 = pow-mono top in
     (same, omega (arith, bits-small (long - (left - 1)) (λ i. test (left - 1 + i))))
 
 pub bits-whole : (long left : ℕ) (test : ℕ → Bool) → left ≡ 0 → bits (long - left) (λ i. test (left + i)) ≡ bits long test

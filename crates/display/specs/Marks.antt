@@ -1,5 +1,5 @@
--- What marking differences promises (01: "Another call marks the differences of a reception and a transmission in window j, in 32 bits, one bit a
--- symbol, the earliest lowest, and gives how many marks are set"). Holds: `bits`, `marksOf`, `Marked`; `SetCounts`.
+-- What marking differences promises (01: "Another call marks the differences of a reception and a transmission in window j, .. one bit a symbol, the
+-- earliest lowest, and gives how many marks are set"; 02, #101: "Marks become 64 bits wide"). Holds: `bits`, `marksOf`, `Marked`; `SetCounts`.
 use mathlib.Core.Path.{_≡_}
 use mathlib.Core.Bool.{Bool, not}
 use mathlib.Core.List.{List}

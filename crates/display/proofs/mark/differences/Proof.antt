@@ -43,7 +43,7 @@ more : (c : tie.After-differ Inv-loop μ-loop)
     ≡ bits (entry-of-differ c .args .long - (c .before .before .before .before .loop .left - 1))
     (λ i. test (now (entry-of-differ c .args .reception)) (now (entry-of-differ c .args .transmission)) (entry-of-differ c .args .from)
     (c .before .before .before .before .loop .left - 1 + i)))
-    × (c .before .before .before .before .loop .set * 2 + c .differ .result < 2 ^ 32)
+    × (c .before .before .before .before .loop .set * 2 + c .differ .result < 2 ^ 64)
 more c =
     let entry = entry-of-differ c in
     bits-more (entry .args .long) (c .before .before .before .before .loop .left)
