@@ -29,7 +29,7 @@ impl Answer {
 #[derive(Clone, Copy, Debug, Default, PartialEq, Eq)]
 pub struct Marks {
     pub answer: Answer,
-    pub marks: u32,
+    pub marks: u64,
     pub set: u32,
 }
 

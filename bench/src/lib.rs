@@ -1,4 +1,4 @@
-//! The order link beside the verified one: plain Rust, an exhaustive search and the C interface.
+//! The order link beside the verified one: plain Rust, a search and the C interface.
 
 #[cfg(archive)]
 pub mod archive;

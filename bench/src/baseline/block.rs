@@ -42,7 +42,8 @@ fn locator(field: &Field, syndromes: &[u8], limit: usize) -> Option<(Polynomial,
         }
         let before = locator;
         let factor = field.negate(field.divide(discrepancy, previous_discrepancy));
-        field.add_multiple(&mut locator[shift..], factor, &previous);
+        // The degrees of all locators kept here are within the limit.
+        field.add_multiple(&mut locator[shift..=limit], factor, &previous);
         if longer {
             degree = r + 1 - degree;
             previous = before;
@@ -96,50 +97,104 @@ mod tests {
     use super::*;
     use crate::sample::Random;
 
-    /// All codewords of level l, as sums of multiples of the rows of G_0 to G_l.
-    fn codewords(code: &Code, l: usize) -> Vec<Block> {
+    /// The most codewords of a level that are enumerated.
+    const MAX_CODEWORDS: usize = 1 << 18;
+
+    /// Every setting and level.
+    fn levels() -> impl Iterator<Item = (u64, &'static Code, usize)> {
+        let codes = (1..).map_while(|number| Some((number, Code::of(number)?)));
+        codes.flat_map(|(number, code)| (0..=code.m).map(move |l| (number, code, l)))
+    }
+
+    /// The rows of G_0 to G_l.
+    fn rows(code: &Code, l: usize) -> impl Iterator<Item = &[u8]> {
+        (0..=l).flat_map(move |j| (0..code.k).map(move |r| code.row(j, r)))
+    }
+
+    /// A random codeword of level l, as a sum of multiples of these rows.
+    fn codeword(random: &mut Random, code: &Code, l: usize) -> Block {
+        rows(code, l).fold(Block::default(), |mut sum, row| {
+            let factor = random.below(code.field.q()) as u8;
+            code.field.add_multiple(&mut sum[..code.n], factor, row);
+            sum
+        })
+    }
+
+    /// All codewords of level l, unless they are too many.
+    fn codewords(code: &Code, l: usize) -> Option<Vec<Block>> {
         let mut codewords = vec![Block::default()];
-        for (j, r) in (0..=l).flat_map(|j| (0..code.k).map(move |r| (j, r))) {
+        for row in rows(code, l) {
+            if codewords.len() * code.field.q() > MAX_CODEWORDS {
+                return None;
+            }
             let multiples = |codeword: &Block| {
                 let codeword = *codeword;
                 (0..code.field.q() as u8).map(move |factor| {
                     let mut sum = codeword;
-                    code.field.add_multiple(&mut sum[..code.n], factor, code.row(j, r));
+                    code.field.add_multiple(&mut sum[..code.n], factor, row);
                     sum
                 })
             };
             codewords = codewords.iter().flat_map(multiples).collect();
         }
-        codewords
+        Some(codewords)
+    }
+
+    fn distance(a: &Block, b: &Block) -> usize {
+        a.iter().zip(b).filter(|(a, b)| a != b).count()
     }
 
     /// The codewords within the repair limit of a block.
     fn near(code: &Code, l: usize, codewords: &[Block], block: &Block) -> Vec<Block> {
-        let distance = |a: &Block| a.iter().zip(block).filter(|(a, b)| a != b).count();
-        let is_near = |codeword: &&Block| distance(codeword) <= code.repair_limit(l);
+        let is_near = |codeword: &&Block| distance(codeword, block) <= code.repair_limit(l);
         codewords.iter().filter(is_near).copied().collect()
     }
 
     #[test]
     fn repair_finds_the_one_codeword_within_the_limit() {
         let random = &mut Random::new(10);
-        for (setting, code) in (1..).map_while(|number| Some((number, Code::of(number)?))) {
-            for l in 0..=code.m {
-                let codewords = codewords(code, l);
-                for _ in 0..2_000_000 / codewords.len().max(500) {
-                    let mut block = codewords[random.below(codewords.len())];
-                    for _ in 0..random.below(code.repair_limit(l) + 3) {
-                        let place = random.below(code.n);
-                        block[place] = random.below(code.field.q()) as u8;
-                    }
-                    let repaired = repair(code, l, &block[..code.n]);
-                    let near = near(code, l, &codewords, &block);
-                    assert_eq!(
-                        repaired.as_slice(),
-                        near,
-                        "setting {setting}, level {l}: {block:?}"
-                    );
+        for (setting, code, l) in levels() {
+            let Some(codewords) = codewords(code, l) else {
+                continue;
+            };
+            for _ in 0..2_000_000 / codewords.len().max(500) {
+                let mut block = codewords[random.below(codewords.len())];
+                for _ in 0..random.below(code.repair_limit(l) + 3) {
+                    let place = random.below(code.n);
+                    block[place] = random.below(code.field.q()) as u8;
                 }
+                let repaired = repair(code, l, &block[..code.n]);
+                let near = near(code, l, &codewords, &block);
+                assert_eq!(repaired.as_slice(), near, "setting {setting}, level {l}: {block:?}");
+            }
+        }
+    }
+
+    /// Of every level, also of those with too many codewords to enumerate: within the limit the
+    /// codeword comes back, beyond it what comes back is a codeword within the limit.
+    #[test]
+    fn repair_finds_an_altered_codeword_again() {
+        let random = &mut Random::new(11);
+        for (setting, code, l) in levels() {
+            for _ in 0..20_000 {
+                let codeword = codeword(random, code, l);
+                let mut block = codeword;
+                let altered = random.below(code.n + 1);
+                for place in random.order(code.n).into_iter().take(altered) {
+                    let step = random.between(1, code.field.q() - 1);
+                    block[place] = ((block[place] as usize + step) % code.field.q()) as u8;
+                }
+                let repaired = repair(code, l, &block[..code.n]);
+                let right = match repaired {
+                    _ if altered <= code.repair_limit(l) => repaired == Some(codeword),
+                    Some(found) => {
+                        distance(&found, &block) <= code.repair_limit(l)
+                            && (0..code.syndrome_count(l))
+                                .all(|i| code.syndrome(&found[..code.n], i) == 0)
+                    }
+                    None => true,
+                };
+                assert!(right, "setting {setting}, level {l}: {block:?} from {codeword:?}");
             }
         }
     }
@@ -170,7 +225,7 @@ mod tests {
         let mut counts = String::new();
         for (setting, l, stride) in COUNTED {
             let code = Code::of(setting).unwrap();
-            let codewords = codewords(code, l);
+            let codewords = codewords(code, l).expect("few codewords");
             let (mut blocks, mut near_blocks, mut agreed) = (0, 0, 0);
             for number in (0..code.field.q().pow(code.n as u32)).step_by(stride) {
                 let block = numbered(code, number);

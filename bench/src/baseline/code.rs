@@ -1,14 +1,15 @@
-//! The three settings of document 01 with their tables, all made from q, k and m at compile time.
+//! The settings of documents 01 and 02 with their tables, all made from q, k and m at compile time.
 
-use super::field::{Field, Kind};
+use super::field::{Field, Kind, MAX_Q};
 
-/// The largest block length, information length and window length of a setting.
-pub const MAX_N: usize = 7;
-pub const MAX_K: usize = 3;
-pub const MAX_WINDOW: usize = 3;
+/// The largest block length, information length and window length of a setting. One that is too
+/// small does not compile.
+pub const MAX_N: usize = MAX_Q - 1;
+pub const MAX_K: usize = 5;
+pub const MAX_WINDOW: usize = 4;
 
-/// The largest dimension (l+1)k of a level's block code.
-pub const MAX_DIMENSION: usize = 6;
+/// The largest dimension (l+1)k of a level's block code, which is at most n.
+pub const MAX_DIMENSION: usize = MAX_N;
 
 /// The most information blocks in a message.
 pub const MAX_T: usize = 512;
@@ -45,8 +46,17 @@ const FIVE: Field = Field::new(5, Kind::Prime);
 /// α³ = α + 1.
 const EIGHT: Field = Field::new(8, Kind::Binary(0b1011));
 
-/// Settings 1 to 3: field, k and m.
-static CODES: [Code; 3] = [Code::new(FIVE, 1, 2), Code::new(EIGHT, 2, 2), Code::new(EIGHT, 3, 1)];
+/// α⁴ = α + 1.
+const SIXTEEN: Field = Field::new(16, Kind::Binary(0b10011));
+
+/// Settings 1, 2, ..: field, k and m.
+static CODES: &[Code] = &[
+    Code::new(FIVE, 1, 2),
+    Code::new(EIGHT, 2, 2),
+    Code::new(EIGHT, 3, 1),
+    Code::new(SIXTEEN, 3, 3),
+    Code::new(SIXTEEN, 5, 2),
+];
 
 impl Code {
     /// The code of a setting, if there is such a setting.

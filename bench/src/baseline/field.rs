@@ -1,7 +1,7 @@
-//! The two fields of document 01: symbols as bytes, products as a table.
+//! The fields of documents 01 and 02: symbols as bytes, products as a table.
 
-/// The largest field size of a setting.
-pub const MAX_Q: usize = 8;
+/// The largest field size of a setting. One that is too small does not compile.
+pub const MAX_Q: usize = 16;
 
 /// α, the element whose powers are all the nonzero ones, in either kind of field.
 const ALPHA: usize = 2;

@@ -67,7 +67,7 @@ fn marks(setting: u64, reception: &[u8], transmission: &[u8], j: u64) -> Marks {
         Ok((code, start)) => {
             let received = &reception[start..][..code.window_length()];
             let pairs = received.iter().zip(&transmission[start..]).enumerate();
-            let marks = pairs.fold(0, |marks, (i, (a, b))| marks | u32::from(a != b) << i);
+            let marks = pairs.fold(0, |marks, (i, (a, b))| marks | u64::from(a != b) << i);
             Marks { answer: Answer::YES, marks, set: marks.count_ones() }
         }
     }

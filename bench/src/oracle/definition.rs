@@ -1,4 +1,4 @@
-//! Fields, settings and the transmission as document 01 defines them.
+//! Fields, settings and the transmission as documents 01 and 02 define them.
 
 /// A row of the table of settings.
 pub struct Setting {
@@ -7,14 +7,17 @@ pub struct Setting {
     pub n: usize,
     pub k: usize,
     pub m: usize,
+    pub d: usize,
     pub t: usize,
 }
 
 /// The table of settings.
-pub static SETTINGS: [Setting; 3] = [
-    Setting { number: 1, q: 5, n: 4, k: 1, m: 2, t: 4 },
-    Setting { number: 2, q: 8, n: 7, k: 2, m: 2, t: 5 },
-    Setting { number: 3, q: 8, n: 7, k: 3, m: 1, t: 3 },
+pub static SETTINGS: [Setting; 5] = [
+    Setting { number: 1, q: 5, n: 4, k: 1, m: 2, d: 8, t: 4 },
+    Setting { number: 2, q: 8, n: 7, k: 2, m: 2, d: 11, t: 5 },
+    Setting { number: 3, q: 8, n: 7, k: 3, m: 1, d: 6, t: 3 },
+    Setting { number: 4, q: 16, n: 15, k: 3, m: 3, d: 33, t: 16 },
+    Setting { number: 5, q: 16, n: 15, k: 5, m: 2, d: 17, t: 8 },
 ];
 
 impl Setting {
@@ -33,6 +36,11 @@ impl Setting {
         (blocks + self.m) * self.n
     }
 
+    /// Symbols in a window.
+    pub fn window_length(&self) -> usize {
+        (self.m + 1) * self.n
+    }
+
     /// a + b: modulo 5, or exclusive or.
     pub fn add(&self, a: u8, b: u8) -> u8 {
         if self.q == 5 {
@@ -42,21 +50,22 @@ impl Setting {
         }
     }
 
-    /// a × b: modulo 5, or as polynomials in α with α³ = α + 1.
-    pub fn multiply(&self, a: u8, b: u8) -> u8 {
+    /// a × b: modulo 5, or as polynomials in α with α³ = α + 1 (q = 8) or α⁴ = α + 1 (q = 16).
+    fn multiply(&self, a: u8, b: u8) -> u8 {
         if self.q == 5 {
             return a * b % 5;
         }
-        let mut product = (0..3).filter(|i| b >> i & 1 == 1).fold(0, |sum, i| sum ^ a << i);
-        for power in [4, 3] {
+        let degree = self.q.ilog2();
+        let mut product = (0..degree).filter(|i| b >> i & 1 == 1).fold(0, |sum, i| sum ^ a << i);
+        for power in (degree..2 * degree - 1).rev() {
             if product >> power & 1 == 1 {
-                product ^= 0b1011 << (power - 3);
+                product ^= (self.q + 0b11) << (power - degree);
             }
         }
         product
     }
 
-    /// α^i, with α = 2 in both fields.
+    /// α^i, with α = 2 in every field.
     fn power(&self, i: usize) -> u8 {
         (0..i).fold(1, |power, _| self.multiply(power, 2))
     }
@@ -88,14 +97,10 @@ impl Setting {
         shifted.iter().enumerate().map(twist).collect()
     }
 
-    /// Information block × G_j.
-    pub fn contribution(&self, information: &[u8], j: usize) -> Vec<u8> {
-        let mut block = vec![0; self.n];
-        for (r, &factor) in information.iter().enumerate() {
-            for (sum, symbol) in block.iter_mut().zip(self.row(j, r)) {
-                *sum = self.add(*sum, self.multiply(factor, symbol));
-            }
-        }
-        block
+    /// Every symbol's multiple of row r of G_j.
+    pub fn multiples(&self, j: usize, r: usize) -> Vec<Vec<u8>> {
+        let row = self.row(j, r);
+        let multiple = |factor| row.iter().map(|&symbol| self.multiply(factor, symbol)).collect();
+        (0..self.q).map(multiple).collect()
     }
 }

@@ -5,7 +5,7 @@ use super::questions::decode;
 
 /// The answer to a line without its newline.
 pub fn line(text: &[u8]) -> String {
-    if text.len() > 3602 {
+    if text.len() > 7729 {
         return refusal(11, 0);
     }
     let is_digit = |byte: &u8| b"0123456789abcdef".contains(byte);

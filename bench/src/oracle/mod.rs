@@ -1,13 +1,15 @@
-//! The right answers, straight from document 01's words: slow, and apart from the baseline.
+//! The right answers, straight from the words of documents 01 and 02: slow, and with arithmetic of
+//! its own.
 
 mod definition;
 mod lines;
 mod questions;
 mod search;
+mod sending;
 
 pub use definition::{Setting, SETTINGS};
 pub use lines::line;
-pub use search::transmission;
+pub use sending::transmission;
 
 use crate::calls::Calls;
 use questions::{decode, encode, marks};

@@ -1,7 +1,8 @@
 //! What each call must answer and leave in its areas, question by question.
 
 use super::definition::Setting;
-use super::search::{fitting, transmission};
+use super::search::fitting;
+use super::sending::transmission;
 use crate::calls::{Answer, Marks};
 
 /// Questions 1, 8, 3, 4, 6; then fills the area.
@@ -77,7 +78,7 @@ pub fn marks(number: u64, reception: &[u8], transmission: &[u8], j: u64) -> Mark
         return refused(Answer::no(13));
     }
     let mut marks = Marks::default();
-    for bit in 0..(setting.m + 1) * setting.n {
+    for bit in 0..setting.window_length() {
         let place = j as usize * setting.n + bit;
         if reception[place] != transmission[place] {
             marks.marks += 1 << bit;
@@ -90,7 +91,7 @@ pub fn marks(number: u64, reception: &[u8], transmission: &[u8], j: u64) -> Mark
 /// Questions 1, 2, 3; then the setting and T.
 fn reception_questions(number: u64, reception: &[u8]) -> Result<(&'static Setting, usize), Answer> {
     let setting = Setting::of(number).ok_or(Answer::no(1))?;
-    if !reception.len().is_multiple_of(setting.n) || reception.len() < (setting.m + 1) * setting.n {
+    if !reception.len().is_multiple_of(setting.n) || reception.len() < setting.window_length() {
         return Err(Answer::no(2));
     }
     let blocks = reception.len() / setting.n - setting.m;

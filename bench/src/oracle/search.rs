@@ -1,7 +1,12 @@
-//! The messages that fit a reception, found by trying all of them.
+//! The messages that fit a reception, found by trying all of them where they are not too many.
 
 use super::definition::{Setting, SETTINGS};
+use super::sending::{add_contribution, fits};
+use crate::baseline;
 use std::sync::OnceLock;
+
+/// The most information blocks of a setting that is searched: settings 1 to 3 are.
+const MAX_INFORMATION: usize = 512;
 
 /// What every information block contributes to the sent block j places later, for each j.
 struct Contributions {
@@ -23,6 +28,25 @@ struct Search<'a> {
 
 /// Every message that fits a well-formed reception. Demand 3 says that there is at most one.
 pub fn fitting(setting: &Setting, reception: &[u8]) -> Vec<Vec<u8>> {
+    if (setting.q as usize).pow(setting.k as u32) <= MAX_INFORMATION {
+        searched(setting, reception)
+    } else {
+        returned(setting, reception).into_iter().collect()
+    }
+}
+
+/// The message that the plain Rust returns, if it fits. That none does is here the plain Rust's word;
+/// orders with one altered symbol too many need no such word (tests/calls/orders.rs).
+fn returned(setting: &Setting, reception: &[u8]) -> Option<Vec<u8>> {
+    let blocks = reception.len() / setting.n - setting.m;
+    let mut message = vec![0; setting.message_length(blocks)];
+    let transmission = &mut vec![0; reception.len()];
+    let answer = (baseline::CALLS.decode)(setting.number, reception, &mut message, transmission);
+    (answer.number == 0 && fits(setting, &message, reception)).then_some(message)
+}
+
+/// Every message that fits, by trying all.
+fn searched(setting: &Setting, reception: &[u8]) -> Vec<Vec<u8>> {
     let mut search = Search {
         setting,
         contributions: contributions(setting),
@@ -33,22 +57,6 @@ pub fn fitting(setting: &Setting, reception: &[u8]) -> Vec<Vec<u8>> {
     };
     search.extend();
     search.found
-}
-
-/// The transmission of a well-formed message.
-pub fn transmission(setting: &Setting, message: &[u8]) -> Vec<u8> {
-    let contributions = contributions(setting);
-    let closing = vec![0; setting.m * setting.k];
-    let mut chosen = Vec::new();
-    let mut transmission = Vec::new();
-    for block in message.chunks(setting.k).chain(closing.chunks(setting.k)) {
-        let earlier = earlier_part(setting, contributions, &chosen);
-        let place = place(setting, block);
-        let own = &contributions.blocks[0][place];
-        transmission.extend(earlier.iter().zip(own).map(|(&a, &b)| setting.add(a, b)));
-        chosen.push(place);
-    }
-    transmission
 }
 
 impl Search<'_> {
@@ -106,13 +114,18 @@ fn contributions(setting: &Setting) -> &'static Contributions {
         [const { OnceLock::new() }; SETTINGS.len()];
     TABLES[setting.number as usize - 1].get_or_init(|| {
         let information = all_blocks(setting.q, setting.k);
-        let contribution = |j| information.iter().map(|u| setting.contribution(u, j)).collect();
-        let blocks = (0..=setting.m).map(contribution).collect();
+        let contribution = |information: &Vec<u8>, j| {
+            let mut block = vec![0; setting.n];
+            add_contribution(setting, &mut block, information, j);
+            block
+        };
+        let contributions = |j| information.iter().map(|u| contribution(u, j)).collect();
+        let blocks = (0..=setting.m).map(contributions).collect();
         Contributions { information, blocks }
     })
 }
 
-/// All rows of k symbols, in the order of the numbers that they write in base q.
+/// All rows of k symbols, the zero row first.
 fn all_blocks(q: u8, k: usize) -> Vec<Vec<u8>> {
     (0..k).fold(vec![Vec::new()], |rows, _| {
         let longer = |row: &Vec<u8>| -> Vec<Vec<u8>> {
@@ -120,9 +133,4 @@ fn all_blocks(q: u8, k: usize) -> Vec<Vec<u8>> {
         };
         rows.iter().flat_map(longer).collect()
     })
-}
-
-/// An information block's place among all of them.
-fn place(setting: &Setting, block: &[u8]) -> usize {
-    block.iter().fold(0, |place, &symbol| place * setting.q as usize + symbol as usize)
 }

@@ -1,4 +1,5 @@
-//! Random calls: mostly well-formed, received with every kind of damage, breaking every rule of 01.
+//! Random calls: mostly well-formed, received with every kind of damage, breaking every rule of 01
+//! and 02.
 
 use crate::call::Call;
 use orderlink_bench::oracle::{transmission, Setting, SETTINGS};
@@ -7,17 +8,17 @@ use orderlink_bench::sample::{alter, damage_evenly, damage_up_to, Random};
 /// Numbers that are no setting, some of which are one in their lowest 8, 16 or 32 bits.
 pub const NO_SETTINGS: [u64; 14] = [
     0,
-    4,
-    5,
     6,
+    7,
     8,
     255,
     257,
-    259,
+    260,
+    261,
     65_537,
     (1 << 32) - 1,
     (1 << 32) + 1,
-    (1 << 32) + 2,
+    (1 << 32) + 4,
     1 << 63,
     u64::MAX,
 ];
@@ -165,7 +166,7 @@ fn change_length(random: &mut Random, bytes: &mut Vec<u8>) {
     let length = match random.below(3) {
         0 => random.below(bytes.len() + 1),
         1 => bytes.len() + random.between(1, 8),
-        _ => random.below(22),
+        _ => random.below(62),
     };
     bytes.resize(length, 0);
 }

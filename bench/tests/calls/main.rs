@@ -62,7 +62,7 @@ fn assert_searched(
 #[test]
 fn stored_calls() {
     let known = stored::calls();
-    assert_eq!(known.len(), 443);
+    assert_eq!(known.len(), 366);
     assert_known(known);
 }
 
@@ -75,8 +75,28 @@ fn starred_orders() {
 fn orders_at_the_limit() {
     let random = &mut Random::new(2);
     for setting in &SETTINGS {
-        assert_known((0..300).map(|_| orders::at_the_limit(random, setting)));
+        assert_known((0..200).flat_map(|_| orders::at_the_limit(random, setting)));
     }
+}
+
+#[test]
+fn orders_beyond_the_limit() {
+    let random = &mut Random::new(3);
+    for setting in &SETTINGS {
+        assert_known((0..200).filter_map(|_| orders::beyond_the_limit(random, setting)));
+    }
+}
+
+#[test]
+fn every_byte() {
+    let random = &mut Random::new(4);
+    SETTINGS.iter().for_each(|setting| assert_known(orders::bytes(random, setting)));
+}
+
+#[test]
+fn every_mark() {
+    let random = &mut Random::new(5);
+    SETTINGS.iter().for_each(|setting| assert_known(orders::marked(random, setting)));
 }
 
 #[test]
@@ -115,7 +135,7 @@ fn random_markings() {
 #[test]
 fn stored_windows() {
     let windows = stored::windows();
-    assert_eq!(windows.len(), 58);
+    assert_eq!(windows.len(), 54);
     for call in windows {
         let part = baseline::window(call.setting, &call.reception, call.j);
         let answer = baseline::window_answer(call.setting, &call.reception, call.j);

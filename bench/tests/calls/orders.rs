@@ -1,10 +1,11 @@
 //! Calls whose outcome needs no search: the orders worked through in document 01, orders damaged
-//! up to the limit, the longest orders and those too long, and numbers that are no setting.
+//! up to the limit and beyond it, the longest orders and those too long, every symbol and byte that
+//! is none, every mark, and numbers that are no setting.
 
 use crate::call::{Call, Outcome};
 use orderlink_bench::calls::{Answer, Marks};
 use orderlink_bench::oracle::{transmission, Setting, SETTINGS};
-use orderlink_bench::sample::{alter, damage_evenly, Random};
+use orderlink_bench::sample::{alter, damage_evenly, damage_up_to, Random};
 
 type Known = (Call, Outcome);
 
@@ -27,15 +28,83 @@ pub fn starred() -> Vec<Known> {
     ]
 }
 
-/// A random order with just t altered symbols in every window comes back.
-pub fn at_the_limit(random: &mut Random, setting: &Setting) -> Known {
-    let blocks = random.between(1, 512);
-    let message = random.symbols(setting, setting.message_length(blocks));
-    let sent = transmission(setting, &message);
+/// A random order with just t altered symbols in every window comes back, and so does one with as
+/// many anywhere as leave at most t in a window.
+pub fn at_the_limit(random: &mut Random, setting: &Setting) -> Vec<Known> {
+    let mut order = |damage: fn(&mut Random, &Setting, &mut [u8], usize)| {
+        let (message, sent) = random_order(random, setting);
+        let mut reception = sent.clone();
+        damage(random, setting, &mut reception, setting.t);
+        let altered = sent.iter().zip(&reception).filter(|(a, b)| a != b).count();
+        decoding(setting.number, reception, yes(altered), message, sent)
+    };
+    vec![order(damage_evenly), order(damage_up_to)]
+}
+
+/// A random order with one altered symbol more than can be within t. Where d = 2t + 1, no message
+/// fits: of the window where two messages first differ, d + 1 symbols are sent differently, so
+/// another message is t + 1 or more from this reception, as the sent one is.
+pub fn beyond_the_limit(random: &mut Random, setting: &Setting) -> Option<Known> {
+    if setting.d != 2 * setting.t + 1 {
+        return None;
+    }
+    let (message, sent) = random_order(random, setting);
     let mut reception = sent.clone();
-    damage_evenly(random, setting, &mut reception, setting.t);
-    let altered = sent.iter().zip(&reception).filter(|(a, b)| a != b).count();
-    decoding(setting.number, reception, yes(altered), message, sent)
+    damage_up_to(random, setting, &mut reception, setting.t);
+    let mut places = random.order(sent.len()).into_iter();
+    let place = places.find(|&place| reception[place] == sent[place]).expect("one left as sent");
+    alter(random, setting, &mut reception[place]);
+    let zeros = (vec![0; message.len()], vec![0; sent.len()]);
+    Some(decoding(setting.number, reception, Answer::no(7), zeros.0, zeros.1))
+}
+
+/// Every byte in the place of a symbol: those below q are symbols, the others get 4 and the place.
+pub fn bytes(random: &mut Random, setting: &Setting) -> Vec<Known> {
+    let calls = |byte| {
+        let mut message = random.symbols(setting, setting.message_length(3));
+        let place = random.below(message.len());
+        message[place] = byte;
+        if byte < setting.q {
+            let sent = transmission(setting, &message);
+            let mut reception = sent.clone();
+            let place = random.below(sent.len());
+            reception[place] = byte;
+            let altered = usize::from(byte != sent[place]);
+            return [
+                encoding(setting.number, message.clone(), yes(0), sent.clone()),
+                decoding(setting.number, reception, yes(altered), message, sent),
+            ];
+        }
+        let mut reception = random.symbols(setting, setting.transmission_length(3));
+        let unused = (vec![UNUSED; message.len()], vec![UNUSED; reception.len()]);
+        let refused = encoding(setting.number, message, Answer::no_at(4, place), unused.1.clone());
+        let place = random.below(reception.len());
+        reception[place] = byte;
+        [refused, decoding(setting.number, reception, Answer::no_at(4, place), unused.0, unused.1)]
+    };
+    (0..=255).flat_map(calls).collect()
+}
+
+/// Every difference alone, and all symbols differing, marked in every window.
+pub fn marked(random: &mut Random, setting: &Setting) -> Vec<Known> {
+    let blocks = setting.m + 3;
+    let reception = random.bytes(setting.transmission_length(blocks));
+    let mut known = Vec::new();
+    for j in 0..blocks {
+        let window = j * setting.n..j * setting.n + setting.window_length();
+        let mut mark = |differs: &dyn Fn(usize) -> bool, marks: u64| {
+            let other = |(place, &symbol): (usize, &u8)| symbol ^ u8::from(differs(place));
+            let sent = reception.iter().enumerate().map(other).collect();
+            let marks = Marks { answer: yes(0), marks, set: marks.count_ones() };
+            known.push(marking(setting.number, reception.clone(), sent, j as u64, marks));
+        };
+        for place in 0..reception.len() {
+            let marks = if window.contains(&place) { 1 << (place - window.start) } else { 0 };
+            mark(&|other| other == place, marks);
+        }
+        mark(&|_| true, (1 << setting.window_length()) - 1);
+    }
+    known
 }
 
 /// Orders of 512 blocks: encoded, decoded with the last symbol altered, and that symbol marked.
@@ -46,7 +115,7 @@ pub fn longest() -> Vec<Known> {
         let sent = transmission(setting, &message);
         let mut reception = sent.clone();
         alter(random, setting, &mut reception[sent.len() - 1]);
-        let last = 1 << ((setting.m + 1) * setting.n - 1);
+        let last = 1 << (setting.window_length() - 1);
         let marks = Marks { answer: yes(0), marks: last, set: 1 };
         [
             encoding(setting.number, message.clone(), yes(0), sent.clone()),
@@ -84,6 +153,14 @@ pub fn no_setting(number: u64) -> Vec<Known> {
         marking(number, sent.clone(), sent.clone(), 0, Marks { answer, marks: 0, set: 0 }),
         decoding(number, sent, answer, unused.0, unused.1),
     ]
+}
+
+/// A random message with its transmission.
+fn random_order(random: &mut Random, setting: &Setting) -> (Vec<u8>, Vec<u8>) {
+    let blocks = random.between(1, 512);
+    let message = random.symbols(setting, setting.message_length(blocks));
+    let sent = transmission(setting, &message);
+    (message, sent)
 }
 
 /// A message with its transmission.

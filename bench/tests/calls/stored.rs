@@ -4,7 +4,7 @@ use crate::call::{Call, Outcome};
 use crate::json::{self, Value};
 use orderlink_bench::calls::{Answer, Marks};
 
-const LINES: &str = include_str!("../../../tests/vectors/base/calls.jsonl");
+const LINES: &str = include_str!("../../../tests/vectors/101/calls.jsonl");
 
 /// A call for window j, and what it must return.
 #[derive(Debug)]
@@ -47,7 +47,7 @@ fn call(line: &Value) -> Option<(Call, Outcome)> {
         "marks" => {
             let (reception, transmission) = (args.bytes("reception"), args.bytes("transmission"));
             let call = Call::Marks { setting, reception, transmission, j: args.number("j") };
-            let (marks, set) = (result.number("marks") as u32, result.number("ones") as u32);
+            let (marks, set) = (result.number("marks"), result.number("ones") as u32);
             Some((call, Outcome::Marked(Marks { answer, marks, set })))
         }
         _ => None,

@@ -20,7 +20,7 @@ fn random_line(random: &mut Random) -> Vec<u8> {
     match random.below(12) {
         0 => text.truncate(random.below(6)),
         1 => text.truncate(place),
-        2 => text.resize(random.between(3_590, 3_610), b'0'),
+        2 => text.resize(random.between(7_720, 7_740), b'0'),
         3 => text.push(b'0'),
         4 => text[place] = *random.pick(b"0123456789abcdef"),
         5 => text[place] = random.number() as u8,
@@ -39,5 +39,6 @@ fn frame(random: &mut Random) -> Vec<u8> {
     let limit = setting.t + usize::from(random.once_in(3));
     damage_up_to(random, setting, &mut symbols, limit);
     let head = format!("{}{blocks:03x}", setting.number).into_bytes();
-    head.into_iter().chain(symbols.iter().map(|symbol| b'0' + symbol)).collect()
+    let digits = symbols.iter().map(|&symbol| b"0123456789abcdef"[symbol as usize]);
+    head.into_iter().chain(digits).collect()
 }

@@ -13,9 +13,9 @@ use std::iter;
 /// What a desk writes for a whole input.
 type Desk = fn(&[u8]) -> Vec<u8>;
 
-/// 01's words are right by definition. The plain Rust and, where it is named, the desk program
-/// must do the same.
-const DEFINITION: (&str, Desk) = ("01's words", by_definition);
+/// The words of 01 and 02 are right by definition. The plain Rust and, where it is named, the desk
+/// program must do the same.
+const DEFINITION: (&str, Desk) = ("words of 01 and 02", by_definition);
 const OTHERS: &[(&str, Desk)] = &[
     ("plain Rust", by_baseline),
     #[cfg(desk)]
@@ -50,7 +50,7 @@ fn assert_output((name, desk): (&str, Desk), input: &[u8], right: &[u8]) {
     assert_eq!(output.len(), right.len(), "{name}");
 }
 
-/// An input whose output is known, which 01's words must give too.
+/// An input whose output is known, which these words must give too.
 fn assert_known(input: &[u8], right: &[u8]) {
     for &desk in iter::once(&DEFINITION).chain(OTHERS) {
         assert_output(desk, input, right);
@@ -65,9 +65,9 @@ fn assert_line(line: &[u8], answer: &str) {
 
 #[test]
 fn stored_lines() {
-    let input = include_bytes!("../../../tests/vectors/base/desk-in.txt");
-    let output = include_bytes!("../../../tests/vectors/base/desk-out.txt");
-    assert_eq!(output.iter().filter(|&&byte| byte == b'\n').count(), 520);
+    let input = include_bytes!("../../../tests/vectors/101/desk-in.txt");
+    let output = include_bytes!("../../../tests/vectors/101/desk-out.txt");
+    assert_eq!(output.iter().filter(|&&byte| byte == b'\n').count(), 373);
     assert_known(input, output);
 }
 
@@ -83,7 +83,7 @@ fn desk_input() {
 #[test]
 fn sample_of_01() {
     let input = "1001243123230000\n1001243123200000\n1001243523230000\n\n4001\n1201\n1001243\n";
-    let output = "00000410011\n070000\n040003\n090000\n010000\n030000\n0a0000\n";
+    let output = "00000410011\n070000\n040003\n090000\n0a0000\n030000\n0a0000\n";
     assert_known(input.as_bytes(), output.as_bytes());
     assert_known(input.trim_end().as_bytes(), output.as_bytes());
 }
@@ -110,13 +110,32 @@ fn no_blocks() {
     assert_line(b"100000000000", "0a0000");
 }
 
-/// 3,602 characters are read on; 3,603 get 11, whatever they are.
+#[test]
+fn settings() {
+    for setting in "12345".chars() {
+        assert_line(format!("{setting}001").as_bytes(), "0a0000");
+        assert_line(format!("{setting}201").as_bytes(), "030000");
+    }
+    for setting in "06789abcdef".chars() {
+        assert_line(format!("{setting}001").as_bytes(), "010000");
+    }
+}
+
+/// The longest frame of every setting. 7,729 characters are read on; 7,730 get 11, whatever they
+/// are.
 #[test]
 fn long_lines() {
-    assert_line(format!("{:0<3602}", "2200").as_bytes(), &format!("{:0<1034}", "0000002200"));
-    assert_line(format!("{:0<3603}", "2200").as_bytes(), "0b0000");
-    assert_line(&[b'z'; 3_602], "090000");
-    assert_line(&[b'z'; 3_603], "0b0000");
+    let longest = [(2060, 522), (3602, 1034), (3595, 1546), (7729, 1546), (7714, 2570)];
+    for (setting, (length, answer)) in (1..).zip(longest) {
+        let head = format!("{setting}200");
+        let answer = format!("{:0<answer$}", format!("000000{head}"));
+        assert_line(format!("{head:0<length$}").as_bytes(), &answer);
+        let one_more = length + 1;
+        let refusal = if length == 7729 { "0b0000" } else { "0a0000" };
+        assert_line(format!("{head:0<one_more$}").as_bytes(), refusal);
+    }
+    assert_line(&[b'z'; 7_729], "090000");
+    assert_line(&[b'z'; 7_730], "0b0000");
     assert_line(&[b'0'; 3_000_000], "0b0000");
     assert_known(&[b'z'; 70_000], b"0b0000\n");
 }
