@@ -1,25 +1,74 @@
-"""Calls with right answers that need no program: the examples of 000, 004 and 01, orders and lines of the greatest length put together from 01's, and
-numbers that are no setting."""
+"""Calls with right answers that need no decoder: the examples of 000, 004 and 01, orders of settings 4 and 5 damaged up to the limit and beyond it, orders and
+lines of the greatest length, and numbers that are no setting. What is sent is made by 01's definition."""
+import itertools
 
-# Symbols of a block, symbols of an information block, closing blocks, and 01's transmission of the information block 1, 10 or 100.
+# The settings of 01 and 02: q, n, k, m and t.
 SETTINGS = {
-    1: (4, 1, 2, "2431 2323 2134"),
-    2: (7, 2, 2, "3132210 3411430 3665350"),
-    3: (7, 3, 1, "5774100 5266700"),
+    1: (5, 4, 1, 2, 4),
+    2: (8, 7, 2, 2, 5),
+    3: (8, 7, 3, 1, 3),
+    4: (16, 15, 3, 3, 16),
+    5: (16, 15, 5, 2, 8),
 }
 UNUSED = "a5"
 
-# The powers α^0 to α^6 of the eight-element field.
-POWERS = [1, 2, 4, 3, 6, 7, 5]
+
+def double(q, a):
+    """α × a: modulo 5, or with α³ = α + 1, or with α⁴ = α + 1."""
+    return 2 * a % 5 if q == 5 else 2 * a if 2 * a < q else 2 * a ^ q ^ 3
+
+
+# The powers of α from α^0 on; those of the eight-element field are 01's.
+POWERS = {q: list(itertools.accumulate(range(q - 2), lambda a, _: double(q, a), initial=1)) for q in (5, 8, 16)}
+assert POWERS[8] == [1, 2, 4, 3, 6, 7, 5]
 
 
 def symbols(text):
-    return [int(c) for c in text if c != " "]
+    return [int(c, 16) for c in text if c != " "]
+
+
+def digits(area):
+    return "".join("%x" % symbol for symbol in area)
 
 
 def powers(text):
-    """Symbols from exponents of α; a point is 0."""
-    return [0 if c == "." else POWERS[int(c)] for c in text if c != " "]
+    """Symbols of the eight-element field from exponents of α; a point is 0."""
+    return [0 if c == "." else POWERS[8][int(c)] for c in text if c != " "]
+
+
+def transmission_of(setting, message):
+    """Sent block s is the sum over j of (information block s - j) × G_j; row r of G_j holds the coefficients of x^r × f, that of x^i multiplied by α^(jki)."""
+    q, n, k, m, _ = SETTINGS[setting]
+    power = POWERS[q]
+
+    def plus(a, b):
+        return (a + b) % 5 if q == 5 else a ^ b
+
+    def times(a, b):
+        return power[(power.index(a) + power.index(b)) % n] if a and b else 0
+
+    f, minus = [1], 4 if q == 5 else 1
+    for i in range(n - k):
+        f = [plus(before, times(times(minus, power[i]), c)) for before, c in zip([0] + f, f + [0])]
+    sent = [0] * ((len(message) // k + m) * n)
+    for place, symbol in enumerate(message):
+        s, r = divmod(place, k)
+        for j in range(m + 1):
+            for i, c in enumerate(f, r):
+                at = (s + j) * n + i
+                sent[at] = plus(sent[at], times(symbol, times(c, power[j * k * i % n])))
+    return sent
+
+
+# 01's orders.
+for setting, message, sent in (
+    (1, "1", "2431 2323 2134"),
+    (1, "12214334", "2431 1130 0032 0230 4100 1004 0023 0320 4024 3421"),
+    (2, "10", "3132210 3411430 3665350"),
+    (3, "100", "5774100 5266700"),
+    (3, "010", "0577410 0461120"),
+):
+    assert transmission_of(setting, symbols(message)) == symbols(sent)
 
 
 def areas(*held):
@@ -59,7 +108,7 @@ def encoded(setting, message, number, transmission):
 
 def displayed(setting, reception, j, number):
     """Window j of a reception: m + 1 blocks from block j on, or an empty part."""
-    n, _, m, _ = SETTINGS[setting] if number == 0 else (0, 0, 0, "")
+    _, n, _, m, _ = SETTINGS[setting] if number == 0 else [0] * 5
     r, part = areas(reception, reception[n * j : n * (j + m + 1)])
     return {
         "call": "window",
@@ -69,12 +118,15 @@ def displayed(setting, reception, j, number):
 
 
 def marked(setting, reception, transmission, j, number):
-    """Marks that are refused."""
+    """The differences in window j, the earliest lowest; none if refused."""
+    _, n, _, m, _ = SETTINGS[setting] if number == 0 else [0] * 5
+    window = range(n * j, n * (j + m + 1))
+    differ = [reception[i] != transmission[i] for i in window]
     r, t = areas(reception, transmission)
     return {
         "call": "marks",
         "args": {"number": setting, "reception": r, "transmission": t, "j": j},
-        "result": {"answer": answered(number), "marks": 0, "ones": 0},
+        "result": {"answer": answered(number), "marks": sum(2**i for i, d in enumerate(differ) if d), "ones": sum(differ)},
     }
 
 
@@ -83,13 +135,44 @@ def answered_line(line, answer):
 
 
 def long_order(setting, T):
-    """An information block 1, 10 or 100 in every block m + 1 apart: its transmission is 01's, again and again."""
-    n, k, m, sent = SETTINGS[setting]
+    """An information block 1, 10, .. in every block m + 1 apart: its transmission, again and again."""
+    _, n, k, m, _ = SETTINGS[setting]
     one, none = [1] + [0] * (k - 1), [0] * k
     message = [s for i in range(T) for s in (one if i % (m + 1) == 0 else none)]
     last = (T - 1) // (m + 1) * (m + 1)
-    transmission = symbols(sent) * (last // (m + 1) + 1)
+    transmission = transmission_of(setting, one) * (last // (m + 1) + 1)
     return message, (transmission + [0] * (n * m))[: n * (T + m)]
+
+
+def altered_at(setting, transmission, places):
+    q = SETTINGS[setting][0]
+    reception = list(transmission)
+    for i, place in enumerate(places):
+        reception[place] = (reception[place] + 1 + i % (q - 1)) % q
+    return reception
+
+
+def worked_orders():
+    """Orders of settings 4 and 5: clean; with t altered symbols in the first or the last window, at its start, at its end, or all over it; with one symbol
+    more. With t + 1 altered no message fits: d is 2t + 1, and of the window where two messages first differ more than d symbols are sent differently, so
+    another message is as far from such a reception."""
+    for setting, text in ((4, "f0e 1d2 c3b 4a5"), (5, "01234 56789 abcde fedcb")):
+        _, n, k, m, t = SETTINGS[setting]
+        message = symbols(text)
+        transmission = transmission_of(setting, message)
+        yield encoded(setting, message, 0, transmission)
+        yield decoded(setting, transmission, 0, message, transmission, tail=1)
+        size, last = (m + 1) * n, len(message) // k - 1
+        for j in (0, last):
+            for window in (range(t + 1), range(size - t - 1, size), range(0, size, size // (t + 1))):
+                places = [j * n + place for place in window][: t + 1]
+                reception = altered_at(setting, transmission, places[:t])
+                yield decoded(setting, reception, 0, message, transmission, tail=1)
+                for shown in range(last + 1):
+                    yield displayed(setting, reception, shown, 0)
+                    yield marked(setting, reception, transmission, shown, 0)
+                reception = altered_at(setting, transmission, places)
+                yield decoded(setting, reception, 7, [0] * len(message), [0] * len(transmission), tail=1)
 
 
 def examples():
@@ -99,7 +182,7 @@ def examples():
         (1, "2431 2320 0000"),
     ]
     for setting, text in none_fits:
-        n, k, m, _ = SETTINGS[setting]
+        _, n, k, m, _ = SETTINGS[setting]
         reception = symbols(text)
         message = [0] * ((len(reception) // n - m) * k)
         yield decoded(setting, reception, 7, message, [0] * len(reception), tail=3)
@@ -126,9 +209,10 @@ def examples():
     for setting, message, row in rows:
         yield encoded(setting, symbols(message), 0, powers(row))
         yield decoded(setting, powers(row), 0, symbols(message), powers(row))
-    # Numbers that are no setting; three of them are one in their lowest 32 bits.
+    yield from worked_orders()
+    # Numbers that are no setting; five of them are one in their lowest 32 bits.
     message, transmission = long_order(1, 1)
-    for number in (2**32 + 1, 2**32 + 2, 2**63 + 3, 2**63, 2**64 - 1):
+    for number in (6, 2**32 + 1, 2**32 + 2, 2**63 + 3, 2**32 + 4, 2**63 + 5, 2**63, 2**64 - 1):
         yield encoded(number, message, 1, transmission)
         yield decoded(number, transmission, 1, message, transmission)
         yield displayed(number, transmission, 0, 1)
@@ -139,30 +223,38 @@ def examples():
         "1001243123200000": "070000",
         "1001243523230000": "040003",
         "": "090000",
-        "4001": "010000",
+        "4001": "0a0000",
         "1201": "030000",
         "1001243": "0a0000",
     }
-    for line, answer in samples.items():
+    # Settings 4 and 5, and what is no setting.
+    others = {"5001": "0a0000", "4201": "030000", "5201": "030000", "0001": "010000", "6001": "010000", "f001": "010000"}
+    for line, answer in (samples | others).items():
         yield answered_line(line, answer)
-    message, transmission = ("".join(map(str, area)) for area in long_order(2, 512))
-    longest = "2200" + transmission
-    assert len(longest) == 3602
-    yield answered_line(longest, "0000002200" + message)
-    yield answered_line(longest[:-1] + "1", "0000012200" + message)
-    yield answered_line(longest[:-1] + "8", "040e0d")
-    yield answered_line(longest[:-1] + "g", "090e11")
-    yield answered_line("4" + longest[1:], "010000")
-    yield answered_line("3" + longest[1:], "0a0000")
-    for line in (longest + "0", "g" * 3603, "4" + longest, longest + "00", "0" * 4000):
-        yield answered_line(line, "0b0000")
-    for setting, (n, k, m, _) in SETTINGS.items():
+    for setting in SETTINGS:
+        message, transmission = map(digits, long_order(setting, 512))
+        line = "%d200" % setting + transmission
+        yield answered_line(line, "000000" + line[:4] + message)
+        yield answered_line(line[:-1] + "1", "000001" + line[:4] + message)
+        if setting == 2:
+            assert len(line) == 3602
+            yield answered_line(line[:-1] + "8", "040e0d")
+            for other in ("4" + line[1:], "3" + line[1:], line + "0"):
+                yield answered_line(other, "0a0000")
+        if setting == 4:
+            assert len(line) == 7729
+            yield answered_line(line[:-1] + "g", "091e30")
+            yield answered_line("6" + line[1:], "010000")
+            yield answered_line("5" + line[1:], "0a0000")
+            for longer in (line + "0", "g" * 7730, "6" + line, line + "00", "0" * 8000):
+                yield answered_line(longer, "0b0000")
+    for setting, (q, n, k, m, t) in SETTINGS.items():
         message, transmission = long_order(setting, 512)
         yield encoded(setting, message, 0, transmission)
         yield decoded(setting, transmission, 0, message, transmission, tail=1)
         altered = list(transmission)
         for i in range(0, len(altered), n * (m + 1)):
-            altered[i] = (altered[i] + 1) % 5
+            altered[i] = (altered[i] + 1) % q
         yield decoded(setting, altered, 0, message, transmission)
         yield displayed(setting, altered, 511, 0)
         yield displayed(setting, altered, 512, 12)
@@ -173,8 +265,8 @@ def examples():
         yield displayed(setting, transmission, 513, 3)
         # One question after another gets a no, the later ones getting one too.
         message, transmission = long_order(setting, 3)
-        wrong = transmission[:9] + [9] + transmission[10:]
-        yield decoded(setting + 3, wrong, 1, message, transmission)
+        wrong = transmission[:9] + [q] + transmission[10:]
+        yield decoded(setting + 5, wrong, 1, message, transmission)
         yield decoded(setting, wrong[:-1], 2, message, transmission)
         yield decoded(setting, wrong, 4, message[1:], transmission[1:], place=9)
         yield decoded(setting, transmission, 5, message[1:], transmission[1:])

@@ -1,5 +1,5 @@
 #!/usr/bin/env python3
-"""Makes crates/link_test/stdin and stdout: the calls of base/calls.jsonl and of examples.py, and what the program must write.
+"""Makes crates/link_test/stdin and stdout: the calls of 101/calls.jsonl and of examples.py, and what the program must write.
 
 A line of stdin: the call's letter, the setting, j, the lengths of three areas and the areas, all in hexadecimal (crates/link_test/src/main.rt).
 A line of stdout: number, place and count of the answer in decimal, then what the call returned and what it left in the areas; for a desk line, its answer.
@@ -24,12 +24,17 @@ CALLS = {
     "line": ("L", lambda a: (a["line"], "", ""), lambda r: [r["line"]]),
 }
 
+# The most bytes of an area there; the few calls with a longer one are made by bench/tests alone.
+LONGEST = 10000
+
 given, expected = [], []
-with open(os.path.join(here, "base", "calls.jsonl")) as lines:
+with open(os.path.join(here, "101", "calls.jsonl")) as lines:
     for call in itertools.chain(map(json.loads, lines), examples()):
         letter, areas, returned = CALLS[call["call"]]
         arguments, result = call["args"], call["result"]
         held = areas(arguments)
+        if max(map(len, held)) > 2 * LONGEST:
+            continue
         numbers = ("%016x" % arguments.get(name, 0) for name in ("number", "j"))
         head = [letter, *numbers, *("%04x" % (len(area) // 2) for area in held)]
         given.append(" ".join(head) + " " + "".join(held) + "\n")
