@@ -1,6 +1,6 @@
 /*
- * A receiver's use of the order link: it sends an order, damages it on the way,
- * reads it back, marks the differences, and gets every refusal.
+ * A receiver's use of the order link: it sends orders, damages them on the way,
+ * reads them back, marks the differences, and gets every refusal.
  *
  *   cc -std=c11 -O2 -Wall -Wextra -Werror -Iinclude host/receiver.c \
  *       target/staticlib/libhost.a
@@ -47,13 +47,13 @@ static void take_back(struct area area)
     free(area.bytes - GUARD);
 }
 
-/* Writes a text's digits as symbols, without its spaces; returns how many. */
+/* Writes a text's hexadecimal digits as symbols, without its spaces; returns how many. */
 static size_t symbols(const char *digits, uint8_t *symbol)
 {
     size_t count = 0;
     for (; *digits != '\0'; digits++)
         if (*digits != ' ')
-            symbol[count++] = (uint8_t)(*digits - '0');
+            symbol[count++] = (uint8_t)(*digits <= '9' ? *digits - '0' : *digits - 'a' + 10);
     return count;
 }
 
@@ -62,68 +62,99 @@ static void print(const char *name, const uint8_t *symbol, size_t count, size_t 
 {
     printf("%-12s", name);
     for (size_t i = 0; i < count; i++)
-        printf("%s%u", i % block == 0 ? " " : "", (unsigned)symbol[i]);
+        printf("%s%x", i % block == 0 ? " " : "", (unsigned)symbol[i]);
     printf("\n");
 }
 
-/* The order of document 000, section 4, with just t = 4 altered symbols in a window. */
-static void send_and_receive(void)
-{
-    uint8_t order[8], expected[40], reception[40];
-    size_t order_length = symbols("12214334", order);
-    size_t length = symbols("2431 1130 0032 0230 4100 1004 0023 0320 4024 3421", expected);
-    struct area transmission = lend(length);
-    EXPECT(answers(orderlink_encode(1, order, order_length, transmission.bytes, length), 0, 0, 0));
-    EXPECT(memcmp(transmission.bytes, expected, length) == 0);
-    print("sent", transmission.bytes, length, 4);
+/* An order, what is sent for it, and symbols of one of its windows by their place there: with the
+   first t of them altered it comes back, with the next one too no message fits. */
+struct order {
+    uint64_t setting;
+    const char *message, *sent;
+    uint64_t j;
+    size_t places[17];
+};
 
-    const size_t damaged[] = { 4, 7, 9, 14 };
+static const struct order orders[] = {
+    /* Document 000, section 4. */
+    { 1, "12214334", "2431 1130 0032 0230 4100 1004 0023 0320 4024 3421",
+      1, { 0, 3, 5, 10, 11 } },
+    { 4, "f0e1d2",
+      "891b3b1f58d1a8e 4385deee76b8b77 4ba47e9434bcd3b 471ebe45d9ba3d3 c36b85952260f1b",
+      1, { 0, 1, 7, 13, 20, 31, 32, 33, 40, 44, 45, 50, 52, 57, 58, 59, 38 } },
+    { 5, "c3b4a59687",
+      "ce68f154eb4f43a 9a74abf38b6ffc4 996494fadb7bfef 5d7cceadb05bb11",
+      1, { 0, 14, 15, 29, 31, 32, 43, 44, 30 } },
+};
+
+/* The longest message and transmission of these. */
+enum { ORDER_SYMBOLS = 10, SENT_SYMBOLS = 75 };
+
+/* Alters a symbol to another one. */
+static void alter(const struct setting *setting, uint8_t *symbol, size_t by)
+{
+    *symbol = (uint8_t)((*symbol + 1 + by % (setting->q - 1)) % setting->q);
+}
+
+/* Sends an order, receives it with t altered symbols in a window, and marks these; with one altered
+   symbol more the places that a decoding fills are zeros. */
+static void send_and_receive(const struct order *given)
+{
+    const struct setting *setting = &settings[given->setting - 1];
+    uint8_t order[ORDER_SYMBOLS], expected[SENT_SYMBOLS], reception[SENT_SYMBOLS];
+    size_t order_length = symbols(given->message, order), length = symbols(given->sent, expected);
+    struct area transmission = lend(length);
+    EXPECT(answers(orderlink_encode(given->setting, order, order_length,
+                                    transmission.bytes, length), 0, 0, 0));
+    EXPECT(memcmp(transmission.bytes, expected, length) == 0);
+    printf("setting %u\n", (unsigned)given->setting);
+    print("sent", transmission.bytes, length, setting->n);
+
+    uint64_t differences = 0;
+    uint8_t *damaged = reception + given->j * setting->n;
     memcpy(reception, transmission.bytes, length);
-    for (size_t i = 0; i < COUNT(damaged); i++)
-        reception[damaged[i]] = (uint8_t)((reception[damaged[i]] + 1 + i) % 5);
-    print("received", reception, length, 4);
+    for (size_t i = 0; i < setting->t; i++) {
+        alter(setting, &damaged[given->places[i]], i);
+        differences |= UINT64_C(1) << given->places[i];
+    }
+    print("received", reception, length, setting->n);
 
     struct area message = lend(order_length + 3);
     struct area repaired = lend(length + 3);
-    EXPECT(answers(orderlink_decode(1, reception, length, message.bytes, message.length,
-                                    repaired.bytes, repaired.length), 0, 0, 4));
+    EXPECT(answers(orderlink_decode(given->setting, reception, length, message.bytes,
+                                    message.length, repaired.bytes, repaired.length),
+                   0, 0, setting->t));
     EXPECT(memcmp(message.bytes, order, order_length) == 0);
     EXPECT(memcmp(repaired.bytes, expected, length) == 0);
     EXPECT(all(message.bytes + order_length, 3, UNTOUCHED));
     EXPECT(all(repaired.bytes + length, 3, UNTOUCHED));
-    print("message", message.bytes, order_length, 1);
+    print("message", message.bytes, order_length, setting->k);
 
     struct orderlink_marks window =
-        orderlink_marks(1, reception, length, repaired.bytes, length, 1);
+        orderlink_marks(given->setting, reception, length, repaired.bytes, length, given->j);
     EXPECT(answers(window.answer, 0, 0, 0));
-    EXPECT(window.marks == (1u << 0 | 1u << 3 | 1u << 5 | 1u << 10) && window.set == 4);
-    printf("window 1     marks %03x, %u set\n", (unsigned)window.marks, (unsigned)window.set);
+    EXPECT(window.marks == differences && window.set == setting->t);
+    printf("window %-5u marks %llx, %u set\n", (unsigned)given->j, (unsigned long long)window.marks,
+           (unsigned)window.set);
+
+    alter(setting, &damaged[given->places[setting->t]], 0);
+    EXPECT(answers(orderlink_decode(given->setting, reception, length, message.bytes,
+                                    message.length, repaired.bytes, repaired.length), 7, 0, 0));
+    EXPECT(all(message.bytes, order_length, 0));
+    EXPECT(all(message.bytes + order_length, 3, UNTOUCHED));
+    EXPECT(all(repaired.bytes, length, 0));
+    EXPECT(all(repaired.bytes + length, 3, UNTOUCHED));
+    printf("one altered symbol more: number 7, zeros\n");
     take_back(transmission);
     take_back(message);
     take_back(repaired);
-}
-
-/* Five altered symbols in a window: no message fits, and the filled places are zeros. */
-static void damaged_too_much(void)
-{
-    uint8_t reception[12];
-    size_t length = symbols("2431 2320 0000", reception);
-    struct area message = lend(2), transmission = lend(length + 2);
-    EXPECT(answers(orderlink_decode(1, reception, length, message.bytes, message.length,
-                                    transmission.bytes, transmission.length), 7, 0, 0));
-    EXPECT(message.bytes[0] == 0 && message.bytes[1] == UNTOUCHED);
-    EXPECT(all(transmission.bytes, length, 0));
-    EXPECT(all(transmission.bytes + length, 2, UNTOUCHED));
-    printf("no message fits: number 7, zeros\n");
-    take_back(message);
-    take_back(transmission);
 }
 
 /* Every refusal of a decoding; both areas stay as they were. A row may break later rules too. */
 static void refused_decodings(void)
 {
     static const uint8_t clean[(MOST_BLOCKS + 1 + 2) * 4];
-    const uint8_t wrong[12] = { [5] = 5, [9] = 255 };
+    const uint8_t wrong[12] = { [5] = 5, [9] = 255 }, wrong_16[60] = { [5] = 15, [59] = 16 };
     const struct {
         uint64_t setting;
         const uint8_t *reception;
@@ -140,6 +171,8 @@ static void refused_decodings(void)
         { 1, wrong, 12, 0, 0, 4, 5 },
         { 1, clean, 12, 0, 0, 5, 0 },
         { 1, clean, 12, 1, 11, 6, 0 },
+        { 4, wrong_16, 60, 0, 0, 4, 59 },
+        { 5, wrong_16, 45, 4, 45, 5, 0 },
     };
     for (size_t i = 0; i < COUNT(calls); i++) {
         struct area message = lend(calls[i].message_length);
@@ -160,7 +193,7 @@ static void refused_decodings(void)
 static void refused_encodings(void)
 {
     static const uint8_t clean[(MOST_BLOCKS + 1) * 2];
-    const uint8_t wrong[4] = { 7, 0, 0, 8 };
+    const uint8_t wrong[4] = { 7, 0, 0, 8 }, wrong_16[6] = { 15, 0, 0, 8, 0, 16 };
     const struct {
         uint64_t setting;
         const uint8_t *message;
@@ -168,12 +201,14 @@ static void refused_encodings(void)
         uint32_t number;
         uint64_t place;
     } calls[] = {
-        { 4, clean, 2, 21, 1, 0 },
+        { 6, clean, 2, 21, 1, 0 },
         { 2, NULL, 0, 21, 8, 0 },
         { 2, clean, 3, 21, 8, 0 },
         { 2, clean, sizeof clean, 21, 3, 0 },
         { 2, wrong, 4, 21, 4, 3 },
         { 2, clean, 2, 20, 6, 0 },
+        { 4, wrong_16, 6, 75, 4, 5 },
+        { 5, wrong_16, 5, 44, 6, 0 },
     };
     for (size_t i = 0; i < COUNT(calls); i++) {
         struct area transmission = lend(calls[i].transmission_length);
@@ -221,7 +256,7 @@ static void no_such_settings(void)
 {
     /* Some are a setting in their lowest 8 or 32 bits. */
     const uint64_t no_settings[] = {
-        0, 4, 257, UINT32_MAX, (UINT64_C(1) << 32) + 1, (UINT64_C(1) << 32) + 2,
+        0, 6, 257, UINT32_MAX, (UINT64_C(1) << 32) + 1, (UINT64_C(1) << 32) + 2,
         UINT64_C(1) << 63, UINT64_MAX,
     };
     const uint8_t order[1] = { 1 };
@@ -289,8 +324,8 @@ static void longest_order(const struct setting *setting)
 
 int main(void)
 {
-    send_and_receive();
-    damaged_too_much();
+    for (size_t i = 0; i < COUNT(orders); i++)
+        send_and_receive(&orders[i]);
     refused_decodings();
     refused_encodings();
     refused_marks();

@@ -5,7 +5,7 @@
 #include <stddef.h>
 #include <stdint.h>
 
-enum { SETTING_COUNT = 3, MOST_BLOCKS = 512 };
+enum { MOST_BLOCKS = 512 };
 
 /* A row of the table; the letters are those of orderlink.h. */
 struct setting {
@@ -17,12 +17,16 @@ struct setting {
     uint32_t t;
 };
 
-static const struct setting settings[SETTING_COUNT] = {
+static const struct setting settings[] = {
     /* number, q, n, k, m, t */
     { 1, 5, 4, 1, 2, 4 },
     { 2, 8, 7, 2, 2, 5 },
     { 3, 8, 7, 3, 1, 3 },
+    { 4, 16, 15, 3, 3, 16 },
+    { 5, 16, 15, 5, 2, 8 },
 };
+
+enum { SETTING_COUNT = sizeof settings / sizeof settings[0] };
 
 static inline size_t message_length(const struct setting *setting, size_t blocks)
 {

@@ -14,10 +14,12 @@
  *   Blocks lie one after the other. Blocks, symbols and windows are counted
  *   from 0.
  *
- *   setting  q  n  k  m  t
- *      1     5  4  1  2  4
- *      2     8  7  2  2  5
- *      3     8  7  3  1  3
+ *   setting   q   n  k  m   t
+ *      1      5   4  1  2   4
+ *      2      8   7  2  2   5
+ *      3      8   7  3  1   3
+ *      4     16  15  3  3  16
+ *      5     16  15  5  2   8
  *
  * Areas
  *   Every area is a pointer to its first byte and a length in bytes. A call
@@ -38,7 +40,7 @@
  *   number 4. Other numbers do not occur. The setting and j are 64 bits wide
  *   and may have any value.
  *
- *    1  Is the setting 1, 2 or 3?
+ *    1  Is the setting 1, 2, 3, 4 or 5?
  *    2  Is the reception's length a multiple of n and at least (m + 1) * n?
  *    3  Is T at most 512?
  *    4  Is every symbol below q?
@@ -76,9 +78,9 @@ struct orderlink_answer {
  */
 struct orderlink_marks {
     struct orderlink_answer answer;
-    uint32_t marks; /* bit i, of value 1 << i, is set when symbol i of the window
-                       differs; the bits from (m + 1) * n on are 0; all are 0
-                       if refused */
+    uint64_t marks; /* bit i, of value (uint64_t)1 << i, is set when symbol i of
+                       the window differs; the bits from (m + 1) * n on are 0;
+                       all are 0 if refused */
     uint32_t set;   /* how many marks are set; 0 if refused */
 };
 
