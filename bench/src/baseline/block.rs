@@ -3,12 +3,12 @@
 use super::code::{Block, Code, MAX_N};
 use super::field::Field;
 
-/// A polynomial of degree below the block length, lowest power first.
-type Polynomial = [u8; MAX_N];
+/// A polynomial with a root for each repaired symbol, at most half of a block, lowest power first.
+type Polynomial = [u8; MAX_N / 2 + 1];
 
 /// The level-l codeword within the repair limit of a block, if there is one.
 pub fn repair(code: &Code, l: usize, block: &[u8]) -> Option<Block> {
-    let mut syndromes = Polynomial::default();
+    let mut syndromes = Block::default();
     let syndromes = &mut syndromes[..code.syndrome_count(l)];
     for (i, syndrome) in syndromes.iter_mut().enumerate() {
         *syndrome = code.syndrome(block, i);
@@ -42,8 +42,7 @@ fn locator(field: &Field, syndromes: &[u8], limit: usize) -> Option<(Polynomial,
         }
         let before = locator;
         let factor = field.negate(field.divide(discrepancy, previous_discrepancy));
-        // The degrees of all locators kept here are within the limit.
-        field.add_multiple(&mut locator[shift..=limit], factor, &previous);
+        field.add_multiple(&mut locator[shift..], factor, &previous);
         if longer {
             degree = r + 1 - degree;
             previous = before;

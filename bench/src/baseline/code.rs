@@ -8,17 +8,14 @@ pub const MAX_N: usize = MAX_Q - 1;
 pub const MAX_K: usize = 5;
 pub const MAX_WINDOW: usize = 4;
 
-/// The largest dimension (l+1)k of a level's block code, which is at most n.
-pub const MAX_DIMENSION: usize = MAX_N;
-
 /// The most information blocks in a message.
 pub const MAX_T: usize = 512;
 
-/// One block of n symbols, and room after it in shorter settings.
-pub type Block = [u8; MAX_N];
+/// One block of n symbols, and room after it: as many bytes as are copied in one step.
+pub type Block = [u8; MAX_Q];
 
-/// The information symbols behind one codeword of a level, block after block.
-pub type Information = [u8; MAX_DIMENSION];
+/// The information symbols behind one codeword of a level, block after block: (l+1)k, at most n.
+pub type Information = Block;
 
 /// A doubly cyclic code (000, Theorem 3.1) with what the calls need at hand.
 pub struct Code {
@@ -38,7 +35,7 @@ pub struct Code {
     /// Rows of α^(ji): the values of a block at α^j are its products with row j.
     points: [Block; MAX_N],
     /// For each level, the matrix from the first (l+1)k symbols of a codeword to its information.
-    solvers: [[Information; MAX_DIMENSION]; MAX_WINDOW],
+    solvers: [[Information; MAX_Q]; MAX_WINDOW],
 }
 
 const FIVE: Field = Field::new(5, Kind::Prime);
@@ -160,7 +157,7 @@ const fn window_limits(distances: &[usize; MAX_WINDOW], m: usize) -> [usize; MAX
 /// G_j, row r: x^r f with the coefficient of x^i multiplied by α^(jki).
 const fn generator(field: &Field, n: usize, k: usize, m: usize) -> [[Block; MAX_K]; MAX_WINDOW] {
     let f = product_of_roots(field, n - k);
-    let mut generator = [[[0; MAX_N]; MAX_K]; MAX_WINDOW];
+    let mut generator = [[[0; MAX_Q]; MAX_K]; MAX_WINDOW];
     let mut j = 0;
     while j <= m {
         let mut r = 0;
@@ -179,7 +176,7 @@ const fn generator(field: &Field, n: usize, k: usize, m: usize) -> [[Block; MAX_
 
 /// The product of x − α^i for i below `count`, lowest power first.
 const fn product_of_roots(field: &Field, count: usize) -> Block {
-    let mut product = [0; MAX_N];
+    let mut product = [0; MAX_Q];
     product[0] = 1;
     let mut root = 0;
     while root < count {
@@ -196,7 +193,7 @@ const fn product_of_roots(field: &Field, count: usize) -> Block {
 }
 
 const fn points(field: &Field, n: usize) -> [Block; MAX_N] {
-    let mut points = [[0; MAX_N]; MAX_N];
+    let mut points = [[0; MAX_Q]; MAX_N];
     let mut j = 0;
     while j < n {
         let mut i = 0;
@@ -214,8 +211,8 @@ const fn solvers(
     k: usize,
     m: usize,
     generator: &[[Block; MAX_K]; MAX_WINDOW],
-) -> [[Information; MAX_DIMENSION]; MAX_WINDOW] {
-    let mut solvers = [[[0; MAX_DIMENSION]; MAX_DIMENSION]; MAX_WINDOW];
+) -> [[Information; MAX_Q]; MAX_WINDOW] {
+    let mut solvers = [[[0; MAX_Q]; MAX_Q]; MAX_WINDOW];
     let mut l = 0;
     while l <= m {
         solvers[l] = inverse(field, stacked(generator, k, l), (l + 1) * k);
@@ -229,8 +226,8 @@ const fn stacked(
     generator: &[[Block; MAX_K]; MAX_WINDOW],
     k: usize,
     l: usize,
-) -> [Information; MAX_DIMENSION] {
-    let mut matrix = [[0; MAX_DIMENSION]; MAX_DIMENSION];
+) -> [Information; MAX_Q] {
+    let mut matrix = [[0; MAX_Q]; MAX_Q];
     let mut row = 0;
     while row < (l + 1) * k {
         let mut column = 0;
@@ -246,10 +243,10 @@ const fn stacked(
 /// The inverse of the top left square of a matrix, by Gauss and Jordan's elimination.
 const fn inverse(
     field: &Field,
-    mut matrix: [Information; MAX_DIMENSION],
+    mut matrix: [Information; MAX_Q],
     size: usize,
-) -> [Information; MAX_DIMENSION] {
-    let mut inverse = [[0; MAX_DIMENSION]; MAX_DIMENSION];
+) -> [Information; MAX_Q] {
+    let mut inverse = [[0; MAX_Q]; MAX_Q];
     let mut i = 0;
     while i < size {
         inverse[i][i] = 1;
@@ -264,8 +261,8 @@ const fn inverse(
         (matrix[pivot], matrix[row]) = (matrix[row], matrix[pivot]);
         (inverse[pivot], inverse[row]) = (inverse[row], inverse[pivot]);
         let scale = field.divide(1, matrix[pivot][pivot]);
-        matrix[pivot] = combination(field, &[0; MAX_DIMENSION], scale, &matrix[pivot]);
-        inverse[pivot] = combination(field, &[0; MAX_DIMENSION], scale, &inverse[pivot]);
+        matrix[pivot] = combination(field, &[0; MAX_Q], scale, &matrix[pivot]);
+        inverse[pivot] = combination(field, &[0; MAX_Q], scale, &inverse[pivot]);
         let mut other = 0;
         while other < size {
             if other != pivot {
@@ -284,7 +281,7 @@ const fn inverse(
 const fn combination(field: &Field, a: &Information, factor: u8, b: &Information) -> Information {
     let mut sum = *a;
     let mut i = 0;
-    while i < MAX_DIMENSION {
+    while i < MAX_Q {
         sum[i] = field.add(sum[i], field.multiply(factor, b[i]));
         i += 1;
     }

@@ -68,9 +68,11 @@ impl Field {
         if self.characteristic == 2 {
             a ^ b
         } else {
+            // The smaller of the two, as the difference wraps; so the compiler needs no branch.
             let sum = a + b;
-            if sum >= self.q as u8 {
-                sum - self.q as u8
+            let less = sum.wrapping_sub(self.q as u8);
+            if less < sum {
+                less
             } else {
                 sum
             }
