@@ -240,6 +240,9 @@ static void refused_marks(void)
         { 3, 14, 14, UINT64_MAX, 12 },
         { 3, 14, 7, 0, 13 },
         { 3, 14, 15, 0, 13 },
+        { 4, 45, 15, 0, 2 },
+        { 5, 45, 15, 1, 12 },
+        { 4, 60, 15, 0, 13 },
     };
     for (size_t i = 0; i < COUNT(calls); i++) {
         struct orderlink_marks window =
