@@ -75,7 +75,7 @@ fn starred_orders() {
 fn orders_at_the_limit() {
     let random = &mut Random::new(2);
     for setting in &SETTINGS {
-        assert_known((0..200).flat_map(|_| orders::at_the_limit(random, setting)));
+        assert_known((0..300).flat_map(|_| orders::at_the_limit(random, setting)));
     }
 }
 
@@ -83,7 +83,7 @@ fn orders_at_the_limit() {
 fn orders_beyond_the_limit() {
     let random = &mut Random::new(3);
     for setting in &SETTINGS {
-        assert_known((0..200).filter_map(|_| orders::beyond_the_limit(random, setting)));
+        assert_known((0..300).filter_map(|_| orders::beyond_the_limit(random, setting)));
     }
 }
 

@@ -155,9 +155,10 @@ pub fn no_setting(number: u64) -> Vec<Known> {
     ]
 }
 
-/// A random message with its transmission.
+/// A random message, often a short one, with its transmission.
 fn random_order(random: &mut Random, setting: &Setting) -> (Vec<u8>, Vec<u8>) {
-    let blocks = random.between(1, 512);
+    let longest = *random.pick(&[4, 32, 512]);
+    let blocks = random.between(1, longest);
     let message = random.symbols(setting, setting.message_length(blocks));
     let sent = transmission(setting, &message);
     (message, sent)
