@@ -2,7 +2,7 @@
 // Read-only in the source are a field's powers of α and their exponents. The outermost call makes the table of products from them, in its working memory, and
 // lends it down.
 ghost use Prim.Native.Nat.{_<_, _≤_};
-ghost use lib.ListN.{length};
+ghost use lib.ListN.{length, drop};
 ghost use Rattle.algebra.specs.Ops.{sub};
 ghost use Rattle.algebra.specs.Polynomial as polynomial;
 ghost use Rattle.field.specs.parts.Operations.{Good, Is};
@@ -152,16 +152,33 @@ pub fn add_product(q: usize, products: &Products, a: u8, x: u8, b: u8) -> u8
     add(q, a, product)
 }
 
+// How many coefficients one call of `value` takes.
+const PART: usize = 8;
+
+// The value of the polynomial c at x from that of its rest, the coefficients from `count` on: those before them are taken from the last down.
+fn value_from_rest(q: usize, products: &Products, c: &[u8], count: usize, x: u8, rest: u8) -> u8
+    requires { ⌜ Good q × ProductsOf q (now products) × Symbols q (now c) × (count ≤ length (now c)) × (x < q) × Is q rest (polynomial.value (opsOf q) (drop count (now c)) x) ⌝ }
+    ensures { λ r. ⌜ Is q r (polynomial.value (opsOf q) (now (c .entry)) x) ⌝ }
+{
+    let mut sum = rest;
+    let mut i = count;
+    while 0 < i {
+        i -= 1;
+        sum = add_product(q, products, c[i], x, sum);
+    }
+    sum
+}
+
 // The value of the polynomial with the coefficients c, lowest power first, at x: "The value of a polynomial without coefficients is 0;
-// otherwise it is the first coefficient plus the point times the value of the rest."
+// otherwise it is the first coefficient plus the point times the value of the rest." A call takes eight coefficients at a time: a call for each costs more than
+// its product.
 pub fn value(q: usize, products: &Products, c: &[u8], x: u8) -> u8
     requires { ⌜ Good q × ProductsOf q (now products) × Symbols q (now c) × (x < q) ⌝ }
     ensures { λ r. ⌜ Is q r (polynomial.value (opsOf q) (now (c .entry)) x) ⌝ }
 {
-    if c.len() == 0 {
-        return 0;
+    if c.len() < PART {
+        return value_from_rest(q, products, c, c.len(), x, 0);
     }
-    let first = c[0];
-    let rest = value(q, products, &c[1..], x);
-    add_product(q, products, first, x, rest)
+    let rest = value(q, products, &c[PART..], x);
+    value_from_rest(q, products, c, PART, x, rest)
 }

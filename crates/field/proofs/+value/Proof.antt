@@ -1,16 +1,16 @@
 -- `field::value` meets its contract, by recursion over the coefficients. The measure is their number.
 use Prim.Native.Nat.{ℕ, _<_}
+use native.Mathlib.Nat.{le-refl}
 use native.Mathlib.Omega.{arith}
 use lib.ListN.{length}
-use borrow.Author.Needs.{needs}
 use borrow.Fn.Kinds.{In}
 use borrow.Fn.PlainCycle.{Measures, is, falls, and}
 use Rattle.field.proofs.Symbols.{symbols-part}
-use Rattle.field.proofs.PolynomialValue.{rest-shorter, value-of-none, value-of-more}
+use Rattle.field.proofs.PolynomialValue.{rest-shorter, rest-lent, value-of-none}
 use Rattle.field.proofs.value.Reads as value
 use Rattle.field.proofs.value.Kinds as value-kinds
 use Rattle.field.proofs.+value.Lts-value as value-lts
-use Rattle.field.proofs.add_product.Reads as add-product-reads
+use Rattle.field.proofs.value_from_rest.Reads as value-from-rest-reads
 use Rattle.field.proofs.+value.{statement}
 use Rattle.field.proofs.+value.Tie.{close}
 
@@ -25,14 +25,21 @@ abbrev value-below : ℕ → In 2 value-kinds.ps
 value-below t = and 2 value-kinds.ps (falls 2 value-kinds.ps _<_ μ-value t) value.Pre
 
 abbrev calls : ℕ → value-lts.Claims
-calls t = (value-below t, value.Post, add-product-reads.Asked, add-product-reads.Learnt)
+calls t = (value-from-rest-reads.Asked, value-from-rest-reads.Learnt, value-below t, value.Post)
 
 module _ (t : ℕ) where
-  returns : value-lts.Need-returns (calls t) (value-at t) value.Post
-  returns c = value-of-none _ _ _ (c .before .before .pre .1 .0) (c .if1 .taken)
+  -- Stages of the call, each from a later one.
+  abbrev entry-of : value-lts.Else1 (calls t) (value-at t) value.Post → value-lts.Start (calls t) (value-at t) value.Post
+  entry-of c = c .before .before
 
-  shared-slice-read-first : value-lts.Need-shared-slice-read-first (calls t) (value-at t) value.Post
-  shared-slice-read-first c = omega arith
+  value-from-rest-requires : value-lts.Need-value-from-rest-requires (calls t) (value-at t) value.Post
+  value-from-rest-requires c κs =
+      let p = c .before .before .pre .1 in
+      let a = c .before .before .args in
+      (p .0, p .1, p .2, le-refl _, p .3, value-of-none _ (a .x) (a .c .now) (p .0))
+
+  returns : value-lts.Need-returns (calls t) (value-at t) value.Post
+  returns c = c .value-from-rest .ensures
 
   sub-value : value-lts.Need-sub-value (calls t) (value-at t) value.Post
   sub-value c = omega arith
@@ -45,26 +52,27 @@ module _ (t : ℕ) where
 
   value-requires : value-lts.Need-value-requires (calls t) (value-at t) value.Post
   value-requires c κs =
-      let p = c .before .before .before .before .pre in
-      let l = c .before .before .before .before .args .c .now in
-      (rest-shorter l t (p .0) (c .before .before .if1 .left), (p .1 .0, p .1 .1, symbols-part _ 1 (length l) l (p .1 .2), p .1 .3))
+      let p = entry-of (c .before) .pre in
+      let l = entry-of (c .before) .args .c .now in
+      (rest-shorter l 8 t (p .0) (omega arith) (c .before .if1 .left), (p .1 .0, p .1 .1, symbols-part _ 8 (length l) l (p .1 .2), p .1 .3))
 
-  add-product-requires : value-lts.Need-add-product-requires (calls t) (value-at t) value.Post
-  add-product-requires c κs =
-      let below = c .before .before .before .before .before .pre .1 .2 .below 0 (omega arith) in search needs
+  value-from-rest-requires-2 : value-lts.Need-value-from-rest-requires-2 (calls t) (value-at t) value.Post
+  value-from-rest-requires-2 c κs =
+      let p = entry-of (c .before .before) .pre .1 in
+      let a = entry-of (c .before .before) .args in
+      (p .0, p .1, p .2, c .before .before .if1 .left, p .3, rest-lent _ (a .x) (a .c .now) 8 _ (c .value .ensures))
 
   returns-2 : value-lts.Need-returns-2 (calls t) (value-at t) value.Post
-  returns-2 c =
-      value-of-more _ _ _ _ _ (c .before .before .before .before .if1 .left) (c .before .value .ensures .same) (c .add-product .ensures)
+  returns-2 c = c .value-from-rest2 .ensures
 
 pub +value-spec : {M : Type 1} → statement M
 +value-spec =
     close μ-value λ t. value-lts.spec (calls t) (value-at t) value.Post
+    (value-from-rest-requires t)
     (returns t)
-    (shared-slice-read-first t)
     (sub-value t)
     (part-value-start t)
     (part-value-end t)
     (value-requires t)
-    (add-product-requires t)
+    (value-from-rest-requires-2 t)
     (returns-2 t)
