@@ -1,17 +1,14 @@
--- The search for an inverse finds one wherever there is one, and goes from n - 1 down.
--- Holds: `inverse-found`, `inverse-below`; `inverse-here`, `inverse-lower`, `inverse-none`.
+-- The search for an inverse finds one wherever there is one, and 0 where there is none.
+-- Holds: `inverse-found`, `inverse-below`, `inverse-none`.
 use mathlib.Core.Path.{_≡_, refl, sym, ap, _∙_}
 use mathlib.Core.Bool.{Bool, true, false}
-use Prim.Native.Nat.{ℕ, zero, suc, _-_, _<_, _≤_}
+use Prim.Native.Nat.{ℕ, zero, suc, _<_}
 use native.Mathlib.Nat.{not-suc-le-zero}
 use native.Mathlib.Omega.{arith}
 use lib.Dec.{eqb}
-use borrow.Author.Tests.{eqb-true, eqb-false, eq-eqb, ne-eqb}
+use borrow.Author.Tests.{eqb-true, eqb-false, ne-eqb}
 use Rattle.algebra.specs.Ops.{pick}
 use Rattle.field.specs.Numbers.{inverseBelow}
-
-suc-sub-one : (n : ℕ) → suc n - 1 ≡ n
-suc-sub-one n = omega arith
 
 module _ (product : ℕ → ℕ → ℕ) where
   pub inverse-found : (n a b : ℕ) → b < n → product a b ≡ 1 → product a (inverseBelow product n a) ≡ 1
@@ -40,20 +37,8 @@ module _ (product : ℕ → ℕ → ℕ) where
       decide lower true = omega arith
       decide lower false = omega arith
 
-  -- The search from n - 1 down, a step at a time.
-  pub inverse-here : (n a : ℕ) → 0 < n → product a (n - 1) ≡ 1 → inverseBelow product n a ≡ n - 1
+  -- Where no product is 1, nothing is found.
+  pub inverse-none : (n a : ℕ) → ((b : ℕ) → b < n → product a b ≡ 1 → ⊥) → inverseBelow product n a ≡ 0
   unfolding inverseBelow
-  inverse-here zero a h e = absurd (not-suc-le-zero h)
-  inverse-here (suc n) a h e = rw (eq-eqb (product a n) 1 (ap (product a) (sym (suc-sub-one n)) ∙ e)) (sym (suc-sub-one n))
-
-  pub inverse-lower : (n a : ℕ) → 0 < n → (product a (n - 1) ≡ 1 → ⊥) → inverseBelow product n a ≡ inverseBelow product (n - 1) a
-  unfolding inverseBelow
-  inverse-lower zero a h e = absurd (not-suc-le-zero h)
-  inverse-lower (suc n) a h e =
-      rw (ne-eqb (product a n) 1 (λ (s : product a n ≡ 1). e (ap (product a) (suc-sub-one n) ∙ s)))
-      (ap (λ (k : ℕ). inverseBelow product k a) (sym (suc-sub-one n)))
-
-  pub inverse-none : (n a : ℕ) → n ≤ 0 → inverseBelow product n a ≡ 0
-  unfolding inverseBelow
-  inverse-none zero a h = refl
-  inverse-none (suc n) a h = absurd (not-suc-le-zero h)
+  inverse-none zero a never = refl
+  inverse-none (suc n) a never = rw (ne-eqb (product a n) 1 (never n (omega arith))) (inverse-none n a (λ b h. never b (omega arith)))

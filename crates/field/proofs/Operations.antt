@@ -1,14 +1,12 @@
 -- What the code returns in each branch is the symbol that the field's operation gives.
 -- Holds: `sum-modulo`, `sum-modulo-less`, `sum-xor`; `negative-modulo`, `negative-of-zero`, `negative-same`;
--- `is-product`, `product-listed`; `inverse-start`, `is-inverse`; `good-small`, q is at most 256; `good-listed`, q is at most 16.
-use mathlib.Core.Path.{_≡_, refl, sym, _∙_, subst}
+-- `is-product`, `product-listed`; `is-inverse`, `inverse-listed`; `good-small`, q is at most 256; `good-listed`, q is at most 16.
+use mathlib.Core.Path.{_≡_, sym, _∙_, subst}
 use mathlib.Core.List.{List, []}
 use Prim.Native.Nat.{ℕ, _+_, _-_, _%_, _<_, _≤_}
 use native.Mathlib.Omega.{arith}
 use lib.Bits.{bitXor}
-use lib.Dec.{lit≤}
 use lib.ListN.{getD}
-use Rattle.field.specs.Numbers.{inverseBelow}
 use Rattle.field.specs.Modular.{modular}
 use Rattle.field.specs.parts.Operations.{Good, Is}
 use Rattle.field.specs.Fields.{five, opsOf}
@@ -68,10 +66,8 @@ module _ (q a : ℕ) (good : Good q) (ha : a < q) where
   pub negative-modulo : q ≡ 5 → (a ≡ 0 → ⊥) → Is q (5 - a) (opsOf q .neg a)
   negative-modulo e z = let rest : 5 - a ≡ (5 - a) % 5 = omega arith in is-negative (5 - a) (rest ∙ sym (neg-modulo q e a))
 
-  -- The inverse is what the search below q finds.
-  pub inverse-start : opsOf q .inv a ≡ inverseBelow (opsOf q .mul) q a
-  unfolding opsOf
-  inverse-start = refl
-
   pub is-inverse : (r : ℕ) → r ≡ opsOf q .inv a → Is q r (opsOf q .inv a)
   is-inverse r e = symbol q r (opsOf q .inv a) e (lawsOf q good .inv-below a ha)
+
+  pub inverse-listed : (products : List (List ℕ)) → ProductsOf q products → Is q (getD (getD products 16 []) a 0) (opsOf q .inv a)
+  inverse-listed products lent = is-inverse (getD (getD products 16 []) a 0) (lent .inverses .inverse a ha)

@@ -1,6 +1,6 @@
 // The fields of 01 and 02 with q elements, q chosen at run time: five, eight or sixteen. A symbol is a `u8` below q.
-// Read-only in the source are a field's powers of α and their exponents. The outermost call makes the table of products from them, in its working memory, and
-// lends it down.
+// Read-only in the source are a field's powers of α and their exponents. The outermost call makes the table of products and inverses from them, in its working
+// memory, and lends it down.
 ghost use Prim.Native.Nat.{_<_, _≤_};
 ghost use lib.ListN.{length, drop};
 ghost use Rattle.algebra.specs.Ops.{sub};
@@ -8,7 +8,7 @@ ghost use Rattle.algebra.specs.Polynomial as polynomial;
 ghost use Rattle.field.specs.parts.Operations.{Good, Is};
 ghost use Rattle.field.specs.Fields.{opsOf};
 ghost use Rattle.field.specs.Symbols.{Symbols};
-ghost use Rattle.field.specs.parts.Products.{ListsOf, MultiplesOf, ProductsOf};
+ghost use Rattle.field.specs.parts.Products.{ListsOf, MultiplesOf, InversesOf, ProductsOf};
 
 // The powers of α from α^0 on, and the exponents: place α^i holds i. 0 is no power of α, and its place is never read.
 const POWERS_5: [u8; 4] = [1, 2, 4, 3];
@@ -23,8 +23,11 @@ const POWERS_16: [u8; 15] = [1, 2, 4, 8, 3, 6, 12, 11, 5, 10, 7, 14, 15, 13, 9];
 
 const EXPONENTS_16: [u8; 16] = [0, 0, 1, 4, 2, 8, 5, 10, 3, 14, 9, 7, 6, 13, 11, 12];
 
-// The products of a field, with room for the largest: a × b in row a, place b.
-pub type Products = [[u8; 16]; 16];
+// The products of a field, with room for the largest: a × b in row a, place b. The last row holds the inverses: 1/a at place a, and 0 at place 0.
+pub type Products = [[u8; 16]; 17];
+
+// The row of the inverses.
+const INVERSES: usize = 16;
 
 // a × b from the lists: the power at the sum of the exponents, counted round the list. Products with zero are zero.
 fn product_by_exponents(q: usize, powers: &[u8], exponents: &[u8], a: u8, b: u8) -> u8
@@ -58,17 +61,42 @@ fn lay_multiples(q: usize, powers: &[u8], exponents: &[u8], a: u8, row: &mut [u8
     }
 }
 
-// The table of products from the lists.
+// 1/a from the lists: the power whose exponent and that of a add up to q - 1, since α^(q - 1) is 1. 0 counts as its own inverse, and 1 is its own.
+fn inverse_by_exponent(q: usize, powers: &[u8], exponents: &[u8], a: u8) -> u8
+    requires { ⌜ Good q × ListsOf q (now powers) (now exponents) × (a < q) ⌝ }
+    ensures { λ r. ⌜ Is q r (opsOf q .inv a) ⌝ }
+{
+    if a < 2 {
+        return a;
+    }
+    let exponent = area::wide(exponents[a as usize]);
+    powers[q - 1 - exponent]
+}
+
+// Lays the inverses out: 1/a at place a, and 0 at place 0.
+fn lay_inverses(q: usize, powers: &[u8], exponents: &[u8], row: &mut [u8])
+    requires { ⌜ Good q × ListsOf q (now powers) (now exponents) × (q ≤ length (now row)) ⌝ }
+    ensures { λ _. ⌜ InversesOf q (now (row .exit)) ⌝ }
+{
+    let mut a: usize = 0;
+    while a < q {
+        row[a] = inverse_by_exponent(q, powers, exponents, a as u8);
+        a += 1;
+    }
+}
+
+// The table of products and inverses from the lists.
 fn products_from(q: usize, powers: &[u8], exponents: &[u8]) -> Products
     requires { ⌜ Good q × ListsOf q (now powers) (now exponents) ⌝ }
     ensures { λ r. ⌜ ProductsOf q r ⌝ }
 {
-    let mut products: Products = [[0; 16]; 16];
+    let mut products: Products = [[0; 16]; 17];
     let mut a: usize = 0;
     while a < q {
         lay_multiples(q, powers, exponents, a as u8, &mut products[a]);
         a += 1;
     }
+    lay_inverses(q, powers, exponents, &mut products[INVERSES]);
     products
 }
 
@@ -127,20 +155,12 @@ pub fn multiply(q: usize, products: &Products, a: u8, b: u8) -> u8
     products[a as usize][b as usize]
 }
 
-// 1 / a, and 0 for a = 0: the number whose product with a is 1, looked for from q - 1 down.
+// 1 / a, and 0 for a = 0
 pub fn inverse(q: usize, products: &Products, a: u8) -> u8
     requires { ⌜ Good q × ProductsOf q (now products) × (a < q) ⌝ }
     ensures { λ r. ⌜ Is q r (opsOf q .inv a) ⌝ }
 {
-    let mut b = q;
-    while 0 < b {
-        b -= 1;
-        let candidate = b as u8;
-        if multiply(q, products, a, candidate) == 1 {
-            return candidate;
-        }
-    }
-    0
+    products[INVERSES][a as usize]
 }
 
 // a + x × b

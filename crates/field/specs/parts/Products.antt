@@ -1,6 +1,6 @@
 -- What functions that multiply require: of the two lists that are read-only (02's request 103, which replaces 01's "table of sixty-four entries"), and
--- of the table of products that a call makes from them in its working memory and lends down. Callers only pass the table on.
--- Holds: `ListsOf`; `MultiplesOf`, `Products` (the shape of the table), `ProductsOf`.
+-- of the table of products and inverses that a call makes from them in its working memory and lends down. Callers only pass the table on.
+-- Holds: `ListsOf`; `MultiplesOf`, `InversesOf`, `Products` (the shape of the table), `ProductsOf`.
 use mathlib.Core.Path.{_≡_}
 use mathlib.Core.List.{List, []}
 use Prim.Native.Nat.{ℕ, _-_, _<_}
@@ -21,10 +21,15 @@ pub record ListsOf (q : ℕ) (powers exponents : List ℕ) : Type 0 where
 pub record MultiplesOf (q a : ℕ) (row : List ℕ) : Type 0 where
   pub product : (b : ℕ) → b < q → at row b ≡ opsOf q .mul a b
 
+-- The row holds 1/a at place a, and 0 at place 0.
+pub record InversesOf (q : ℕ) (row : List ℕ) : Type 0 where
+  pub inverse : (a : ℕ) → a < q → at row a ≡ opsOf q .inv a
+
 -- Row after row.
 abbrev pub Products : Type 0
 Products = List (List ℕ)
 
--- Row a of the table holds the multiples of a.
+-- Row a of the table holds the multiples of a; the row after those of sixteen symbols, the most that a field has, holds the inverses.
 pub record ProductsOf (q : ℕ) (products : Products) : Type 0 where
   pub row : (a : ℕ) → a < q → MultiplesOf q a (getD products a [])
+  pub inverses : InversesOf q (getD products 16 [])
