@@ -172,7 +172,7 @@ pub fn add_product(q: usize, products: &Products, a: u8, x: u8, b: u8) -> u8
     add(q, a, product)
 }
 
-// How many coefficients one call of `value` takes.
+// How many coefficients one call of `value` takes. As a constant it lets the compiler write the loop over them out.
 const PART: usize = 8;
 
 // The value of the polynomial c at x from that of its rest, the coefficients from `count` on: those before them are taken from the last down.

@@ -1,5 +1,5 @@
--- What functions that multiply require: of the two lists that are read-only (02's request 103, which replaces 01's "table of sixty-four entries"), and
--- of the table of products and inverses that a call makes from them in its working memory and lends down. Callers only pass the table on.
+-- What functions that multiply or invert require: of the two lists that are read-only (02's request 103, which replaces 01's "table of sixty-four entries"),
+-- and of the table of products and inverses that a call makes from them in its working memory and lends down. Callers only pass the table on.
 -- Holds: `ListsOf`; `MultiplesOf`, `InversesOf`, `Products` (the shape of the table), `ProductsOf`.
 use mathlib.Core.Path.{_≡_}
 use mathlib.Core.List.{List, []}
