@@ -10,3 +10,4 @@ pub mod CandidateBelow
 pub mod InformationRead
 pub mod Step
 pub mod BlockAreas
+pub mod Totals

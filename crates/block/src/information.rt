@@ -1,6 +1,6 @@
 // The information of a code block from its spectrum, and what the received block costs against the block that it combines to.
 ghost use mathlib.Core.Path.{_≡_};
-ghost use Prim.Native.Nat.{_+_, _*_, _≤_, _<_};
+ghost use Prim.Native.Nat.{_+_, _*_, _≤_, _<_, min};
 ghost use lib.ListN.{length};
 ghost use Rattle.algebra.specs.parts.Values.{falling as fallingOf};
 ghost use Rattle.area.specs.Lists.{view};
@@ -99,7 +99,7 @@ pub fn read(
     }
 }
 
-// What the received block costs against the level-l combination of the information.
+// What the received block costs against the level-l combination of the information, counted up to the bound: a cost that reaches it may be larger.
 pub fn cost(
     p: Setting,
     products: &Products,
@@ -107,14 +107,18 @@ pub fn cost(
     information: &[u8],
     l: usize,
     block: &[u8],
+    bound: usize,
 ) -> usize
     requires { ⌜ Ready p (now products) (now rows) × AllBelow (p .q) (now information) × ((l + 1) * p .k ≤ length (now information)) × (l ≤ p .m) × (length (now block) ≡ p .n) ⌝ }
-    ensures { λ r. ⌜ r ≡ levelCost p (at (now (block .entry))) l (view (p .k) (now (information .entry))) ⌝ }
+    ensures { λ r. ⌜ min bound r ≡ min bound (levelCost p (at (now (block .entry))) l (view (p .k) (now (information .entry)))) ⌝ }
 {
     let n = p.n;
     let mut cost: usize = 0;
     let mut i: usize = 0;
     while i < n {
+        if bound <= cost {
+            return cost;
+        }
         let symbol = tables::combine::combination(p, products, rows, information, l, i);
         let received = block[i];
         i += 1;

@@ -119,7 +119,11 @@ pub fn repair(
         values,
         information,
     );
-    let cost = information::cost(p, products, rows, information, l, block);
+    // A level without syndromes ((l+1)k = n, d_l = 1) has every block in its code: the candidate is the block itself, at cost 0.
+    if distance == 1 {
+        return true;
+    }
+    let cost = information::cost(p, products, rows, information, l, block, distance);
     if cost < distance {
         return true;
     }

@@ -1,6 +1,7 @@
 -- 01's words on a level's block code, on lists of bytes: "It consists exactly of the blocks whose polynomials vanish at α^0 .. α^(n-(l+1)k-1). Its nonzero
 -- blocks have at least d_l nonzero symbols."
--- Holds: `level-vanishes`, `vanishing-in-level` (exactly those blocks), `vanishing-heavy` (d_l); `level-blocks`, all three of every setting.
+-- Holds: `level-vanishes`, `vanishing-in-level` (exactly those blocks), `every-block-in-level` (where (l+1)k = n), `vanishing-heavy` (d_l); `level-blocks`,
+-- the three of every setting.
 use mathlib.Core.Path.{_≡_, sym, ap, _∙_}
 use mathlib.Core.Bool.{not}
 use mathlib.Core.List.{List}
@@ -80,6 +81,10 @@ module _ (p : Setting) (S : Sound p) (l : ℕ) (fits : (l + 1) * p .k ≤ p .n) 
       x : ℕ → ℕ → Element (p .q)
       x = informationOf (fieldOf p S) (rootOf p S) (p .n) (p .k) (p .m) (orderAt p S) l
           (λ s. valueOf (fieldOf p S .ops) (p .n) (received p S block) (power (fieldOf p S .ops) (rootOf p S) s))
+
+  -- Where (l+1)k = n no point is left to vanish at: every block is of the level.
+  pub every-block-in-level : (l + 1) * p .k ≡ p .n → InLevel p l block
+  every-block-in-level full = vanishing-in-level (λ s h. absurd (omega arith))
 
 pub level-blocks : LevelBlocks
 level-blocks s t l low block long symbols =

@@ -1,6 +1,7 @@
 // One window: the information near it, found by the levels of the code.
 ghost use mathlib.Core.Path.{_≡_};
 ghost use Prim.Native.Nat.{ℕ, _+_, _*_, _≤_};
+ghost use lib.Dec.{ltb};
 ghost use lib.ListN.{length};
 ghost use Rattle.area.specs.Lists.{view};
 ghost use Rattle.field.specs.Symbols.{Symbols};
@@ -20,29 +21,44 @@ pub fn zero_cost(symbols: &[u8]) -> usize
     2 * area::weight(symbols)
 }
 
-// What blocks 0 .. l of the window cost against the blocks rebuilt from the information.
-fn rebuilt_cost(
+// Whether blocks 0 .. l of the window cost less than the bound against the blocks rebuilt from the information. Most wrong information shows in the first
+// block.
+fn is_near(
     p: Setting,
     products: &Products,
     rows: &[u8],
     information: &[u8],
     l: usize,
     window: &[u8],
-) -> usize
+    bound: usize,
+) -> bool
     requires { ⌜ Ready p (now products) (now rows) × AllBelow (p .q) (now information) × ((l + 1) * p .k ≤ length (now information)) × (l ≤ p .m) × (length (now window) ≡ windowLength p) ⌝ }
-    ensures { λ r. ⌜ r ≡ windowCost p (now (window .entry)) l (view (p .k) (now (information .entry))) ⌝ }
+    ensures { λ r. ⌜ r ≡ ltb (windowCost p (now (window .entry)) l (view (p .k) (now (information .entry)))) bound ⌝ }
 {
     let n = p.n;
-    let mut cost: usize = 0;
+    // What the blocks so far leave of the bound.
+    let mut left = bound;
     let mut start: usize = 0;
     let mut s: usize = 0;
     while s <= l {
         let end = start + n;
-        cost += block::information::cost(p, products, rows, information, s, &window[start..end]);
+        let cost = block::information::cost(
+            p,
+            products,
+            rows,
+            information,
+            s,
+            &window[start..end],
+            left,
+        );
+        if left <= cost {
+            return false;
+        }
+        left -= cost;
         start = end;
         s += 1;
     }
-    cost
+    true
 }
 
 // One level: the code block near block l of the window, if its information rebuilds blocks 0 .. l near enough.
@@ -77,12 +93,8 @@ fn try_level(
     if !near {
         return false;
     }
-    let cost = rebuilt_cost(p, products, rows, information, l, window);
     let bound = code::distances_to(p, l);
-    if cost < bound {
-        return true;
-    }
-    false
+    is_near(p, products, rows, information, l, window, bound)
 }
 
 // The information near a window by the levels from m down to 0, until one serves: how many blocks of it were found, or 0 if none is near.

@@ -1,4 +1,4 @@
--- `frame::window::try_level`: the block step's answer, and then the rebuilt blocks' cost.
+-- `frame::window::try_level`: the block step's answer, and then whether the rebuilt blocks are near.
 use Prim.Native.Nat.{_+_, _*_, _≤_}
 use native.Mathlib.Nat.{mul-le-mul-right}
 use native.Mathlib.Omega.{arith}
@@ -8,7 +8,7 @@ use borrow.Author.Needs.{needs}
 use Rattle.area.proofs.Parts.{part-length}
 use Rattle.field.proofs.Symbols.{symbols-part}
 use Rattle.code.proofs.Settings.{level-fits}
-use Rattle.frame.proofs.LevelTried.{step-below, tried-far, tried-refused, tried-serves}
+use Rattle.frame.proofs.LevelTried.{step-below, tried-far, tried-compared}
 use Rattle.frame.proofs.window.try_level.Statement.{statement}
 use Rattle.frame.proofs.window.try_level.Tie as tie
 
@@ -25,14 +25,11 @@ before-if1 c = c .before .before .before .before .before .before .before .before
 abbrev entry-of-if1 : tie.After-slice-known8 → tie.Start
 entry-of-if1 c = entry-of-repair-call (before-if1 c .before)
 
-abbrev before-rebuilt-cost-call : tie.After-rebuilt-cost-arg → tie.After-repair
-before-rebuilt-cost-call c = c .before .before .before .before .before .before .before .before .before .before
+abbrev before-is-near-call : tie.After-is-near-arg → tie.After-repair
+before-is-near-call c = before-if1 (c .before .before .before)
 
-abbrev before-distances-to : tie.After-distances-to → tie.After-repair
-before-distances-to c = c .before .before .before .before .before .before .before .before .before .before .before .before
-
-abbrev entry-of-distances-to : tie.After-distances-to → tie.Start
-entry-of-distances-to c = entry-of-repair-call (before-distances-to c .before)
+abbrev entry-of-is-near-call : tie.After-is-near-arg → tie.Start
+entry-of-is-near-call c = entry-of-if1 (c .before .before .before)
 
 -- Block l lies within the window.
 inside : (c : tie.Start) → c .args .l * c .args .p .n + c .args .p .n ≤ length (now (c .args .window))
@@ -65,16 +62,16 @@ returns c =
     let entry = entry-of-if1 (c .before) in
     tried-far (entry .pre .0 .sound) (entry .pre .3) (before-if1 (c .before) .repair .ensures) (c .if1 .taken)
 
-rebuilt-cost-requires : tie.Need-rebuilt-cost-requires
-rebuilt-cost-requires c κs =
-    let entry = entry-of-if1 (c .before .before) in
+is-near-requires : tie.Need-is-near-requires
+is-near-requires c κs =
+    let entry = entry-of-is-near-call c in
     let a = entry .args in (
       entry .pre .0,
-      step-below (before-rebuilt-cost-call c .repair .ensures) (c .before .if1 .left),
+      step-below (before-is-near-call c .repair .ensures) (c .before .before .if1 .left),
       omega (
         arith,
         level-fits (a .p) (entry .pre .0 .sound) (a .l) (entry .pre .3),
-        before-rebuilt-cost-call c .repair .kept .1 .1 .1 .1 .1 .1 .1 .1 .0,
+        before-is-near-call c .repair .kept .1 .1 .1 .1 .1 .1 .1 .1 .0,
         entry .pre .4 .information-long,
       ),
       entry .pre .3,
@@ -83,19 +80,13 @@ rebuilt-cost-requires c κs =
 
 returns-2 : tie.Need-returns-2
 returns-2 c =
-    let entry = entry-of-distances-to (c .before) in
-    tried-serves (entry .pre .0 .sound) (entry .pre .3) (before-distances-to (c .before) .repair .ensures) (c .before .before .before .before .if1 .left)
-    (omega (arith, c .if2 .taken, c .before .before .rebuilt-cost .ensures, c .before .distances-to .ensures))
-
-returns-3 : tie.Need-returns-3
-returns-3 c =
-    let entry = entry-of-distances-to (c .before) in
-    tried-refused (entry .pre .0 .sound) (entry .pre .3) (before-distances-to (c .before) .repair .ensures) (c .before .before .before .before .if1 .left)
-    (omega (arith, c .if2 .left, c .before .before .rebuilt-cost .ensures, c .before .distances-to .ensures))
+    let entry = entry-of-is-near-call (c .before) in
+    tried-compared (entry .pre .0 .sound) (entry .pre .3) (before-is-near-call (c .before) .repair .ensures) (c .before .before .before .if1 .left)
+    (c .before .before .distances-to .ensures) (c .is-near .ensures)
 
 pub try-level-spec : {M : Type 1} → statement M
 try-level-spec =
     tie.close
     (tie.spec mul-start add-end (search needs) (search needs) part-repair-end repair-requires (λ c. omega arith) (λ c. omega arith) (λ c. omega arith)
-    (λ c. omega arith) returns rebuilt-cost-requires (λ c κs. search needs) (λ c. omega arith) (λ c. omega arith) (λ c. omega arith)
-    (λ c. omega arith) returns-2 (λ c. omega arith) (λ c. omega arith) (λ c. omega arith) (λ c. omega arith) returns-3)
+    (λ c. omega arith) returns (λ c κs. search needs) is-near-requires (λ c. omega arith) (λ c. omega arith) (λ c. omega arith)
+    (λ c. omega arith) returns-2)
