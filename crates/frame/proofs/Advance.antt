@@ -6,7 +6,9 @@ use mathlib.Core.Bool.{Bool, true, false, not}
 use mathlib.Core.List.{List}
 use Prim.Native.Nat.{ℕ, _+_, _-_, _*_, _<_, _≤_}
 use native.Mathlib.Omega.{arith}
+use lib.Dec.{ltb}
 use lib.ListN.{length, getD, take, drop}
+use borrow.Author.Tests.{lt-ltb}
 use Rattle.algebra.proofs.Tests.{false-not-true}
 use Rattle.field.specs.Symbols.{Symbols}
 use Rattle.field.specs.parts.Sequences.{AllBelow}
@@ -40,6 +42,12 @@ module _ {p : Setting} {window information : List ℕ} where
   search-few (served found some few below first) = few
   search-few (none-serves far) = omega arith
 
+-- Windows were read, and some blocks are settled.
+advanced-some : {p : Setting} {T : ℕ} {reception : List ℕ} {j : ℕ} {message residual : List ℕ} (count : ℕ) → 0 < count
+    → Settled p T reception j message residual → Advanced p T reception j message residual (ltb 0 count)
+advanced-some {p} {T} {reception} {j} {message} {residual} count some settled =
+    subst (Advanced p T reception j message residual) (sym (lt-ltb 0 count some)) (advanced settled)
+
 module _ {p : Setting} (S : Sound p) {T : ℕ} {reception : List ℕ} (R : Symbols (p .q) reception) (long : length reception ≡ (T + p .m) * p .n)
     {j : ℕ} {message residual : List ℕ} (P : Settled p T reception j message residual) (l : j < T) where
   abbrev window : List ℕ
@@ -60,17 +68,18 @@ module _ {p : Setting} (S : Sound p) {T : ℕ} {reception : List ℕ} (R : Symbo
 
   -- The residual of the window is light: the guess of its first block is right.
   pub advance-clean : length window ≡ windowLength p → {cost : ℕ} → cost ≡ zeroCost (p .q) window → cost < distancesTo (p .n) (p .k) (p .m)
-      → Advanced p T reception (j + 1) message residual true
+      → Advanced p T reception (j + 1) message residual (ltb 0 (p .m + 1))
   advance-clean long-window counted few =
-      advanced (settled-found p S T reception R long j message residual P (λ r. 0) message residual l
+      advanced-some (p .m + 1) (omega arith) (settled-found p S T reception R long j message residual P (λ r. 0) message residual l
       (λ y Y near r u. window-clean p S window long-window (omega arith) y Y (subst (λ (w : List ℕ). Near p w (p .m) y) (sym same-window) near) r u)
       (added-zero S (P .areas) (λ r. refl)))
 
   -- What was found went into the message.
   pub advance-found : {found : ℕ} {information message' residual' : List ℕ} → LevelSearch p window information found → (found ≡ 0 → ⊥)
-      → Added p T j (λ r. getD information r 0) message residual message' residual' → Advanced p T reception (j + 1) message' residual' true
+      → Added p T j (λ r. getD information r 0) message residual message' residual'
+      → Advanced p T reception (j + 1) message' residual' (ltb 0 found)
   advance-found {information = information} {message' = message'} {residual' = residual'} (served found some few area first) e D =
-      advanced (settled-found p S T reception R long j message residual P (λ r. getD information r 0) message' residual' l
+      advanced-some found some (settled-found p S T reception R long j message residual P (λ r. getD information r 0) message' residual' l
       (λ y Y near r u. first y Y (subst (λ (w : List ℕ). Near p w (p .m) y) (sym same-window) near) r u) D)
   advance-found (none-serves far) e D = absurd (e refl)
 

@@ -211,7 +211,7 @@ fn guess_block(
     );
 }
 
-// Guesses the blocks of window j.
+// Guesses blocks j + first .. j + m. Which blocks are guessed is free: nothing rests on a guess.
 pub fn guess_window(
     p: Setting,
     products: &Products,
@@ -219,6 +219,7 @@ pub fn guess_window(
     scale: u8,
     blocks: usize,
     j: usize,
+    first: usize,
     message: &mut [u8],
     residual: &mut [u8],
 )
@@ -226,7 +227,7 @@ pub fn guess_window(
     ensures { λ _. ⌜ Revised p blocks j (now (message .entry)) (now (residual .entry)) (now (message .exit)) (now (residual .exit)) ⌝ }
 {
     let m = p.m;
-    let mut s: usize = 0;
+    let mut s: usize = first;
     while s <= m {
         guess_block(p, products, rows, scale, blocks, j + s, message, residual);
         s += 1;

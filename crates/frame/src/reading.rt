@@ -1,6 +1,7 @@
 // A frame: the windows in turn, then the last comparison.
 ghost use mathlib.Core.Path.{_≡_};
 ghost use Prim.Native.Nat.{_+_, _*_, _≤_, _<_};
+ghost use lib.Dec.{ltb};
 ghost use lib.ListN.{length};
 ghost use Rattle.field.specs.Symbols.{Symbols};
 ghost use Rattle.code.specs.Code.{distancesTo};
@@ -12,6 +13,7 @@ use code::Setting;
 use field::Products;
 
 // Makes block j certain by the residual of its window: where that is light, the guess is right; else the levels find what to add, or none serves.
+// How many blocks of the window are settled as far as is known: all m + 1 where it is light, else as many as were found, and 0 where no message fits.
 fn settle(
     p: Setting,
     products: &Products,
@@ -26,14 +28,14 @@ fn settle(
     locator: &mut [u8],
     values: &mut [u8],
     information: &mut [u8],
-) -> bool
+) -> usize
     requires { ⌜ Ready p (now products) (now rows) × (bound ≡ distancesTo (p .n) (p .k) (p .m)) × (length (now reception) ≡ (blocks + p .m) * p .n) × Symbols (p .q) (now reception) × (j < blocks) × Settled p blocks (now reception) j (now message) (now residual) × BlockAreas p (now series) (now locator) (now values) (now information) ⌝ }
-    ensures { λ r. ⌜ Advanced p blocks (now (reception .entry)) (j + 1) (now (message .exit)) (now (residual .exit)) r ⌝ }
+    ensures { λ r. ⌜ Advanced p blocks (now (reception .entry)) (j + 1) (now (message .exit)) (now (residual .exit)) (ltb 0 r) ⌝ }
 {
     let start = j * p.n;
     let end = start + (p.m + 1) * p.n;
     if super::window::zero_cost(&residual[start..end]) < bound {
-        return true;
+        return p.m + 1;
     }
     let found = super::window::find_level(
         p,
@@ -46,7 +48,7 @@ fn settle(
         information,
     );
     if found == 0 {
-        return false;
+        return 0;
     }
     super::guess::add_found(
         p,
@@ -59,10 +61,11 @@ fn settle(
         message,
         residual,
     );
-    true
+    found
 }
 
-// The windows in turn: the blocks of window j are guessed, and then block j is made certain.
+// The windows in turn: blocks of window j are guessed, and then block j is made certain. The next window begins one block later; of its blocks only those
+// after the settled ones are guessed, since only they can have changed or are new.
 fn read_windows(
     p: Setting,
     products: &Products,
@@ -82,9 +85,20 @@ fn read_windows(
 {
     let scale = field::inverse(p.q, products, rows[0]);
     let mut j: usize = 0;
+    let mut first: usize = 0;
     while j < blocks {
-        super::guess::guess_window(p, products, rows, scale, blocks, j, message, residual);
-        if !settle(
+        super::guess::guess_window(
+            p,
+            products,
+            rows,
+            scale,
+            blocks,
+            j,
+            first,
+            message,
+            residual,
+        );
+        let settled = settle(
             p,
             products,
             rows,
@@ -98,9 +112,11 @@ fn read_windows(
             locator,
             values,
             information,
-        ) {
+        );
+        if settled == 0 {
             return false;
         }
+        first = settled - 1;
         j = j + 1;
     }
     true

@@ -9,10 +9,10 @@ use Rattle.frame.proofs.guess.guess_window.Statement.{statement}
 use Rattle.frame.proofs.guess.guess_window.Tie as tie
 
 abbrev Inv-loop : tie.InvT-loop
-Inv-loop p products rows scale blocks j message₀ residual₀ m s₀ message residual s = Revised p blocks j message₀ residual₀ message residual
+Inv-loop p products rows scale blocks j first message₀ residual₀ m s₀ message residual s = Revised p blocks j message₀ residual₀ message residual
 
 abbrev μ-loop : tie.MeasureT-loop
-μ-loop p products rows scale blocks j message₀ residual₀ m s₀ message residual s = m + 1 - s
+μ-loop p products rows scale blocks j first message₀ residual₀ m s₀ message residual s = m + 1 - s
 
 -- Stages of the call, each from a later one.
 abbrev entry-of-at-loop : tie.At-loop Inv-loop μ-loop → tie.Start Inv-loop μ-loop

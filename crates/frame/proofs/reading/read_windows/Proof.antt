@@ -1,10 +1,12 @@
 -- `frame::reading::read_windows`: the windows before j were read.
-use mathlib.Core.Path.{_≡_, refl, sym, subst, _∙_}
+use mathlib.Core.Path.{_≡_, refl, sym, ap, subst, _∙_}
+use mathlib.Core.Bool.{not}
 use Prim.Native.Nat.{ℕ, _-_, _*_, _≤_}
 use native.Mathlib.Nat.{mul-le-mul-left}
 use native.Mathlib.Omega.{arith}
 use denote.Ref.{now}
 use lib.ListN.{length}
+use borrow.Author.Tests.{lt-ltb, le-ltb}
 use Rattle.tables.proofs.Places.{first-place}
 use Rattle.block.proofs.BlockAreas.{block-areas-kept}
 use Rattle.frame.specs.parts.Frame.{Settled, advanced}
@@ -14,14 +16,14 @@ use Rattle.frame.proofs.reading.read_windows.Statement.{statement}
 use Rattle.frame.proofs.reading.read_windows.Tie as tie
 
 abbrev Inv-loop : tie.InvT-loop
-Inv-loop p products rows bound blocks reception message₀ residual₀ series₀ locator₀ values₀ information₀ scale j₀ message residual series
-    locator values information j =
+Inv-loop p products rows bound blocks reception message₀ residual₀ series₀ locator₀ values₀ information₀ scale j₀ first₀ message residual series
+    locator values information j first =
     Settled p blocks reception j message residual × (j ≤ blocks)
     × (length series ≡ length series₀) × (length locator ≡ length locator₀) × (length values ≡ length values₀) × (length information ≡ length information₀)
 
 abbrev μ-loop : tie.MeasureT-loop
-μ-loop p products rows bound blocks reception message₀ residual₀ series₀ locator₀ values₀ information₀ scale j₀ message residual series
-    locator values information j = blocks - j
+μ-loop p products rows bound blocks reception message₀ residual₀ series₀ locator₀ values₀ information₀ scale j₀ first₀ message residual series
+    locator values information j first = blocks - j
 
 -- Stages of the call, each from a later one.
 abbrev entry-of-inverse-call : tie.After-shared-slice-known3 Inv-loop μ-loop → tie.Start Inv-loop μ-loop
@@ -89,7 +91,7 @@ settle-requires c κs =
       before-settle-call c .before .before .before .loop-test .taken,
       settled-revised (a .p) (entry .pre .0 .sound) (a .blocks) (now (a .reception)) (entry .pre .3) (entry .pre .2) (l .j) (l .message) (l .residual)
           (l .inv .0)
-          (l .j) (guessed .last .1 .1 .1 .1 .1 .1 .0) (guessed .last .1 .1 .1 .1 .1 .1 .1 .0) (omega arith) (guessed .ensures),
+          (l .j) (guessed .last .1 .1 .1 .1 .1 .1 .1 .0) (guessed .last .1 .1 .1 .1 .1 .1 .1 .1 .0) (omega arith) (guessed .ensures),
       block-areas-kept (entry .pre .5) (l .inv .2) (l .inv .3) (l .inv .4) (l .inv .5),
     )
 
@@ -97,14 +99,14 @@ same-length : tie.Need-same-length Inv-loop μ-loop
 same-length c =
     let settled = before-if1 (c .before) in
     let guessed = before-settle settled in
-    settled .settle .kept .1 .1 .1 .1 .1 .1 .1 .0 ∙ guessed .guess-window .kept .1 .1 .1 .1 .1 .1 .0
+    settled .settle .kept .1 .1 .1 .1 .1 .1 .1 .0 ∙ guessed .guess-window .kept .1 .1 .1 .1 .1 .1 .1 .0
     ∙ before-guess-window guessed .loop .inv .0 .areas .message-long ∙ sym (entry-of-if1 (c .before) .pre .4 .areas .message-long)
 
 same-length-2 : tie.Need-same-length-2 Inv-loop μ-loop
 same-length-2 c =
     let settled = before-if1 (c .before) in
     let guessed = before-settle settled in
-    settled .settle .kept .1 .1 .1 .1 .1 .1 .1 .1 .0 ∙ guessed .guess-window .kept .1 .1 .1 .1 .1 .1 .1 .0
+    settled .settle .kept .1 .1 .1 .1 .1 .1 .1 .1 .0 ∙ guessed .guess-window .kept .1 .1 .1 .1 .1 .1 .1 .1 .0
     ∙ before-guess-window guessed .loop .inv .0 .areas .residual-long ∙ sym (entry-of-if1 (c .before) .pre .4 .areas .residual-long)
 
 same-length-3 : tie.Need-same-length-3 Inv-loop μ-loop
@@ -124,7 +126,9 @@ same-length-6 c = before-if1 (c .before) .settle .kept .1 .1 .1 .1 .1 .1 .1 .1 .
     ∙ before-guess-window (before-settle (before-if1 (c .before))) .loop .inv .5
 
 returns : tie.Need-returns Inv-loop μ-loop
-returns c = advance-stopped (before-if1 (c .before) .settle .ensures) (c .if1 .taken)
+returns c =
+    let settled = before-if1 (c .before) .settle in
+    advance-stopped (settled .ensures) (ap not (le-ltb 0 (settled .result) (omega (arith, c .if1 .taken))))
 
 add-j : tie.Need-add-j Inv-loop μ-loop
 add-j c =
@@ -140,7 +144,7 @@ loop-again : tie.Need-loop-again Inv-loop μ-loop
 loop-again c =
     let l = before-guess-window (before-settle (before-if1 (c .before))) .loop in
     let settled = before-if1 (c .before) .settle in (
-      advance-more (settled .ensures) (c .if1 .left),
+      advance-more (settled .ensures) (ap not (lt-ltb 0 (settled .result) (omega (arith, c .if1 .left)))),
       omega (arith, before-settle (before-if1 (c .before)) .before .before .before .loop-test .taken),
       settled .kept .1 .1 .1 .1 .1 .1 .1 .1 .1 .0 ∙ l .inv .2,
       settled .kept .1 .1 .1 .1 .1 .1 .1 .1 .1 .1 .0 ∙ l .inv .3,
@@ -159,5 +163,5 @@ pub read-windows-spec : {M : Type 1} → statement M
 read-windows-spec =
     tie.close
     (tie.spec Inv-loop μ-loop shared-slice-read-inverse inverse-requires loop-holds guess-window-requires settle-requires same-length same-length-2
-    same-length-3 same-length-4 same-length-5 same-length-6 returns add-j loop-less loop-again (omega arith) (omega arith) (omega arith) (omega arith)
-    (omega arith) (omega arith) returns-2)
+    same-length-3 same-length-4 same-length-5 same-length-6 returns (λ c. omega arith) add-j loop-less loop-again (omega arith) (omega arith)
+    (omega arith) (omega arith) (omega arith) (omega arith) returns-2)

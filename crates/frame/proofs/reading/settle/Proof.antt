@@ -60,13 +60,18 @@ add-end-2 c = omega (arith, room (entry-of-mul-start (c .before .before)))
 part-zero-cost-end : tie.Need-part-zero-cost-end
 part-zero-cost-end c = omega (arith, room (entry-of-mul-start (c .before .before .before)))
 
+add-result : tie.Need-add-result
+add-result c =
+    let entry = entry-of-zero-cost (c .before .before) in
+    omega (arith, sizes (entry .args .p) (entry .pre .0 .sound) .memory-most)
+
 returns : tie.Need-returns
 returns c =
-    let entry = entry-of-zero-cost (c .before) in
+    let entry = entry-of-zero-cost (c .before .before) in
     let a = entry .args in
     advance-clean (entry .pre .0 .sound) (entry .pre .3) (entry .pre .2) (entry .pre .5) (entry .pre .4)
-    (part-length (windowLength (a .p)) (a .j * a .p .n) (now (a .residual)) (room entry)) (c .before .zero-cost .ensures (a .p .q))
-    (omega (arith, c .if1 .taken, entry .pre .1))
+    (part-length (windowLength (a .p)) (a .j * a .p .n) (now (a .residual)) (room entry)) (c .before .before .zero-cost .ensures (a .p .q))
+    (omega (arith, c .before .if1 .taken, entry .pre .1))
 
 part-find-level-end : tie.Need-part-find-level-end
 part-find-level-end c = omega (arith, room (entry-of-zero-cost (c .before .before)))
@@ -109,7 +114,7 @@ returns-3 c =
 pub settle-spec : {M : Type 1} → statement M
 settle-spec =
     tie.close
-    (tie.spec mul-start add-end mul-end add-end-2 (search needs) (search needs) part-zero-cost-end (λ c κs. search needs) (λ c. omega arith) returns
+    (tie.spec mul-start add-end mul-end add-end-2 (search needs) (search needs) part-zero-cost-end (λ c κs. search needs) add-result (λ c. omega arith) returns
     (search needs) (search needs) part-find-level-end find-level-requires (λ c. omega arith) (λ c. omega arith) (λ c. omega arith) (λ c. omega arith)
     (λ c. omega arith) returns-2 add-found-requires (λ c. omega arith) (λ c. omega arith) (λ c. omega arith) (λ c. omega arith) (λ c. omega arith)
     (λ c. omega arith) returns-3)
