@@ -101,7 +101,7 @@ fn products_from(q: usize, powers: &[u8], exponents: &[u8]) -> Products
 }
 
 // The table of the field with q elements: the one place that tells the fields' lists apart. Each call has its q as a constant: from constants the compiler
-// works the table out itself, which takes less code than the loops (docs/PERFORMANCE.md, "Products from lists").
+// works small tables out itself (docs/PERFORMANCE.md, "Products from lists").
 pub fn products(q: usize) -> Products
     requires { ⌜ Good q ⌝ }
     ensures { λ r. ⌜ ProductsOf q r ⌝ }
