@@ -14,7 +14,7 @@ pub struct Setting {
     pub m: usize,
 }
 
-// Question 1: "Is the setting 1, 2 or 3?"
+// Question 1: "Question 1 admits 1 to 5" (02, #101).
 pub fn is_setting(number: u64) -> bool
     ensures { λ r. ⌜ r ≡ isSetting number ⌝ }
 {

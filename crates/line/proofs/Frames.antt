@@ -1,7 +1,7 @@
 -- The frame of a line that holds one (questions 11, 9, 1, 3 and 10 got "yes"), from decoding to the line's answer.
 -- Holds: `symbols-count`, `symbols-read`, `symbols-long`, `blocks-is` (the reception and T); `decoding-asked` (decoding's questions ask what is left, 4);
 -- `refusal-line`, `success-line`; `frame-answered` (what decoding gives), `frame-left`; `any-room`, `room-is` (the working areas); `head-refused`;
--- `mostAnswer`, `answers-most`, `answers-sevenfold` (an output line's length); `answered-shown` (with room for every frame); `answers-kept` (a line too long
+-- `mostAnswer` with its number, `answers-most`, `answers-sevenfold` (an output line's length); `answered-shown` (with room for every frame); `answers-kept` (a line too long
 -- is answered by its beginning).
 use mathlib.Core.Path.{_≡_, refl, sym, ap, ap₂, subst, _∙_}
 use mathlib.Core.Bool.{Bool, true, false, _&&_}
@@ -213,6 +213,9 @@ output-most line r x = at (eqb (r .number) 0)
 -- The longest output line: an opening, and the longest message.
 abbrev pub mostAnswer : ℕ
 mostAnswer = 10 + mostInformation
+
+pub most-answer : mostAnswer ≡ 2570
+most-answer = refl
 
 -- So it is no longer than the longest success line ..
 pub answers-most : (line text : List ℕ) → Answers line text → length text ≤ mostAnswer

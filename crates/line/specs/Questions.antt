@@ -30,11 +30,11 @@ digitsTo line = symbolsTo 16 (map digitOf line)
 abbrev pub mostCharacters : ℕ
 mostCharacters = 4 + mostSymbols
 
--- "At most 3,602 characters?"
-pub most-characters : mostCharacters ≡ 3602
+-- "question 11 admits 7,729 characters" (02, #101)
+pub most-characters : mostCharacters ≡ 7729
 most-characters = refl
 
--- 11: "At most 3,602 characters?" 9: "At least four, all 0-9 or a-f? (place: the first wrong character, else the length)".
+-- 11: at most so many characters? 9: "At least four, all 0-9 or a-f? (place: the first wrong character, else the length)".
 abbrev pub characterQuestions : List ℕ → List Question
 characterQuestions line =
     ask 11 (leb (length line) mostCharacters)
@@ -45,7 +45,7 @@ characterQuestions line =
 abbrev pub lengthQuestion : Setting → ℕ → ℕ → Question
 lengthQuestion p T left = ask 10 (leb 1 T && eqb left ((T + p .m) * p .n))
 
--- 1: "Is the setting 1, 2 or 3?" 3: "Is T at most 512?" Then 10.
+-- 1: "Question 1 admits 1 to 5" (02, #101). 3: "Is T at most 512?" Then 10.
 abbrev pub headQuestions : List ℕ → List Question
 headQuestions line =
     ask 1 (isSetting (settingIn line))

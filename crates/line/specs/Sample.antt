@@ -1,4 +1,5 @@
--- 01's sample lines ("The desk program's input"): the refused ones computed, and three more (a line one character too long, a wrong character, a short line);
+-- 01's sample lines ("The desk program's input"): the refused ones computed, and four more (a line one character too long, a wrong character, a short line,
+-- a setting that there is not);
 -- the two that hold a frame stated. Holds: `sample-symbol` to `sample-short`; `Gets`, `SampleRead`, `SampleNone`.
 use mathlib.Core.Path.{_≡_, refl}
 use mathlib.Core.List.{List, [], _∷_, map}
@@ -21,9 +22,14 @@ pub sample-empty : Refused [] (0 ∷ 9 ∷ 0 ∷ 0 ∷ 0 ∷ 0 ∷ [])
 unfolding digitOf characterOf hex symbolsTo
 sample-empty = refl
 
-pub sample-setting : Refused (4 ∷ 0 ∷ 0 ∷ 1 ∷ []) (0 ∷ 1 ∷ 0 ∷ 0 ∷ 0 ∷ 0 ∷ [])
+-- "a line beginning with 4 or 5 no longer gets 1; `4001` gets `0a0000`" (02, #101)
+pub sample-setting : Refused (4 ∷ 0 ∷ 0 ∷ 1 ∷ []) (0 ∷ 10 ∷ 0 ∷ 0 ∷ 0 ∷ 0 ∷ [])
 unfolding digitOf characterOf hex symbolsTo
 sample-setting = refl
+
+pub sample-no-setting : Refused (6 ∷ 0 ∷ 0 ∷ 1 ∷ []) (0 ∷ 1 ∷ 0 ∷ 0 ∷ 0 ∷ 0 ∷ [])
+unfolding digitOf characterOf hex symbolsTo
+sample-no-setting = refl
 
 pub sample-blocks : Refused (1 ∷ 2 ∷ 0 ∷ 1 ∷ []) (0 ∷ 3 ∷ 0 ∷ 0 ∷ 0 ∷ 0 ∷ [])
 unfolding digitOf characterOf hex symbolsTo

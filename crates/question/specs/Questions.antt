@@ -55,7 +55,7 @@ unfoldable pub symbolsTo : ℕ → List ℕ → ℕ
 symbolsTo q [] = 0
 symbolsTo q (x ∷ rest) = pick (ltb x q) (suc (symbolsTo q rest)) 0
 
--- 1: "Is the setting 1, 2 or 3?" 2: "Is the length a multiple of n and at least (m+1) × n?" 3: "Is T at most 512?"
+-- 1: "Question 1 admits 1 to 5" (02, #101). 2: "Is the length a multiple of n and at least (m+1) × n?" 3: "Is T at most 512?"
 abbrev pub frameQuestions : ℕ → ℕ → List Question
 frameQuestions number long =
     ask 1 (isSetting number)
@@ -111,8 +111,10 @@ pub encoding-samples : firstNo (encodingQuestions 257 [] 0)
 unfolding symbolsTo
 encoding-samples = refl
 
--- 1; 2 for a length that is no multiple of n, and for one below (m+1) × n; 3 before 4; 4 with its place before 5; 5 before 6; 6; yes.
+-- 1, below the settings and past them; 2 for a length that is no multiple of n, and for one below (m+1) × n; 3 before 4; 4 with its place before 5; 5 before 6;
+-- 6; yes. With sixteen elements 15 is a symbol, and 16 is none.
 pub decoding-samples : firstNo (decodingQuestions 0 [] 0 0)
+    ∷ firstNo (decodingQuestions 6 [] 0 0)
     ∷ firstNo (decodingQuestions 3 (replicate 3592 9) 0 0)
     ∷ firstNo (decodingQuestions 3 (replicate 7 9) 0 0)
     ∷ firstNo (decodingQuestions 3 (replicate 3598 9) 0 0)
@@ -120,8 +122,9 @@ pub decoding-samples : firstNo (decodingQuestions 0 [] 0 0)
     ∷ firstNo (decodingQuestions 3 (replicate 3591 7) 1535 0)
     ∷ firstNo (decodingQuestions 3 (replicate 3591 7) 1536 3590)
     ∷ firstNo (decodingQuestions 3 (replicate 3591 7) 1536 3591)
+    ∷ firstNo (decodingQuestions 4 (replicate 59 15 ++ 16 ∷ []) 0 0)
     ∷ []
-    ≡ answer 1 0 0 ∷ answer 2 0 0 ∷ answer 2 0 0 ∷ answer 3 0 0 ∷ answer 4 3590 0 ∷ answer 5 0 0 ∷ answer 6 0 0 ∷ answer 0 0 0 ∷ []
+    ≡ answer 1 0 0 ∷ answer 1 0 0 ∷ answer 2 0 0 ∷ answer 2 0 0 ∷ answer 3 0 0 ∷ answer 4 3590 0 ∷ answer 5 0 0 ∷ answer 6 0 0 ∷ answer 0 0 0 ∷ answer 4 59 0 ∷ []
 unfolding symbolsTo
 decoding-samples = refl
 
