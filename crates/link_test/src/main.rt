@@ -142,7 +142,7 @@ fn marks(number: u64, reception: &[u8], transmission: &[u8], j: u64) {
     let answer = found.answer;
     show_answer(answer);
     space();
-    show_number(found.marks as u64);
+    show_number(found.marks);
     space();
     show_number(found.set as u64);
     end_line();
@@ -318,9 +318,9 @@ fn next(
 fn turn() -> bool {
     let mut start = [0u8; 51];
     let mut digits = io::large_buffer();
-    let mut first = io::buffer();
-    let mut second = io::buffer();
-    let mut third = io::buffer();
+    let mut first = io::large_buffer();
+    let mut second = io::large_buffer();
+    let mut third = io::large_buffer();
     next(&mut start, &mut digits, &mut first, &mut second, &mut third)
 }
 
