@@ -46,14 +46,23 @@ fn desk(
     }
 }
 
+// The line area: a line one character too long, and a newline.
+const LINE: usize = line::MOST_CHARACTERS + 2;
+
+// How much a read may give.
+const INPUT: usize = 4096;
+
+// Room for the answers to a read and to the line that it goes on with.
+const OUTPUT: usize = 7 * (LINE + INPUT);
+
 // A newline at the front of the line area: no line is begun.
 fn main() {
-    let mut input = io::buffer();
-    let mut line = [b'\n'; line::MOST_CHARACTERS + 2];
+    let mut input = [0u8; INPUT];
+    let mut line = [b'\n'; LINE];
     let mut reception = [0u8; line::MOST_SYMBOLS];
     let mut message = [0u8; line::MOST_INFORMATION];
     let mut transmission = [0u8; line::MOST_SYMBOLS];
-    let mut output = io::large_buffer();
+    let mut output = [0u8; OUTPUT];
     desk(
         &mut input,
         &mut line,

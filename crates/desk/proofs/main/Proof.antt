@@ -8,7 +8,4 @@ desk-requires : tie.Need-desk-requires
 desk-requires c κs = (kept-none _, search needs)
 
 pub main-spec : {M : Type 1} → statement M
-main-spec =
-    tie.close
-    (tie.spec (search needs) (search needs) (search needs) (search needs) (search needs) (search needs) (search needs) (search needs) desk-requires
-    (search needs))
+main-spec = tie.close (tie.spec (search needs) (search needs) (search needs) (search needs) (search needs) (search needs) desk-requires (search needs))
