@@ -10,9 +10,8 @@ use lib.ListN.{length, getD, take, drop, length-drop, List·getD-append}
 use lib.Seq.{getD-take, getD-drop, getD-append-add, length-take-le}
 use borrow.Rule.Slice.PartMut.{putMid, same-len-mid}
 use Rattle.algebra.specs.Ops.{pick}
-use Rattle.algebra.specs.Weight.{countOf}
 use Rattle.algebra.proofs.Weights.{countOf-ext, total-split}
-use Rattle.area.specs.Lists.{weightOf}
+use Rattle.area.specs.parts.Weights.{weightTo, weightOf}
 
 -- The n elements from `start` on, with their number as the code computes it.
 module _ (n start : ℕ) (whole : List ℕ) where
@@ -28,12 +27,10 @@ module _ (n start : ℕ) (whole : List ℕ) where
       getD-take (start + n - start) (drop start whole) i 0 below ∙ getD-drop start whole i 0
 
   -- What the part adds to the weight of the list up to it.
-  pub part-weight : start + n ≤ length whole
-      → countOf start (λ i. not (eqb (getD whole i 0) 0)) + weightOf (take (start + n - start) (drop start whole))
-      ≡ countOf (start + n) (λ i. not (eqb (getD whole i 0) 0))
+  pub part-weight : start + n ≤ length whole → weightTo whole start + weightOf (take (start + n - start) (drop start whole)) ≡ weightTo whole (start + n)
   part-weight h =
-      ap (λ (t : ℕ). countOf start (λ i. not (eqb (getD whole i 0) 0)) + t)
-      (ap (λ (t : ℕ). countOf t (λ i. not (eqb (getD (take (start + n - start) (drop start whole)) i 0) 0))) (part-length h)
+      ap (λ (t : ℕ). weightTo whole start + t)
+      (ap (weightTo (take (start + n - start) (drop start whole))) (part-length h)
       ∙ countOf-ext n (λ i. not (eqb (getD (take (start + n - start) (drop start whole)) i 0) 0)) (λ i. not (eqb (getD whole (start + i) 0) 0))
       (λ i l. ap (λ (t : ℕ). not (eqb t 0)) (part-symbol i l)))
       ∙ sym (total-split start n (λ i. pick (not (eqb (getD whole i 0) 0)) 1 0))

@@ -1,2 +1,3 @@
 -- Lists as areas hold them.
 pub mod Lists
+pub mod parts

@@ -1,12 +1,8 @@
 -- Lists as areas hold them: block by block, made from a rule, and with another front.
--- Holds: `view`, a list as blocks; `tabulate`; `overwritten`, an area with bytes at its front;
--- `weightOf`, how many bytes are not zero.
-use mathlib.Core.Bool.{not}
+-- Holds: `view`, a list as blocks; `tabulate`; `overwritten`, an area with bytes at its front.
 use mathlib.Core.List.{List, [], _∷_, _++_}
 use Prim.Native.Nat.{ℕ, zero, suc, _+_, _*_}
-use lib.Dec.{eqb}
 use lib.ListN.{length, getD, drop}
-use Rattle.algebra.specs.Weight.{countOf}
 
 -- Symbol i of block s of a list of blocks of w symbols, 0 past its end.
 abbrev pub view : ℕ → List ℕ → ℕ → ℕ → ℕ
@@ -20,7 +16,3 @@ tabulate (suc n) f = f 0 ∷ tabulate n (λ i. f (suc i))
 -- An area after bytes were put at its front: "bytes past those places never change".
 abbrev pub overwritten : List ℕ → List ℕ → List ℕ
 overwritten front area = front ++ drop (length front) area
-
--- How many bytes of a list are not zero.
-abbrev pub weightOf : List ℕ → ℕ
-weightOf l = countOf (length l) (λ i. not (eqb (getD l i 0) 0))

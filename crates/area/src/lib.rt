@@ -5,7 +5,7 @@ ghost use Prim.Native.Nat.{min, _≤_};
 ghost use lib.Dec.{eqb};
 ghost use lib.ListN.{length, replicate};
 ghost use Rattle.algebra.specs.Ops.{pick};
-ghost use Rattle.area.specs.Lists.{weightOf};
+ghost use Rattle.area.specs.parts.Weights.{weightOf};
 
 // A byte as a size.
 pub fn wide(byte: u8) -> usize

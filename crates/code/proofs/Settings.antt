@@ -9,7 +9,8 @@ use native.Mathlib.Nat.{not-suc-le-zero, le-of-suc-le-suc, mul-le-mul, mul-le-mu
 use lib.Dec.{T as Passes, eqb, eqb→eq, leb, leb→le}
 use lib.ListN.{length, getD}
 use Rattle.algebra.proofs.Tests.{and-left, and-right}
-use Rattle.field.specs.Fields.{fields, isField}
+use Rattle.field.specs.Fields.{fields}
+use Rattle.field.specs.parts.Operations.{isField}
 use Rattle.field.proofs.Operations.{good-small}
 use Rattle.code.specs.declared.Setting.{Setting}
 use Rattle.code.specs.Settings.{setting, settings, isSetting, settingOf, largest}

@@ -13,8 +13,8 @@ use Rattle.algebra.proofs.HasOrder.{HasOrder}
 use Rattle.algebra.proofs.Powers.{power-add, power-wraps}
 use Rattle.algebra.proofs.Below.{Element, number, element, fieldBelow, number-keeps, number-power, orderBelow}
 use Rattle.algebra.proofs.Tests.{all, same}
-use Rattle.field.specs.Fields.{alpha, fields, isField, opsOf}
-use Rattle.field.specs.parts.Operations.{Good, Is}
+use Rattle.field.specs.Fields.{alpha, fields, opsOf}
+use Rattle.field.specs.parts.Operations.{isField, Good, Is}
 use Rattle.field.specs.parts.Products.{ListsOf}
 use Rattle.field.specs.parts.Sequences.{at}
 use Rattle.field.proofs.Laws.{lawsOf, orderOf, zero-below, alpha-below}

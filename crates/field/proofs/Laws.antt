@@ -10,14 +10,14 @@ use borrow.Author.Tests.{eqb-true}
 use Rattle.algebra.proofs.Below.{FieldBelow, OrderBelow}
 use Rattle.field.specs.Modular.{modular}
 use Rattle.field.specs.Binary.{binary}
-use Rattle.field.specs.parts.Operations.{Good}
-use Rattle.field.specs.Fields.{Entry, five, eight, sixteen, alpha, fields, isField, opsOf}
+use Rattle.field.specs.parts.Operations.{isField, Good}
+use Rattle.field.specs.Fields.{FieldEntry, five, eight, sixteen, alpha, fields, opsOf}
 use Rattle.field.proofs.Lawful.{Lawful}
 use Rattle.field.proofs.Five.{five-lawful}
 use Rattle.field.proofs.Eight.{eight-lawful}
 use Rattle.field.proofs.Sixteen.{sixteen-lawful}
 
-abbrev EachLawful : List Entry → Type 0
+abbrev EachLawful : List FieldEntry → Type 0
 EachLawful [] = Unit {0}
 EachLawful (f ∷ rest) = Lawful (f .elements) (opsOf (f .elements)) × EachLawful rest
 
@@ -26,7 +26,7 @@ each-lawful : EachLawful fields
 unfolding opsOf five eight sixteen modular binary
 each-lawful = (five-lawful, (eight-lawful, (sixteen-lawful, tt)))
 
-lawful-in : (l : List Entry) → EachLawful l → (q : ℕ) → Passes (isField q l) → Lawful q (opsOf q)
+lawful-in : (l : List FieldEntry) → EachLawful l → (q : ℕ) → Passes (isField q l) → Lawful q (opsOf q)
 lawful-in [] each q t = absurd t
 lawful-in (f ∷ rest) each q t = decide (lawful-in rest (each .1) q) (eqb q (f .elements)) refl t
   where

@@ -1,8 +1,7 @@
 -- The fields of 01 ("Two fields and three settings") and of 02 (#101), and the field with q elements, q chosen at run time.
--- Holds: `five`, `eightPolynomial`, `eight`, `sixteenPolynomial`, `sixteen`, `alpha`; `fields`, `isField`, `fieldOf`, `opsOf` (the field with q elements); the
+-- Holds: `five`, `eightPolynomial`, `eight`, `sixteenPolynomial`, `sixteen`, `alpha`; `fields`, `fieldOf`, `opsOf` (the field with q elements); the
 -- lists of the powers of α, computed (`powers-of-five`, `powers-of-eight`, `powers-of-sixteen`).
 use mathlib.Core.Path.{_≡_, refl}
-use mathlib.Core.Bool.{Bool, false, _||_}
 use mathlib.Core.List.{List, [], _∷_}
 use Prim.Native.Nat.{ℕ}
 use lib.Dec.{eqb}
@@ -36,24 +35,19 @@ abbrev pub alpha : ℕ
 alpha = 2
 
 -- A field in use: how many elements it has, and its operations.
-pub record Entry : Type 0 where
+pub record FieldEntry : Type 0 where
   pub elements : ℕ
   pub ops : Ops ℕ
 
-abbrev entry : ℕ → Ops ℕ → Entry
+abbrev entry : ℕ → Ops ℕ → FieldEntry
 entry q o = record { elements = q; ops = o }
 
 -- The fields in use.
-abbrev pub fields : List Entry
+abbrev pub fields : List FieldEntry
 fields = entry 5 five ∷ entry 8 eight ∷ entry 16 sixteen ∷ []
 
--- Whether a field of the list has q elements.
-abbrev pub isField : ℕ → List Entry → Bool
-isField q [] = false
-isField q (f ∷ rest) = eqb q (f .elements) || isField q rest
-
 -- The operations with q elements; what they are where no field has q elements matters nowhere, since every function asks for one that has.
-abbrev pub fieldOf : ℕ → List Entry → Ops ℕ
+abbrev pub fieldOf : ℕ → List FieldEntry → Ops ℕ
 fieldOf q [] = five
 fieldOf q (f ∷ rest) = pick (eqb q (f .elements)) (f .ops) (fieldOf q rest)
 

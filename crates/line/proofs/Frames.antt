@@ -1,8 +1,8 @@
 -- The frame of a line that holds one (questions 11, 9, 1, 3 and 10 got "yes"), from decoding to the line's answer.
 -- Holds: `symbols-count`, `symbols-read`, `symbols-long`, `blocks-is` (the reception and T); `decoding-asked` (decoding's questions ask what is left, 4);
 -- `refusal-line`, `success-line`; `frame-answered` (what decoding gives), `frame-left`; `any-room`, `room-is` (the working areas); `head-refused`;
--- `mostAnswer` with its number, `answers-most`, `answers-sevenfold` (an output line's length); `answered-shown` (with room for every frame); `answers-kept` (a line too long
--- is answered by its beginning).
+-- `mostAnswer` with its number, `answers-most`, `answers-sevenfold` (an output line's length); `answered-shown` (with room for every frame);
+-- `answers-kept` (a line too long is answered by its beginning).
 use mathlib.Core.Path.{_≡_, refl, sym, ap, ap₂, subst, _∙_}
 use mathlib.Core.Bool.{Bool, true, false, _&&_}
 use mathlib.Core.List.{List, [], _∷_, _++_, map}

@@ -124,7 +124,8 @@ pub decoding-samples : firstNo (decodingQuestions 0 [] 0 0)
     ∷ firstNo (decodingQuestions 3 (replicate 3591 7) 1536 3591)
     ∷ firstNo (decodingQuestions 4 (replicate 59 15 ++ 16 ∷ []) 0 0)
     ∷ []
-    ≡ answer 1 0 0 ∷ answer 1 0 0 ∷ answer 2 0 0 ∷ answer 2 0 0 ∷ answer 3 0 0 ∷ answer 4 3590 0 ∷ answer 5 0 0 ∷ answer 6 0 0 ∷ answer 0 0 0 ∷ answer 4 59 0 ∷ []
+    ≡ answer 1 0 0 ∷ answer 1 0 0 ∷ answer 2 0 0 ∷ answer 2 0 0 ∷ answer 3 0 0 ∷ answer 4 3590 0 ∷ answer 5 0 0 ∷ answer 6 0 0 ∷ answer 0 0 0
+    ∷ answer 4 59 0 ∷ []
 unfolding symbolsTo
 decoding-samples = refl
 

@@ -8,15 +8,11 @@ use borrow.Author.Needs.{needs}
 use denote.Ref.{now}
 use lib.Dec.{eqb}
 use lib.ListN.{length, getD}
-use Rattle.algebra.specs.Weight.{countOf}
 use Rattle.algebra.proofs.Weights.{total-none, countOf-le}
+use Rattle.area.specs.parts.Weights.{weightTo}
 use Rattle.area.proofs.Parts.{part-length, part-weight}
 use Rattle.area.proofs.weight.Statement.{statement}
 use Rattle.area.proofs.weight.Tie as tie
-
--- The weight of the first symbols of a list.
-abbrev weightTo : List ℕ → ℕ → ℕ
-weightTo symbols to = countOf to (λ i. not (eqb (getD symbols i 0) 0))
 
 abbrev Inv-loop : tie.InvT-loop
 Inv-loop symbols count₀ from₀ count from = (from ≤ length symbols) × (count ≡ weightTo symbols from)
@@ -60,7 +56,9 @@ counted c =
     ap₂ _+_ (l .inv .1) (c .wide .ensures ∙ c .before .short-weight .ensures) ∙ part-weight (s .smaller .result) (l .from) (symbols-of s) (inside s .1)
 
 add-count : tie.Need-add-count Inv-loop μ-loop
-add-count c = let s = before-count c in omega (arith, counted c, countOf-le (before-part s .loop .from + s .smaller .result) (λ i. not (eqb (getD (symbols-of s) i 0) 0)))
+add-count c =
+    let s = before-count c in
+    omega (arith, counted c, countOf-le (before-part s .loop .from + s .smaller .result) (λ i. not (eqb (getD (symbols-of s) i 0) 0)))
 
 loop-again : tie.Need-loop-again Inv-loop μ-loop
 loop-again c = (inside (before-count c) .1, counted c)
@@ -74,4 +72,5 @@ pub weight-spec : {M : Type 1} → statement M
 weight-spec =
     tie.close
     (tie.spec Inv-loop μ-loop loop-holds (λ c. omega arith) (λ c κs. search needs) (λ c. omega (arith, inside c .1)) (λ c. omega arith) (λ c. omega arith)
-    (λ c. omega (arith, inside c .1)) short-weight-requires (λ c κs. search needs) add-count (λ c. omega (arith, inside (before-count c) .0)) loop-again returns)
+    (λ c. omega (arith, inside c .1)) short-weight-requires (λ c κs. search needs) add-count (λ c. omega (arith, inside (before-count c) .0)) loop-again
+    returns)

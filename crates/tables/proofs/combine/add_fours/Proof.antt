@@ -58,4 +58,5 @@ returns-2 c = c .before .loop .inv
 pub add-fours-spec : {M : Type 1} → statement M
 add-fours-spec =
     tie.close
-    (tie.spec Inv-loop μ-loop returns loop-holds sub-loop add-four-requires (λ c. omega arith) (λ c. omega arith) loop-again (λ c. c .before .loop .inv .1 .long) returns-2)
+    (tie.spec Inv-loop μ-loop returns loop-holds sub-loop add-four-requires (λ c. omega arith) (λ c. omega arith) loop-again
+    (λ c. c .before .loop .inv .1 .long) returns-2)

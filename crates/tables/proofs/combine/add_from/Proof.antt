@@ -54,4 +54,6 @@ returns c =
     subst (λ (t : ℕ). MultipleAdded (a .q) (a .v) t (length (now (a .area))) (now (a .row)) (now (a .area)) (l .area)) done (l .inv .2)
 
 pub add-from-spec : {M : Type 1} → statement M
-add-from-spec = tie.close (tie.spec Inv-loop μ-loop loop-holds (λ c. omega arith) add-place-requires (λ c. omega arith) loop-again (λ c. c .before .loop .inv .2 .long) returns)
+add-from-spec =
+    tie.close
+    (tie.spec Inv-loop μ-loop loop-holds (λ c. omega arith) add-place-requires (λ c. omega arith) loop-again (λ c. c .before .loop .inv .2 .long) returns)

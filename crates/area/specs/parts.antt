@@ -1,0 +1,2 @@
+-- What functions on areas promise the layers above.
+pub mod Weights
