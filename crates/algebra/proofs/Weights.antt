@@ -1,10 +1,10 @@
 -- Totals of numbers, counts of the places at which a test holds, and weights of sequences over a field.
--- Holds: `total-ext`, `total-mono`, `total-most`, `total-add`, `total-scale`, `total-split`, `total-blocks`; `countOf-ext`, `one-le`, `countOf-le`,
+-- Holds: `total-ext`, `total-mono`, `total-most`, `total-add`, `total-scale`, `total-split`, `total-part`, `total-blocks`; `countOf-ext`, `one-le`, `countOf-le`,
 -- `countOf-mono`, `countOf-without`; `zero-test`, `nonzero-test`, `zero-uncounted`, `weight-short`;
 -- `distance-le`; `total-none`, `total-same`, `total-more` (as a loop adds up).
 use mathlib.Core.Path.{_≡_, refl, sym, ap, ap₂, subst, _∙_}
 use mathlib.Core.Bool.{Bool, true, false, not, _&&_}
-use Prim.Native.Nat.{ℕ, zero, suc, _+_, _*_, _≤_, _<_}
+use Prim.Native.Nat.{ℕ, zero, suc, _+_, _-_, _*_, _≤_, _<_}
 use native.Mathlib.Nat.{add-zero, add-suc, add-assoc, zero-mul, suc-mul}
 use native.Mathlib.Numerals.{add-one}
 use native.Mathlib.Omega.{arith}
@@ -47,6 +47,10 @@ total-split n zero f = ap (λ (t : ℕ). total t f) (add-zero n) ∙ sym (add-ze
 total-split n (suc m) f =
     ap (λ (t : ℕ). total t f) (add-suc n m)
     ∙ (ap (λ (t : ℕ). t + f (n + m)) (total-split n m f) ∙ add-assoc (total n f) (total m (λ i. f (n + i))) (f (n + m)))
+
+-- The first i of n terms add up to no more than all of them.
+pub total-part : (f : ℕ → ℕ) (i n : ℕ) → i ≤ n → total i f ≤ total n f
+total-part f i n h = let all : i + (n - i) ≡ n = omega arith in omega (arith, total-split i (n - i) f, ap (λ (t : ℕ). total t f) all)
 
 -- A total over m blocks of n terms, block by block.
 pub total-blocks : (m n : ℕ) (f : ℕ → ℕ) → total (m * n) f ≡ total m (λ s. total n (λ i. f (s * n + i)))

@@ -10,4 +10,3 @@ pub mod CandidateBelow
 pub mod InformationRead
 pub mod Step
 pub mod BlockAreas
-pub mod Totals

@@ -5,7 +5,7 @@ use mathlib.Core.List.{List}
 use native.Mathlib.Omega.{arith}
 use denote.Ref.{now}
 use Rattle.algebra.specs.Weight.{total}
-use Rattle.algebra.proofs.Weights.{total-none, total-same, total-more}
+use Rattle.algebra.proofs.Weights.{total-none, total-part, total-same, total-more}
 use Rattle.area.specs.Lists.{view}
 use Rattle.field.specs.parts.Sequences.{at}
 use Rattle.field.proofs.Symbols.{all-symbols}
@@ -15,7 +15,6 @@ use Rattle.code.specs.parts.Cost.{symbolCost, blockCost}
 use Rattle.code.specs.Settings.{codeOf}
 use Rattle.code.proofs.Settings.{sizes}
 use Rattle.code.proofs.Cost.{cost-same, cost-differ}
-use Rattle.block.proofs.Totals.{total-first}
 use Rattle.block.proofs.information.cost.Statement.{statement}
 use Rattle.block.proofs.information.cost.Tie as tie
 
@@ -48,7 +47,7 @@ returns c =
       arith,
       c .if1 .taken,
       l .inv .2,
-      total-first (symbol (a .p) (now (a .information)) (a .l) (now (a .block))) (l .i) (a .p .n) (l .inv .0),
+      total-part (symbol (a .p) (now (a .information)) (a .l) (now (a .block))) (l .i) (a .p .n) (l .inv .0),
     )
 
 combination-requires : tie.Need-combination-requires Inv-loop μ-loop

@@ -7,12 +7,11 @@ use denote.Ref.{now}
 use lib.ListN.{length}
 use borrow.Author.Tests.{lt-ltb, le-ltb}
 use Rattle.algebra.specs.Weight.{total}
-use Rattle.algebra.proofs.Weights.{total-none, total-more}
+use Rattle.algebra.proofs.Weights.{total-none, total-part, total-more}
 use Rattle.area.specs.Lists.{view}
 use Rattle.area.proofs.Parts.{part-length}
 use Rattle.code.specs.parts.Cost.{windowCost}
 use Rattle.code.proofs.Settings.{sizes}
-use Rattle.block.proofs.Totals.{total-first}
 use Rattle.frame.proofs.RebuiltCost.{rebuilt-term, rebuilt-all, part-cost}
 use Rattle.frame.proofs.window.is_near.Statement.{statement}
 use Rattle.frame.proofs.window.is_near.Tie as tie
@@ -95,7 +94,7 @@ returns c =
       l .inv .2,
       counted (c .before),
       next (c .before .before .before),
-      total-first (term entry) (l .s + 1) (a .l + 1) (omega arith),
+      total-part (term entry) (l .s + 1) (a .l + 1) (omega arith),
       all-cost entry,
     )))
 
