@@ -3,7 +3,7 @@ ghost use mathlib.Core.Path.{_≡_};
 ghost use Prim.Native.Nat.{_≤_};
 ghost use lib.Dec.{T as Passes};
 ghost use Rattle.code.specs.Code.{levelDistance, distancesTo};
-ghost use Rattle.code.specs.Settings.{isSetting, settingOf};
+ghost use Rattle.code.specs.Settings.{setting, isSetting, settingOf};
 ghost use Rattle.code.specs.parts.Sound.{Sound};
 
 // A setting (the code's parameters): q elements, blocks of n = q - 1 symbols, information blocks of k, memory m.
@@ -24,50 +24,38 @@ pub fn is_setting(number: u64) -> bool
     number <= 5
 }
 
-// The parameters of a setting. Told apart by `<`: with `==` the compiler takes k for the number itself, and decoding is up to a tenth slower
+// The setting with q elements, information blocks of k and memory m.
+fn parameters(q: usize, k: usize, m: usize) -> Setting
+    requires { ⌜ 1 ≤ q ⌝ }
+    ensures { λ r. ⌜ r ≡ setting q k m ⌝ }
+{
+    Setting {
+        q: q,
+        n: q - 1,
+        k: k,
+        m: m,
+    }
+}
+
+// The setting with a number. Told apart by `<`: with `==` the compiler takes k for the number itself, and decoding is up to a tenth slower
 // (docs/PERFORMANCE.md).
 pub fn setting_of(number: u64) -> Setting
     requires { ⌜ Passes (isSetting number) ⌝ }
     ensures { λ r. ⌜ r ≡ settingOf number ⌝ }
 {
     if number < 2 {
-        return Setting {
-            q: 5,
-            n: 4,
-            k: 1,
-            m: 2,
-        };
+        return parameters(5, 1, 2);
     }
     if number < 3 {
-        return Setting {
-            q: 8,
-            n: 7,
-            k: 2,
-            m: 2,
-        };
+        return parameters(8, 2, 2);
     }
     if number < 4 {
-        return Setting {
-            q: 8,
-            n: 7,
-            k: 3,
-            m: 1,
-        };
+        return parameters(8, 3, 1);
     }
     if number < 5 {
-        return Setting {
-            q: 16,
-            n: 15,
-            k: 3,
-            m: 3,
-        };
+        return parameters(16, 3, 3);
     }
-    Setting {
-        q: 16,
-        n: 15,
-        k: 5,
-        m: 2,
-    }
+    parameters(16, 5, 2)
 }
 
 // d_l = n - (l+1)k + 1, the distance of the level-l code.
