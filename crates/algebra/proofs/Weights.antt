@@ -1,6 +1,6 @@
 -- Totals of numbers, counts of the places at which a test holds, and weights of sequences over a field.
--- Holds: `total-ext`, `total-mono`, `total-most`, `total-add`, `total-scale`, `total-split`, `total-part`, `total-blocks`; `countOf-ext`, `one-le`, `countOf-le`,
--- `countOf-mono`, `countOf-without`; `zero-test`, `nonzero-test`, `zero-uncounted`, `weight-short`;
+-- Holds: `total-ext`, `total-mono`, `total-most`, `total-add`, `total-scale`, `total-split`, `total-part`, `total-blocks`; `countOf-ext`, `one-le`,
+-- `countOf-le`, `countOf-mono`, `countOf-without`; `zero-test`, `nonzero-test`, `zero-uncounted`, `weight-short`;
 -- `distance-le`; `total-none`, `total-same`, `total-more` (as a loop adds up).
 use mathlib.Core.Path.{_≡_, refl, sym, ap, ap₂, subst, _∙_}
 use mathlib.Core.Bool.{Bool, true, false, not, _&&_}

@@ -1,6 +1,7 @@
 -- The steps of the locator on numbers below q, carried over from the field of the pairs (number, below q).
 -- Holds: `raise` and `fall` (equations up to the field and down again), `up` (a sequence of numbers as one of elements), `sum-down`, `convolution-down`,
--- `tail-down`, `located-up`; the steps `start-below`, `kept-below`, `corrected-below`, `grown-below`.
+-- `tail-down`, `located-up`; the steps `start-below`, `kept-below`, `corrected-below`, `grown-below`;
+-- `series-vanishes` (what a locator of degree 0 annihilates).
 use mathlib.Core.Path.{_≡_, sym, ap, ap₂, subst, _∙_}
 use Prim.Native.Nat.{ℕ, zero, suc, _+_, _-_, _≤_, _<_}
 use native.Mathlib.Omega.{arith}
@@ -97,6 +98,12 @@ module _ (q : ℕ) (o : Ops ℕ) (B : FieldBelow q o) where
     convolution-is-tail {s} {L} {p} h j l =
         fall (convolution-down σ c bσ bc j) (add-down _ _ (down (c j) (bc j)) (tail-down σ c bσ bc L j))
         (convolution-tail K L (up σ) (up c) (located-up h .first) (located-up h .short) j l)
+
+    -- A locator of degree 0 is 1, and what it annihilates is zero.
+    pub series-vanishes : {s p : ℕ} → Located o c s 0 p scale σ τ → (j : ℕ) → 0 < j → j ≤ s → c j ≡ 0
+    unfolding tail sum
+    series-vanishes h j l u =
+        sym (B .plus-zero (c j) (bc j)) ∙ ap (o .add (c j)) (sym (B .zero-is)) ∙ sym (convolution-is-tail h j (omega arith)) ∙ h .annihilates j l u ∙ B .zero-is
 
     pub kept-below : {s L p : ℕ} → Located o c s L p scale σ τ → o .add (c (suc s)) (tail o L σ c (suc s)) ≡ o .zero → Located o c (suc s) L p scale σ τ
     kept-below {s} {L} {p} h e =

@@ -1,27 +1,31 @@
 -- The two answers of the block step, from what its parts promise (the chain: distance lemma, locator, spectrum of the error, information).
--- Holds: `step-long`, `step-every`, `step-near`, `step-far`.
-use mathlib.Core.Path.{_≡_, ap}
+-- Holds: `step-long`, `step-clean`, `step-near`, `step-far`.
+use mathlib.Core.Path.{_≡_, sym, ap, subst, _∙_}
 use mathlib.Core.Bool.{true, false}
 use mathlib.Core.List.{List}
-use Prim.Native.Nat.{ℕ, _+_, _*_, _≤_, _<_, min}
+use Prim.Native.Nat.{ℕ, _+_, _-_, _*_, _≤_, _<_, min}
 use native.Mathlib.Omega.{arith}
 use lib.ListN.{length}
 use Rattle.algebra.proofs.Weights.{total-ext, total-most}
 use Rattle.area.specs.Lists.{view}
+use Rattle.field.specs.Fields.{opsOf}
 use Rattle.field.specs.Symbols.{Symbols}
 use Rattle.field.specs.parts.Sequences.{at}
+use Rattle.field.proofs.Laws.{lawsOf}
 use Rattle.code.specs.declared.Setting.{Setting}
 use Rattle.code.specs.Code.{levelDistance}
-use Rattle.code.specs.Level.{combination, InLevel}
+use Rattle.code.specs.Level.{combination, InLevel, Vanishes}
 use Rattle.code.specs.parts.Cost.{symbolCost, blockCost, levelCost}
 use Rattle.code.specs.Settings.{codeOf}
 use Rattle.code.specs.parts.Sound.{Sound}
 use Rattle.code.proofs.Blocks.{combination-ext}
-use Rattle.code.proofs.LevelBlocks.{every-block-in-level}
+use Rattle.code.proofs.LevelBlocks.{vanishing-in-level}
 use Rattle.code.proofs.Settings.{level-fits}
 use Rattle.code.proofs.Cost.{cost-same}
+use Rattle.block.specs.parts.Locator.{Located}
 use Rattle.block.specs.parts.Candidate.{syndromesAt, Begun, Candidate}
 use Rattle.block.specs.parts.Step.{InformationTo, Step, near, far}
+use Rattle.block.proofs.LocatorBelow.{series-vanishes}
 use Rattle.block.proofs.Spectra.{found-longer}
 use Rattle.block.proofs.CandidateBelow.{degree-of-near-below, read-of-near}
 
@@ -59,11 +63,21 @@ module _ {p : Setting} (S : Sound p) {l : ℕ} (level : l ≤ p .m) {block : Lis
             (found-longer (p .q) block (syndromesAt p l) (p .n) series (C .series) (omega arith) (B .spectral) (C .spectral) (B .located))
             (C .after) (C .values) found (C .spectral) (C .continued) (C .reads)
 
-    -- d_l = 1: the block is of the level, so what was read is its information, at no cost.
-    pub step-every : levelDistance (p .n) (p .k) l ≡ 1 → Step p l block found true
-    step-every one =
-        let fits : (l + 1) * p .k ≤ p .n = level-fits p S l level in
-        let of-level = every-block-in-level p S l fits block long symbols (omega arith) in
+    -- A locator of degree 0: all syndromes are zero.
+    syndromes-vanish : degree ≡ 0 → Vanishes p l block
+    syndromes-vanish none s h =
+        let pair = B .located .pair in
+        sym (B .spectral .values s h)
+        ∙ series-vanishes (p .q) (opsOf (p .q)) (lawsOf (p .q) (S .good)) (at series) (at locator) (at former) (B .located .scale) (B .spectral .below)
+        (pair .locator-below) (pair .former-below) (pair .scale-below)
+        (subst (λ (L : ℕ). Located (opsOf (p .q)) (at series) (syndromesAt p l + 1 - 1) L (B .located .place) (B .located .scale) (at locator) (at former)) none
+        (pair .located))
+        (s + 1) (omega arith) (omega arith)
+
+    -- A locator of degree 0: the block is of the level, so what was read is its information, at no cost.
+    pub step-clean : degree ≡ 0 → Step p l block found true
+    step-clean none =
+        let of-level = vanishing-in-level p S l (level-fits p S l level) block long symbols (syndromes-vanish none) in
         let free = cost-in-level p l block of-level in
         near (C .reads .below) (omega (arith, free, same-cost (of-level .information) (λ b r u v. of-level .below b r) (omega (arith, free))))
 

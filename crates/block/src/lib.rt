@@ -1,8 +1,8 @@
 // The block step: from a received block the information of the code block within the limit, or that there is none (01, "Reading a reception").
 // A block's spectrum is its values at α^0, α^1, ... That of a level-l code block is zero at the first n - (l+1)k places, so there the received block
 // shows the spectrum of the error: these are the syndromes. The locator that annihilates what is known of it continues it by a recurrence, rightly if
-// the error is light; what the received block has besides is the code block's spectrum, and the information is read off it. The block is rebuilt from
-// the rows and compared, so a good answer rests on nothing else.
+// the error is light; what the received block has besides is the code block's spectrum, and the information is read off it. Unless all
+// syndromes are zero, the block is rebuilt from the rows and compared, so a good answer rests on nothing else.
 pub mod information;
 mod locator;
 mod spectrum;
@@ -119,8 +119,8 @@ pub fn repair(
         values,
         information,
     );
-    // A level without syndromes ((l+1)k = n, d_l = 1) has every block in its code: the candidate is the block itself, at cost 0.
-    if distance == 1 {
+    // No syndrome differs from zero: the block is of the code, and what was read is its information.
+    if start.degree == 0 {
         return true;
     }
     let cost = information::cost(p, products, rows, information, l, block, distance);

@@ -1,5 +1,5 @@
 -- A symbol's cost on bytes. Only this file looks into `symbolCost`: its values, its two laws, and the one lemma that joins it with the words of `Fits`.
--- Holds: `cost-same`, `cost-differ`; `cost-apart`, `cost-shift`, the two laws; `cost-count` (costs and counts of differing symbols), `cost-most`; `byteCost`,
+-- Holds: `cost-same`, `cost-differ`; `cost-apart`, `cost-shift`, the two laws; `cost-count` (costs and counts of differing symbols); `byteCost`,
 -- `bytes-apart`, the cost of a byte for an element of the field; `message-cost`; `fits-cost` ("at most t" is a cost of less than d_0 + .. + d_m), `fits-near`.
 use mathlib.Core.Path.{_≡_, sym, ap, _∙_}
 use mathlib.Core.Bool.{Bool, true, false, not}
@@ -14,7 +14,7 @@ use borrow.Author.Tests.{eq-eqb, ne-eqb}
 use Rattle.algebra.specs.Ops.{sub, pick}
 use Rattle.algebra.specs.Weight.{total, distance}
 use Rattle.algebra.proofs.Laws.{add-cancel, add-comm}
-use Rattle.algebra.proofs.Weights.{total-ext, total-scale, total-blocks, countOf-le}
+use Rattle.algebra.proofs.Weights.{total-ext, total-scale, total-blocks}
 use Rattle.algebra.proofs.Below.{Element, number, number-injective}
 use Rattle.area.specs.Lists.{view}
 use Rattle.field.specs.Fields.{opsOf}
@@ -51,9 +51,6 @@ module _ (q : ℕ) where
       twice : (t : Bool) → 2 * pick (not t) 1 0 ≡ pick t 0 2
       twice true = omega arith
       twice false = omega arith
-
-  pub cost-most : (n : ℕ) (a b : ℕ → ℕ) → total n (λ i. symbolCost q (a i) (b i)) ≤ 2 * n
-  cost-most n a b = omega (arith, cost-count n a b, countOf-le n (λ i. not (eqb (a i) (b i))))
 
   -- What receiving a byte costs where an element was sent.
   abbrev pub byteCost : ℕ → Element q → ℕ

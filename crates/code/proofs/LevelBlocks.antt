@@ -1,7 +1,7 @@
 -- 01's words on a level's block code, on lists of bytes: "It consists exactly of the blocks whose polynomials vanish at α^0 .. α^(n-(l+1)k-1). Its nonzero
 -- blocks have at least d_l nonzero symbols."
--- Holds: `level-vanishes`, `vanishing-in-level` (exactly those blocks), `every-block-in-level` (where (l+1)k = n), `vanishing-heavy` (d_l); `level-blocks`,
--- the three of every setting.
+-- Holds: `level-vanishes`, `vanishing-in-level` (exactly those blocks), `vanishing-heavy` (d_l); `level-blocks`, all three of every setting;
+-- `every-block-of-5` (level 2 of setting 5).
 use mathlib.Core.Path.{_≡_, sym, ap, _∙_}
 use mathlib.Core.Bool.{not}
 use mathlib.Core.List.{List}
@@ -82,10 +82,6 @@ module _ (p : Setting) (S : Sound p) (l : ℕ) (fits : (l + 1) * p .k ≤ p .n) 
       x = informationOf (fieldOf p S) (rootOf p S) (p .n) (p .k) (p .m) (orderAt p S) l
           (λ s. valueOf (fieldOf p S .ops) (p .n) (received p S block) (power (fieldOf p S .ops) (rootOf p S) s))
 
-  -- Where (l+1)k = n no point is left to vanish at: every block is of the level.
-  pub every-block-in-level : (l + 1) * p .k ≡ p .n → InLevel p l block
-  every-block-in-level full = vanishing-in-level (λ s h. absurd (omega arith))
-
 pub level-blocks : LevelBlocks
 level-blocks s t l low block long symbols =
     record {
@@ -102,3 +98,7 @@ level-blocks s t l low block long symbols =
 
     fits : (l + 1) * p .k ≤ p .n
     fits = level-fits p S l low
+
+-- At level 2 of setting 5 no point is left to vanish at ((l+1)k = n, d_l = 1): every block is of its code.
+pub every-block-of-5 : (block : List ℕ) → length block ≡ 15 → Symbols 16 block → InLevel (settingOf 5) 2 block
+every-block-of-5 block long symbols = level-blocks 5 tt 2 (omega arith) block long symbols .exactly (λ s h. absurd (omega arith))

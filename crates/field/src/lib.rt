@@ -172,8 +172,8 @@ pub fn add_product(q: usize, products: &Products, a: u8, x: u8, b: u8) -> u8
     add(q, a, product)
 }
 
-// How many coefficients one call of `value` takes. As a constant it lets the compiler write the loop over them out.
-const PART: usize = 8;
+// How many coefficients a call of `value` takes where there are so many. As a constant it lets the compiler write the loop over them out.
+const PART: usize = 7;
 
 // The value of the polynomial c at x from that of its rest, the coefficients from `count` on: those before them are taken from the last down.
 fn value_from_rest(q: usize, products: &Products, c: &[u8], count: usize, x: u8, rest: u8) -> u8
@@ -190,14 +190,19 @@ fn value_from_rest(q: usize, products: &Products, c: &[u8], count: usize, x: u8,
 }
 
 // The value of the polynomial with the coefficients c, lowest power first, at x: "The value of a polynomial without coefficients is 0;
-// otherwise it is the first coefficient plus the point times the value of the rest." A call takes eight coefficients at a time: a call for each costs more than
-// its product.
+// otherwise it is the first coefficient plus the point times the value of the rest." Where there are seven or more, a call takes seven: a call for each costs
+// more than its product (docs/PERFORMANCE.md, "Before and after").
 pub fn value(q: usize, products: &Products, c: &[u8], x: u8) -> u8
     requires { ⌜ Good q × ProductsOf q (now products) × Symbols q (now c) × (x < q) ⌝ }
     ensures { λ r. ⌜ Is q r (polynomial.value (opsOf q) (now (c .entry)) x) ⌝ }
 {
+    if c.len() == 0 {
+        return 0;
+    }
     if c.len() < PART {
-        return value_from_rest(q, products, c, c.len(), x, 0);
+        let first = c[0];
+        let rest = value(q, products, &c[1..], x);
+        return add_product(q, products, first, x, rest);
     }
     let rest = value(q, products, &c[PART..], x);
     value_from_rest(q, products, c, PART, x, rest)

@@ -75,7 +75,7 @@ module _ {p : Setting} {T : ℕ} where
 module _ (p : Setting) (S : Sound p) (T j r v : ℕ) (message residual : List ℕ) (A : FrameAreas p T message residual) (lj : j < T) (lr : r < p .k)
     (lv : v < p .q)
     (w : ℕ) (sum : w ≡ opsOf (p .q) .add (getD message (j * p .k + r) 0) v) (u : ℕ) (lu : u < p .q) (opposite : opsOf (p .q) .add v u ≡ 0)
-    (window' : List ℕ) (L : RowsAdded p r u (p .m + 1) (windowAt p residual j) window') where
+    (window' : List ℕ) (L : RowsAdded p r u (windowAt p residual j) window') where
   message-below : (a : ℕ) → getD message a 0 < p .q
   message-below = symbol-below (p .q) message (A .message-symbols) (positive p S)
 
@@ -191,11 +191,11 @@ module _ (p : Setting) (S : Sound p) (T j r v : ℕ) (message residual : List �
 -- The same with the sizes as the code computes them.
 pub adjusted : (p : Setting) → Sound p → (T j r v : ℕ) (message residual : List ℕ) → FrameAreas p T message residual → j < T → r < p .k → v < p .q
     → (w : ℕ) → w ≡ opsOf (p .q) .add (getD message (j * p .k + r) 0) v → (u : ℕ) → u < p .q → opsOf (p .q) .add v u ≡ 0 → (window' : List ℕ)
-    → RowsAdded p r u (p .m + 1) (take (j * p .n + windowLength p - j * p .n) (drop (j * p .n) residual)) window'
+    → RowsAdded p r u (take (j * p .n + windowLength p - j * p .n) (drop (j * p .n) residual)) window'
     → Adjusted p T j r v message residual (set message (j * p .k + r) w) (putMid (j * p .n) (j * p .n + windowLength p - j * p .n) residual window')
 adjusted p S T j r v message residual A lj lr lv w sum u lu opposite window' =
     let wide : j * p .n + windowLength p - j * p .n ≡ windowLength p = omega arith in
-    subst (λ (t : ℕ). RowsAdded p r u (p .m + 1) (take t (drop (j * p .n) residual)) window'
+    subst (λ (t : ℕ). RowsAdded p r u (take t (drop (j * p .n) residual)) window'
     → Adjusted p T j r v message residual (set message (j * p .k + r) w) (putMid (j * p .n) t residual window')) (sym wide)
     (adjusted-exact p S T j r v message residual A lj lr lv w sum u lu opposite window')
 

@@ -61,11 +61,14 @@ HoldsFrame line = firstNo (characterQuestions line ++ headQuestions line) .numbe
 abbrev pub lineQuestions : List ℕ → List Question
 lineQuestions line = characterQuestions line ++ headQuestions line ++ symbolQuestion (settingOf (settingIn line) .q) (symbolsIn line) ∷ []
 
--- Examples, computed: 11 comes before 9, and the place of 4 is counted in symbols, that of 9 in characters.
+-- Examples, computed: 11 comes before 9, and the place of 4 is counted in symbols, that of 9 in characters. "Their symbols need all sixteen hexadecimal
+-- digits", and "a line beginning with 4 or 5 no longer gets 1" (02, #101).
 pub line-samples : firstNo (lineQuestions (replicate (mostCharacters + 1) 122))
     ∷ firstNo (lineQuestions (map characterOf (1 ∷ 0 ∷ 0 ∷ 1 ∷ 2 ∷ 4 ∷ 3 ∷ 5 ∷ 2 ∷ 3 ∷ 2 ∷ 3 ∷ 0 ∷ 0 ∷ 0 ∷ 0 ∷ [])))
     ∷ firstNo (lineQuestions (49 ∷ 50 ∷ 103 ∷ []))
+    ∷ firstNo (lineQuestions (map characterOf (4 ∷ 0 ∷ 0 ∷ 1 ∷ replicate 60 15)))
+    ∷ firstNo (lineQuestions (map characterOf (5 ∷ 0 ∷ 0 ∷ 1 ∷ [])))
     ∷ []
-    ≡ answer 11 0 0 ∷ answer 4 3 0 ∷ answer 9 2 0 ∷ []
+    ≡ answer 11 0 0 ∷ answer 4 3 0 ∷ answer 9 2 0 ∷ answer 0 0 0 ∷ answer 10 0 0 ∷ []
 unfolding digitOf characterOf symbolsTo
 line-samples = refl

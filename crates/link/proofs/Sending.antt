@@ -55,7 +55,7 @@ module _ (p : Setting) (S : Sound p) (T : ℕ) (message : List ℕ) (M : Message
 
   -- Symbol r of block i is sent: its multiples of rows come into the area, and the rest has 0 in its place.
   pub sent-more : (i r v : ℕ) (area window' : List ℕ) → i < T → r < p .k → v ≡ getD message (i * p .k + r) 0 → SentTo p T message (i * p .k + r) area
-      → RowsAdded p r v (p .m + 1) (take (i * p .n + windowLength p - i * p .n) (drop (i * p .n) area)) window'
+      → RowsAdded p r v (take (i * p .n + windowLength p - i * p .n) (drop (i * p .n) area)) window'
       → SentTo p T message (i * p .k + (r + 1)) (putMid (i * p .n) (i * p .n + windowLength p - i * p .n) area window')
   sent-more i r v area window' li lr e sending L =
       record {

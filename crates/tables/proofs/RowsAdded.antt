@@ -105,7 +105,7 @@ module _ (p : Setting) (S : Sound p) (rows : List ℕ) (R : RowsOf p rows) (r : 
       }
 
   pub rows-added : (v : ℕ) (before after : List ℕ) → length before ≡ windowLength p → MultipleAdded (p .q) v 0 (length before) row before after
-      → RowsAdded p r v (p .m + 1) before after
+      → RowsAdded p r v before after
   rows-added v before after long M =
       record {
         long = M .long;
@@ -113,5 +113,4 @@ module _ (p : Setting) (S : Sound p) (rows : List ℕ) (R : RowsOf p rows) (r : 
         inside = λ s i l h.
             M .inside (s * p .n + i) (omega arith) (subst (λ (t : ℕ). s * p .n + i < t) (sym long) (digits-lt l h))
             ∙ ap (λ (t : ℕ). opsOf (p .q) .add (getD before (s * p .n + i) 0) (opsOf (p .q) .mul v t)) (row-symbol s i l h);
-        outside = λ a l. M .over a (omega arith);
       }

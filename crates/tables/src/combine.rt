@@ -131,7 +131,7 @@ fn add_multiple(q: usize, products: &Products, v: u8, row: &[u8], area: &mut [u8
 // Adds v × row r of G_0, .., G_m to the blocks of a window: what one information symbol contributes.
 pub fn add_rows(p: Setting, products: &Products, rows: &[u8], r: usize, v: u8, window: &mut [u8])
     requires { ⌜ Ready p (now products) (now rows) × (r < p .k) × (v < p .q) × (length (now window) ≡ windowLength p) × Symbols (p .q) (now window) ⌝ }
-    ensures { λ _. ⌜ RowsAdded p r v (p .m + 1) (now (window .entry)) (now (window .exit)) ⌝ }
+    ensures { λ _. ⌜ RowsAdded p r v (now (window .entry)) (now (window .exit)) ⌝ }
 {
     let size = (p.m + 1) * p.n;
     let start = r * size;

@@ -4,7 +4,7 @@ use native.Mathlib.Omega.{arith}
 use borrow.Author.Needs.{needs}
 use Rattle.code.proofs.Settings.{sizes, level-fits}
 use Rattle.block.proofs.BlockAreas.{block-areas-kept}
-use Rattle.block.proofs.Step.{step-long, step-every, step-near, step-far}
+use Rattle.block.proofs.Step.{step-long, step-clean, step-near, step-far}
 use Rattle.block.proofs.repair.Statement.{statement}
 use Rattle.block.proofs.repair.Tie as tie
 
@@ -33,10 +33,10 @@ entry-of-read-candidate-call c = entry-of-begin (before-read-candidate-call c)
 abbrev before-read-candidate : tie.After-read-candidate → tie.After-begin
 before-read-candidate c = c .before .before .before .before .before .before .before .before .before .before .before .before .before .before .before
 
-abbrev before-if2 : tie.After-slice-known11 → tie.After-read-candidate
-before-if2 c = c .before .before .before .before .before .before
+abbrev before-if2 : tie.After-struct-known2 → tie.After-read-candidate
+before-if2 c = c .before .before .before .before .before .before .before
 
-abbrev entry-of-if2 : tie.After-slice-known11 → tie.Start
+abbrev entry-of-if2 : tie.After-struct-known2 → tie.Start
 entry-of-if2 c = entry-of-read-candidate-call (before-if2 c .before)
 
 abbrev before-cost-call : tie.After-cost-arg → tie.After-read-candidate
@@ -77,8 +77,8 @@ returns-2 : tie.Need-returns-2
 returns-2 c =
     let entry = entry-of-if2 (c .before) in
     let begun = before-read-candidate (before-if2 (c .before)) in
-    step-every (entry .pre .0 .sound) (entry .pre .3) (entry .pre .1) (entry .pre .2) (begun .begin .ensures)
-    (before-if2 (c .before) .read-candidate .ensures) (omega (arith, c .if2 .taken, before-begin begun .level-distance .ensures))
+    step-clean (entry .pre .0 .sound) (entry .pre .3) (entry .pre .1) (entry .pre .2) (begun .begin .ensures)
+    (before-if2 (c .before) .read-candidate .ensures) (c .if2 .taken)
 
 cost-requires : tie.Need-cost-requires
 cost-requires c κs =

@@ -9,7 +9,7 @@ use Rattle.field.specs.Modular.{modular}
 use Rattle.field.specs.Binary.{timesAlpha, timesBits, binary}
 use Rattle.field.specs.Fields.{five, eight, sixteen, opsOf}
 use Rattle.field.specs.parts.Operations.{Good}
-use Rattle.field.specs.parts.Products.{ListsOf, ProductsOf}
+use Rattle.field.specs.parts.Products.{ProductsOf}
 use Rattle.field.proofs.ByExponents.{lists-by-tests}
 use Rattle.field.proofs.products.Statement.{statement}
 use Rattle.field.proofs.products.Tie as tie

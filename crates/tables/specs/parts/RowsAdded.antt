@@ -1,7 +1,7 @@
 -- Multiples of the generator's rows, added to a window. Holds: `MultipleAdded`, `plusRow`, `RowsAdded`.
 use mathlib.Core.Path.{_≡_}
 use mathlib.Core.List.{List}
-use Prim.Native.Nat.{ℕ, _*_, _≤_, _<_}
+use Prim.Native.Nat.{ℕ, _+_, _≤_, _<_}
 use lib.ListN.{length, getD}
 use Rattle.area.specs.Lists.{view}
 use Rattle.field.specs.Fields.{opsOf}
@@ -22,9 +22,8 @@ pub record MultipleAdded (q v from to : ℕ) (row before after : List ℕ) : Typ
   pub under : (i : ℕ) → i < from → getD after i 0 ≡ getD before i 0
   pub over : (i : ℕ) → to ≤ i → getD after i 0 ≡ getD before i 0
 
--- v × row r of G_0, .., G_(j-1) was added to the blocks 0 .. j-1 of a window.
-pub record RowsAdded (p : Setting) (r v j : ℕ) (before after : List ℕ) : Type 0 where
+-- v × row r of G_0, .., G_m was added to the blocks of a window.
+pub record RowsAdded (p : Setting) (r v : ℕ) (before after : List ℕ) : Type 0 where
   pub long : length after ≡ length before
   pub symbols : Symbols (p .q) after
-  pub inside : (s i : ℕ) → s < j → i < p .n → view (p .n) after s i ≡ plusRow p r v s i (view (p .n) before s i)
-  pub outside : (a : ℕ) → j * p .n ≤ a → getD after a 0 ≡ getD before a 0
+  pub inside : (s i : ℕ) → s < p .m + 1 → i < p .n → view (p .n) after s i ≡ plusRow p r v s i (view (p .n) before s i)

@@ -1,6 +1,6 @@
 -- `tables::combine::add_rows`: row r of G_0, .., G_m is that part of the rows, and as long as the window.
 use mathlib.Core.Path.{sym, _∙_}
-use Prim.Native.Nat.{ℕ, _+_, _*_, _≤_}
+use Prim.Native.Nat.{_+_, _*_, _≤_}
 use native.Mathlib.Omega.{arith}
 use borrow.Author.Needs.{needs}
 use denote.Ref.{now}
