@@ -1,6 +1,6 @@
 // The block step against plain enumeration: for received blocks of every level of settings 1 to 3, whether it answers with the information that costs less than
-// d_l, and with none where none does. Every block of setting 1; of settings 2 and 3 every block whose number is a multiple of a stride. The levels of the others
-// have too many information words to go through.
+// d_l, and with none where none does. Every block of setting 1; of settings 2 and 3 every block whose number is a multiple of a stride. In the others
+// hardly any block that could be gone through has a code block near it that is not zero.
 // Writes for each setting and level: how many blocks, how many of them near, in how many the two agree.
 ghost use mathlib.Core.Path.{_≡_};
 ghost use Prim.Native.Nat.{_≤_, _<_};
