@@ -1,5 +1,6 @@
 -- The settings (01, "Two fields and three settings"; 02, #101), chosen by number, and the code of each.
--- Holds: `setting`, `settings`, `isSetting`, `settingOf`, `codeOf`, `largest`; 01's table of distances, computed (`table-of-distances`).
+-- Holds: `setting`, `settings`, `isSetting`, `settingOf`, `codeOf`, `largest`; the settings' distances, computed (`distancesOf`,
+-- `table-of-distances`).
 use mathlib.Core.Path.{_≡_, refl}
 use mathlib.Core.Bool.{Bool, _&&_}
 use mathlib.Core.List.{List, [], _∷_, _++_, map}

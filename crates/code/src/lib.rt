@@ -37,8 +37,8 @@ fn parameters(q: usize, k: usize, m: usize) -> Setting
     }
 }
 
-// The setting with a number. Told apart by `<`: with `==` the compiler takes k for the number itself, and decoding is up to a tenth slower
-// (docs/PERFORMANCE.md).
+// The setting with a number. Told apart by `<`: with three settings and `==` the compiler took k for the number itself, and decoding was up to a tenth slower
+// (docs/PERFORMANCE.md, "Settings told apart by `<`").
 pub fn setting_of(number: u64) -> Setting
     requires { ⌜ Passes (isSetting number) ⌝ }
     ensures { λ r. ⌜ r ≡ settingOf number ⌝ }

@@ -1,6 +1,6 @@
 -- The fields of 01 ("Two fields and three settings") and of 02 (#101), and the field with q elements, q chosen at run time.
--- Holds: `five`, `eightPolynomial`, `eight`, `sixteenPolynomial`, `sixteen`, `alpha`; `fields`, `fieldOf`, `opsOf` (the field with q elements); the
--- lists of the powers of α, computed (`powers-of-five`, `powers-of-eight`, `powers-of-sixteen`).
+-- Holds: `five`, `eightPolynomial`, `eight`, `sixteenPolynomial`, `sixteen`, `alpha`; `FieldEntry`, `fields`, `fieldOf`, `opsOf` (the field with q
+-- elements); the lists of the powers of α, computed (`powers-of-five`, `powers-of-eight`, `powers-of-sixteen`).
 use mathlib.Core.Path.{_≡_, refl}
 use mathlib.Core.List.{List, [], _∷_}
 use Prim.Native.Nat.{ℕ}

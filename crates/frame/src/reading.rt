@@ -13,7 +13,7 @@ use code::Setting;
 use field::Products;
 
 // Makes block j certain by the residual of its window: where that is light, the guess is right; else the levels find what to add, or none serves.
-// How many blocks of the window are settled as far as is known: all m + 1 where it is light, else as many as were found, and 0 where no message fits.
+// How many blocks at the window's front need no new guess: all m + 1 where it is light, else as many as were found; 0 where no message fits.
 fn settle(
     p: Setting,
     products: &Products,

@@ -1,6 +1,5 @@
 -- 01's sample lines ("The desk program's input"): the refused ones computed, and four more (a line one character too long, a wrong character, a short line,
--- a setting that there is not);
--- the two that hold a frame stated. Holds: `sample-symbol` to `sample-short`; `Gets`, `SampleRead`, `SampleNone`.
+-- a setting that there is not); the two that hold a frame stated. Holds: `sample-symbol` to `sample-short`; `Gets`, `SampleRead`, `SampleNone`.
 use mathlib.Core.Path.{_≡_, refl}
 use mathlib.Core.List.{List, [], _∷_, map}
 use Prim.Native.Nat.{ℕ, _+_}

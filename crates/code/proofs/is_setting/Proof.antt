@@ -1,4 +1,4 @@
--- `code::is_setting` is 01's question 1.
+-- `code::is_setting` is question 1.
 use mathlib.Core.Path.{sym, ap}
 use mathlib.Core.Bool.{Bool, _&&_}
 use lib.Dec.{leb}
