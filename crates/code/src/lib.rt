@@ -37,7 +37,7 @@ fn parameters(q: usize, k: usize, m: usize) -> Setting
     }
 }
 
-// The setting with a number. Told apart by `<`: with three settings and `==` the compiler took k for the number itself, and decoding was up to a tenth slower
+// The setting with a number. Told apart by `<`: with `==` encoding is up to a quarter slower, decoding up to an eighth
 // (docs/PERFORMANCE.md, "Settings told apart by `<`").
 pub fn setting_of(number: u64) -> Setting
     requires { ⌜ Passes (isSetting number) ⌝ }
