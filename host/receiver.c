@@ -79,6 +79,8 @@ static const struct order orders[] = {
     /* Document 000, section 4. */
     { 1, "12214334", "2431 1130 0032 0230 4100 1004 0023 0320 4024 3421",
       1, { 0, 3, 5, 10, 11 } },
+    /* All places are in closing blocks: none counts. */
+    { 2, "10", "3132210 3411430 3665350", 0, { 7, 9, 12, 13, 20, 14 } },
     { 4, "f0e1d2",
       "891b3b1f58d1a8e 4385deee76b8b77 4ba47e9434bcd3b 471ebe45d9ba3d3 c36b85952260f1b",
       1, { 0, 1, 7, 13, 20, 31, 32, 33, 40, 44, 45, 50, 52, 57, 58, 59, 38 } },
@@ -111,11 +113,14 @@ static void send_and_receive(const struct order *given)
     print("sent", transmission.bytes, length, setting->n);
 
     uint64_t differences = 0;
+    uint32_t altered = 0;
     uint8_t *damaged = reception + given->j * setting->n;
+    const uint8_t *closing = reception + length - setting->m * setting->n;
     memcpy(reception, transmission.bytes, length);
     for (size_t i = 0; i < setting->t; i++) {
         alter(setting, &damaged[given->places[i]], i);
         differences |= UINT64_C(1) << given->places[i];
+        altered += damaged + given->places[i] < closing;
     }
     print("received", reception, length, setting->n);
 
@@ -123,12 +128,13 @@ static void send_and_receive(const struct order *given)
     struct area repaired = lend(length + 3);
     EXPECT(answers(orderlink_decode(given->setting, reception, length, message.bytes,
                                     message.length, repaired.bytes, repaired.length),
-                   0, 0, setting->t));
+                   0, 0, altered));
     EXPECT(memcmp(message.bytes, order, order_length) == 0);
     EXPECT(memcmp(repaired.bytes, expected, length) == 0);
     EXPECT(all(message.bytes + order_length, 3, UNTOUCHED));
     EXPECT(all(repaired.bytes + length, 3, UNTOUCHED));
     print("message", message.bytes, order_length, setting->k);
+    printf("altered      %u of %u count\n", (unsigned)altered, (unsigned)setting->t);
 
     struct orderlink_marks window =
         orderlink_marks(given->setting, reception, length, repaired.bytes, length, given->j);
@@ -316,7 +322,7 @@ static void longest_order(const struct setting *setting)
     for (uint64_t j = 0; j < MOST_BLOCKS; j++)
         EXPECT(orderlink_marks(setting->number, reception.bytes, length,
                                repaired.bytes, length, j).set == setting->t);
-    printf("setting %u: %d blocks back with %u symbols altered\n", (unsigned)setting->number,
+    printf("setting %u: %d blocks back, altered count %u\n", (unsigned)setting->number,
            MOST_BLOCKS, (unsigned)altered);
     take_back(order);
     take_back(message);

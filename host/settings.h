@@ -38,16 +38,17 @@ static inline size_t transmission_length(const struct setting *setting, size_t b
     return (blocks + setting->m) * setting->n;
 }
 
-/* Copies a transmission with exactly t symbols of every window altered; returns how many in all. */
+/* Copies a transmission with exactly t symbols of every window altered; returns how many count,
+   those before the closing blocks. */
 static inline uint32_t damage(const struct setting *setting, const uint8_t *sent,
                               uint8_t *reception, size_t length)
 {
-    size_t window = (setting->m + 1) * setting->n;
+    size_t window = (setting->m + 1) * setting->n, closing = length - setting->m * setting->n;
     uint32_t altered = 0;
     for (size_t i = 0; i < length; i++) {
         uint32_t hit = i % window % 2 == 0 && i % window < 2 * setting->t;
         reception[i] = (uint8_t)((sent[i] + hit) % setting->q);
-        altered += hit;
+        altered += i < closing ? hit : 0;
     }
     return altered;
 }

@@ -65,9 +65,10 @@ extern "C" {
 /* What a call answers. */
 struct orderlink_answer {
     uint32_t number;  /* 0, or the question that got "no" */
-    uint32_t altered; /* after decoding with number 0: in how many symbols, over
-                         all T + m blocks, reception and transmission differ;
-                         else 0 */
+    uint32_t altered; /* after decoding with number 0: in how many symbols of
+                         blocks 0 to T - 1 reception and transmission differ,
+                         at most t * (T/(m + 1), rounded up); else 0. The
+                         closing blocks, T to T + m - 1, do not count. */
     uint64_t place;   /* with number 4: the place of the first wrong symbol in
                          the message or reception; else 0 */
 };

@@ -89,6 +89,14 @@ pub fn damage_up_to(random: &mut Random, setting: &Setting, symbols: &mut [u8], 
     }
 }
 
+/// Alters so many symbols of the closing blocks.
+pub fn damage_closing(random: &mut Random, setting: &Setting, symbols: &mut [u8], count: usize) {
+    let closing = symbols.len() - setting.m * setting.n;
+    for place in random.order(setting.m * setting.n).into_iter().take(count) {
+        alter(random, setting, &mut symbols[closing + place]);
+    }
+}
+
 /// The most altered symbols in a window that holds a block.
 fn worst_window(setting: &Setting, altered: &[usize], block: usize) -> usize {
     let first = block.saturating_sub(setting.m);

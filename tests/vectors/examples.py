@@ -1,5 +1,5 @@
-"""Calls with right answers that need no decoder: the examples of 000, 004 and 01, orders of settings 4 and 5 damaged up to the limit and beyond it, orders and
-lines of the greatest length, and numbers that are no setting. What is sent is made by 01's definition."""
+"""Calls with right answers that need no decoder: the examples of 000, 004 and 01, orders of settings 4 and 5 damaged up to the limit and beyond it, orders
+damaged in their closing blocks alone, orders and lines of the greatest length, and numbers that are no setting. What is sent is made by 01's definition."""
 import itertools
 
 # The settings of 01 and 02: q, n, k, m and t.
@@ -80,8 +80,11 @@ def answered(number, place=0, count=0):
 
 
 def decoded(setting, reception, number, message, transmission, tail=0, place=0):
-    """A decoding with areas `tail` bytes longer than needed, which keep those; numbers other than 0 and 7 change nothing."""
-    count = sum(a != b for a, b in zip(reception, transmission)) if number == 0 else 0
+    """A decoding with areas `tail` bytes longer than needed, which keep those; numbers other than 0 and 7 change nothing. Closing blocks do not count."""
+    count = 0
+    if number == 0:
+        _, n, k, _, _ = SETTINGS[setting]
+        count = sum(reception[i] != transmission[i] for i in range(len(message) // k * n))
     r, m, t = areas(reception, message, transmission)
     before_m, before_t = UNUSED * (len(m) // 2 + tail), UNUSED * (len(t) // 2 + tail)
     kept = UNUSED * tail
@@ -175,6 +178,28 @@ def worked_orders():
                 yield decoded(setting, reception, 7, [0] * len(message), [0] * len(transmission), tail=1)
 
 
+def fits(setting, reception, message):
+    """Whether in every window at most t symbols differ from the message's transmission."""
+    _, n, _, m, t = SETTINGS[setting]
+    differ = [a != b for a, b in zip(reception, transmission_of(setting, message))]
+    return all(sum(differ[j : j + (m + 1) * n]) <= t for j in range(0, len(differ) - m * n, n))
+
+
+def closing_damage():
+    """Orders of settings 1 to 3 with t altered symbols, all in closing blocks: none counts. With one more there no message fits, as all of them show. In settings
+    4 and 5 `worked_orders` has such orders, with the end of the last window altered."""
+    for setting, text in ((1, "3"), (2, "56"), (3, "526")):
+        q, n, k, m, t = SETTINGS[setting]
+        message = symbols(text)
+        transmission = transmission_of(setting, message)
+        closing = range(n, len(transmission))
+        reception = altered_at(setting, transmission, closing[-t:])
+        yield decoded(setting, reception, 0, message, transmission, tail=1)
+        reception = altered_at(setting, transmission, closing[-t - 1 :])
+        assert not any(fits(setting, reception, list(other)) for other in itertools.product(range(q), repeat=k))
+        yield decoded(setting, reception, 7, [0] * len(message), [0] * len(transmission), tail=1)
+
+
 def examples():
     none_fits = [
         (1, "2000 4004 4000 0431"),  # 000, Example 4.2 (a)
@@ -210,6 +235,7 @@ def examples():
         yield encoded(setting, symbols(message), 0, powers(row))
         yield decoded(setting, powers(row), 0, symbols(message), powers(row))
     yield from worked_orders()
+    yield from closing_damage()
     # Numbers that are no setting; five of them are one in their lowest 32 bits.
     message, transmission = long_order(1, 1)
     for number in (6, 2**32 + 1, 2**32 + 2, 2**63 + 3, 2**32 + 4, 2**63 + 5, 2**63, 2**64 - 1):
@@ -219,7 +245,7 @@ def examples():
         yield marked(number, transmission, transmission, 0, 1)
     # 01's sample lines; question 11's limit, and what is asked after it.
     samples = {
-        "1001243123230000": "00000410011",
+        "1001243123230000": "00000010011",
         "1001243123200000": "070000",
         "1001243523230000": "040003",
         "": "090000",
@@ -231,11 +257,15 @@ def examples():
     others = {"5001": "0a0000", "4201": "030000", "5201": "030000", "0001": "010000", "6001": "010000", "f001": "010000"}
     for line, answer in (samples | others).items():
         yield answered_line(line, answer)
-    for setting in SETTINGS:
+    for setting, (_, n, _, m, _) in SETTINGS.items():
         message, transmission = map(digits, long_order(setting, 512))
         line = "%d200" % setting + transmission
         yield answered_line(line, "000000" + line[:4] + message)
-        yield answered_line(line[:-1] + "1", "000001" + line[:4] + message)
+        # The last symbol that counts, the first of the closing blocks, the last of all.
+        closing = len(line) - m * n
+        for place, count in ((closing - 1, 1), (closing, 0), (len(line) - 1, 0)):
+            other = "1" if line[place] == "0" else "0"
+            yield answered_line(line[:place] + other + line[place + 1 :], "00%04x" % count + line[:4] + message)
         if setting == 2:
             assert len(line) == 3602
             yield answered_line(line[:-1] + "8", "040e0d")

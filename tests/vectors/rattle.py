@@ -1,5 +1,5 @@
 #!/usr/bin/env python3
-"""Makes crates/link_test/stdin and stdout: the calls of 101/calls.jsonl and of examples.py, and what the program must write.
+"""Makes crates/link_test/stdin and stdout: the calls of calls.jsonl and of examples.py, and what the program must write.
 
 A line of stdin: the call's letter, the setting, j, the lengths of three areas and the areas, all in hexadecimal (crates/link_test/src/main.rt).
 A line of stdout: number, place and count of the answer in decimal, then what the call returned and what it left in the areas; for a desk line, its answer.
@@ -28,7 +28,7 @@ CALLS = {
 LONGEST = 10000
 
 given, expected = [], []
-with open(os.path.join(here, "101", "calls.jsonl")) as lines:
+with open(os.path.join(here, "calls.jsonl")) as lines:
     for call in itertools.chain(map(json.loads, lines), examples()):
         letter, areas, returned = CALLS[call["call"]]
         arguments, result = call["args"], call["result"]

@@ -33,7 +33,8 @@ pub fn decode(
     if windows.any(|window| weight(window) > code.limit()) {
         return None;
     }
-    let altered = weight(transmission);
+    // Closing blocks do not count.
+    let altered = weight(&transmission[..message.len() / code.k * code.n]);
     for (symbol, &received) in transmission.iter_mut().zip(reception) {
         *symbol = code.field.subtract(received, *symbol);
     }

@@ -60,7 +60,8 @@ pub fn decode(
     };
     message_area.copy_from_slice(message);
     transmission_area.copy_from_slice(&transmission(setting, message));
-    let altered = transmission_area.iter().zip(reception).filter(|(a, b)| a != b).count();
+    let places = 0..blocks * setting.n;
+    let altered = places.filter(|&place| transmission_area[place] != reception[place]).count();
     Answer { altered: altered as u32, ..Answer::YES }
 }
 

@@ -3,7 +3,7 @@
 
 use crate::call::Call;
 use orderlink_bench::oracle::{transmission, Setting, SETTINGS};
-use orderlink_bench::sample::{alter, damage_evenly, damage_up_to, Random};
+use orderlink_bench::sample::{alter, damage_closing, damage_evenly, damage_up_to, Random};
 
 /// Numbers that are no setting, some of which are one in their lowest 8, 16 or 32 bits.
 pub const NO_SETTINGS: [u64; 14] = [
@@ -107,7 +107,7 @@ fn message(random: &mut Random, setting: &Setting, blocks: usize) -> Vec<u8> {
 /// A well-formed reception: a transmission clean or damaged below, at or above the limit, or noise.
 fn reception(random: &mut Random, setting: &Setting, blocks: usize) -> Vec<u8> {
     let mut reception = transmission(setting, &message(random, setting, blocks));
-    match random.below(9) {
+    match random.below(10) {
         0 => {}
         1 => reception = random.symbols(setting, reception.len()),
         2 => mix(random, setting, blocks, &mut reception),
@@ -116,6 +116,10 @@ fn reception(random: &mut Random, setting: &Setting, blocks: usize) -> Vec<u8> {
         5 => damage_up_to(random, setting, &mut reception, setting.t - 1),
         6 => damage_up_to(random, setting, &mut reception, setting.t),
         7 => damage_evenly(random, setting, &mut reception, setting.t),
+        8 => {
+            let count = setting.t + random.below(2);
+            damage_closing(random, setting, &mut reception, count);
+        }
         _ => {
             damage_up_to(random, setting, &mut reception, setting.t);
             let place = random.below(reception.len());

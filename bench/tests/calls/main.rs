@@ -62,7 +62,7 @@ fn assert_searched(
 #[test]
 fn stored_calls() {
     let known = stored::calls();
-    assert_eq!(known.len(), 366);
+    assert!(known.len() > 300);
     assert_known(known);
 }
 
@@ -76,6 +76,7 @@ fn orders_at_the_limit() {
     let random = &mut Random::new(2);
     for setting in &SETTINGS {
         assert_known((0..300).flat_map(|_| orders::at_the_limit(random, setting)));
+        assert_known((0..300).map(|_| orders::closing_damage(random, setting)));
     }
 }
 
@@ -83,7 +84,7 @@ fn orders_at_the_limit() {
 fn orders_beyond_the_limit() {
     let random = &mut Random::new(3);
     for setting in &SETTINGS {
-        assert_known((0..300).filter_map(|_| orders::beyond_the_limit(random, setting)));
+        assert_known((0..300).flat_map(|_| orders::beyond_the_limit(random, setting)));
     }
 }
 
@@ -135,7 +136,9 @@ fn random_markings() {
 #[test]
 fn stored_windows() {
     let windows = stored::windows();
-    assert_eq!(windows.len(), 54);
+    assert!(windows.len() > 50);
+    // No stored call is left out.
+    assert_eq!(windows.len() + stored::calls().len(), stored::LINES.lines().count());
     for call in windows {
         let part = baseline::window(call.setting, &call.reception, call.j);
         let answer = baseline::window_answer(call.setting, &call.reception, call.j);

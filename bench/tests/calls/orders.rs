@@ -5,7 +5,7 @@
 use crate::call::{Call, Outcome};
 use orderlink_bench::calls::{Answer, Marks};
 use orderlink_bench::oracle::{transmission, Setting, SETTINGS};
-use orderlink_bench::sample::{alter, damage_evenly, damage_up_to, Random};
+use orderlink_bench::sample::{alter, damage_closing, damage_evenly, damage_up_to, Random};
 
 type Known = (Call, Outcome);
 
@@ -20,10 +20,10 @@ pub fn starred() -> Vec<Known> {
         encoded(2, "10", "3132210 3411430 3665350"),
         encoded(3, "100", "5774100 5266700"),
         encoded(3, "010", "0577410 0461120"),
-        decoded("2400 1100 0000 0230 4100 0000 0023 0320 0000 3400", "00000000", 14),
+        decoded("2400 1100 0000 0230 4100 0000 0023 0320 0000 3400", "00000000", 12),
         refused("2431 1130 0000 0200 4100 0004 0003 0020 0004 3400"),
         decoded("0000 0000 0000", "0", 0),
-        decoded("2431 2323 0000", "1", 4),
+        decoded("2431 2323 0000", "1", 0),
         refused("2431 2320 0000"),
     ]
 }
@@ -35,27 +35,45 @@ pub fn at_the_limit(random: &mut Random, setting: &Setting) -> Vec<Known> {
         let (message, sent) = random_order(random, setting);
         let mut reception = sent.clone();
         damage(random, setting, &mut reception, setting.t);
-        let altered = sent.iter().zip(&reception).filter(|(a, b)| a != b).count();
+        let altered = altered(setting, &sent, &reception);
         decoding(setting.number, reception, yes(altered), message, sent)
     };
     vec![order(damage_evenly), order(damage_up_to)]
 }
 
-/// A random order with one altered symbol more than can be within t. Where d = 2t + 1, no message
-/// fits: of the window where two messages first differ, d + 1 symbols are sent differently, so
-/// another message is t + 1 or more from this reception, as the sent one is.
-pub fn beyond_the_limit(random: &mut Random, setting: &Setting) -> Option<Known> {
-    if setting.d != 2 * setting.t + 1 {
-        return None;
-    }
+/// A random order with t altered symbols, all in closing blocks, comes back, and none counts.
+pub fn closing_damage(random: &mut Random, setting: &Setting) -> Known {
     let (message, sent) = random_order(random, setting);
     let mut reception = sent.clone();
-    damage_up_to(random, setting, &mut reception, setting.t);
-    let mut places = random.order(sent.len()).into_iter();
-    let place = places.find(|&place| reception[place] == sent[place]).expect("one left as sent");
-    alter(random, setting, &mut reception[place]);
-    let zeros = (vec![0; message.len()], vec![0; sent.len()]);
-    Some(decoding(setting.number, reception, Answer::no(7), zeros.0, zeros.1))
+    damage_closing(random, setting, &mut reception, setting.t);
+    decoding(setting.number, reception, yes(0), message, sent)
+}
+
+/// Random orders with one altered symbol more than can be within t, the second with all of them in
+/// closing blocks. Where d = 2t + 1, no message fits: of the window where two messages first differ,
+/// d + 1 symbols are sent differently, so another message is t + 1 or more from such a reception, as
+/// the sent one is.
+pub fn beyond_the_limit(random: &mut Random, setting: &Setting) -> Vec<Known> {
+    if setting.d != 2 * setting.t + 1 {
+        return Vec::new();
+    }
+    let mut order = |damage: fn(&mut Random, &Setting, &mut [u8])| {
+        let (message, mut reception) = random_order(random, setting);
+        damage(random, setting, &mut reception);
+        let zeros = (vec![0; message.len()], vec![0; reception.len()]);
+        decoding(setting.number, reception, Answer::no(7), zeros.0, zeros.1)
+    };
+    let anywhere = order(|random, setting, symbols| {
+        let sent = symbols.to_vec();
+        damage_up_to(random, setting, symbols, setting.t);
+        let mut places = random.order(sent.len()).into_iter();
+        let place = places.find(|&place| symbols[place] == sent[place]).expect("one left as sent");
+        alter(random, setting, &mut symbols[place]);
+    });
+    let closing = order(|random, setting, symbols| {
+        damage_closing(random, setting, symbols, setting.t + 1);
+    });
+    vec![anywhere, closing]
 }
 
 /// Every byte in the place of a symbol: those below q are symbols, the others get 4 and the place.
@@ -69,7 +87,7 @@ pub fn bytes(random: &mut Random, setting: &Setting) -> Vec<Known> {
             let mut reception = sent.clone();
             let place = random.below(sent.len());
             reception[place] = byte;
-            let altered = usize::from(byte != sent[place]);
+            let altered = altered(setting, &sent, &reception);
             return [
                 encoding(setting.number, message.clone(), yes(0), sent.clone()),
                 decoding(setting.number, reception, yes(altered), message, sent),
@@ -107,7 +125,8 @@ pub fn marked(random: &mut Random, setting: &Setting) -> Vec<Known> {
     known
 }
 
-/// Orders of 512 blocks: encoded, decoded with the last symbol altered, and that symbol marked.
+/// Orders of 512 blocks: encoded, decoded with the last symbol altered, which does not count, and
+/// that symbol marked.
 pub fn longest() -> Vec<Known> {
     let random = &mut Random::new(512);
     let calls = |setting: &Setting| {
@@ -120,7 +139,7 @@ pub fn longest() -> Vec<Known> {
         [
             encoding(setting.number, message.clone(), yes(0), sent.clone()),
             marking(setting.number, reception.clone(), sent.clone(), 511, marks),
-            decoding(setting.number, reception, yes(1), message, sent),
+            decoding(setting.number, reception, yes(0), message, sent),
         ]
     };
     SETTINGS.iter().flat_map(calls).collect()
@@ -162,6 +181,12 @@ fn random_order(random: &mut Random, setting: &Setting) -> (Vec<u8>, Vec<u8>) {
     let message = random.symbols(setting, setting.message_length(blocks));
     let sent = transmission(setting, &message);
     (message, sent)
+}
+
+/// The altered count: closing blocks do not count.
+fn altered(setting: &Setting, sent: &[u8], reception: &[u8]) -> usize {
+    let closing = sent.len() - setting.m * setting.n;
+    (0..closing).filter(|&place| sent[place] != reception[place]).count()
 }
 
 /// A message with its transmission.

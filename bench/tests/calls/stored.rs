@@ -4,7 +4,7 @@ use crate::call::{Call, Outcome};
 use crate::json::{self, Value};
 use orderlink_bench::calls::{Answer, Marks};
 
-const LINES: &str = include_str!("../../../tests/vectors/101/calls.jsonl");
+pub const LINES: &str = include_str!("../../../tests/vectors/calls.jsonl");
 
 /// A call for window j, and what it must return.
 #[derive(Debug)]

@@ -1,5 +1,5 @@
 -- A part of a list as it is lent, and the list with another part in its place (`putMid`, what a lent part leaves in the whole), place by place.
--- Holds: `part-size`, `part-length`, `part-symbol`, `part-weight`; `put-length`, `put-before`, `put-inside`, `put-after`.
+-- Holds: `front-weight`; `part-size`, `part-length`, `part-symbol`, `part-weight`; `put-length`, `put-before`, `put-inside`, `put-after`.
 use mathlib.Core.Path.{_≡_, sym, ap, _∙_}
 use mathlib.Core.Bool.{not}
 use mathlib.Core.List.{List, _++_}
@@ -12,6 +12,13 @@ use borrow.Rule.Slice.PartMut.{putMid, same-len-mid}
 use Rattle.algebra.specs.Ops.{pick}
 use Rattle.algebra.proofs.Weights.{countOf-ext, total-split}
 use Rattle.area.specs.parts.Weights.{weightTo, weightOf}
+
+-- The weight of the first n elements.
+pub front-weight : (n : ℕ) (whole : List ℕ) → n ≤ length whole → weightOf (take n whole) ≡ weightTo whole n
+front-weight n whole h =
+    ap (weightTo (take n whole)) (length-take-le n whole h)
+    ∙ countOf-ext n (λ i. not (eqb (getD (take n whole) i 0) 0)) (λ i. not (eqb (getD whole i 0) 0))
+    (λ i l. ap (λ (t : ℕ). not (eqb t 0)) (getD-take n whole i 0 l))
 
 -- The n elements from `start` on, with their number as the code computes it.
 module _ (n start : ℕ) (whole : List ℕ) where
@@ -30,9 +37,10 @@ module _ (n start : ℕ) (whole : List ℕ) where
   pub part-weight : start + n ≤ length whole → weightTo whole start + weightOf (take (start + n - start) (drop start whole)) ≡ weightTo whole (start + n)
   part-weight h =
       ap (λ (t : ℕ). weightTo whole start + t)
-      (ap (weightTo (take (start + n - start) (drop start whole))) (part-length h)
-      ∙ countOf-ext n (λ i. not (eqb (getD (take (start + n - start) (drop start whole)) i 0) 0)) (λ i. not (eqb (getD whole (start + i) 0) 0))
-      (λ i l. ap (λ (t : ℕ). not (eqb t 0)) (part-symbol i l)))
+      (ap (λ (t : ℕ). weightOf (take t (drop start whole))) part-size
+      ∙ (front-weight n (drop start whole) (omega (arith, length-drop start whole))
+      ∙ countOf-ext n (λ i. not (eqb (getD (drop start whole) i 0) 0)) (λ i. not (eqb (getD whole (start + i) 0) 0))
+      (λ i l. ap (λ (t : ℕ). not (eqb t 0)) (getD-drop start whole i 0))))
       ∙ sym (total-split start n (λ i. pick (not (eqb (getD whole i 0) 0)) 1 0))
 
 -- The whole with another part ys in the place of the k elements from a on.

@@ -26,13 +26,13 @@ windowLength p = (p .m + 1) * p .n
 abbrev pub windowDistance : Setting → List ℕ → List ℕ → ℕ → ℕ
 windowDistance p a b j = distance (windowLength p) (λ i. getD a (j * p .n + i) 0) (λ i. getD b (j * p .n + i) 0)
 
--- "The altered count is the number of places, over all T+m blocks, where reception and returned transmission differ."
+-- "The altered count is the number of places .. where reception and returned transmission differ", and it "covers blocks 0 to T−1 only".
 abbrev pub altered : Setting → ℕ → List ℕ → List ℕ → ℕ
-altered p T reception sent = distance ((T + p .m) * p .n) (λ i. getD reception i 0) (λ i. getD sent i 0)
+altered p T reception sent = distance (T * p .n) (λ i. getD reception i 0) (λ i. getD sent i 0)
 
--- "It is at most t × ((T+m)/(m+1), rounded up)."
+-- "The bound becomes t × (T/(m+1), rounded up)."
 abbrev pub mostAltered : Setting → ℕ → ℕ
-mostAltered p T = limit (p .n) (p .k) (p .m) * ((T + p .m + p .m) / (p .m + 1))
+mostAltered p T = limit (p .n) (p .k) (p .m) * ((T + p .m) / (p .m + 1))
 
 -- A message of T information blocks: T × k symbols below q.
 pub record Message (p : Setting) (T : ℕ) (message : List ℕ) : Type 0 where

@@ -9,9 +9,9 @@ use lib.Dec.{eqb}
 use lib.ListN.{length, getD, take, drop}
 use lib.Seq.{ext-getD}
 use Rattle.algebra.specs.Ops.{sub}
-use Rattle.algebra.specs.Weight.{countOf}
 use Rattle.algebra.proofs.Weights.{countOf-ext}
 use Rattle.area.specs.Lists.{view}
+use Rattle.area.specs.parts.Weights.{weightTo}
 use Rattle.area.proofs.Lists.{place-in-blocks}
 use Rattle.field.specs.Fields.{opsOf}
 use Rattle.field.specs.Symbols.{Symbols}
@@ -53,9 +53,9 @@ module _ (p : Setting) (S : Sound p) (T : ℕ) (reception message residual : Lis
       (residual-back p S T reception message residual received found is-residual (a / p .n) (a % p .n) (at .0) (at .1)
       ∙ sym (transmission-view p S T message M (a / p .n) (a % p .n) (at .0) (at .1)))
 
-  -- Its nonzero symbols are the altered ones.
-  pub end-altered : altered p T reception (transmission p message) ≡ countOf ((T + p .m) * p .n) (λ i. not (eqb (getD residual i 0) 0))
-  end-altered = countOf-ext ((T + p .m) * p .n) _ _ (λ i h. ap not (end-test i h))
+  -- Its nonzero symbols before the closing blocks are the altered ones that count.
+  pub end-altered : altered p T reception (transmission p message) ≡ weightTo residual (T * p .n)
+  end-altered = countOf-ext (T * p .n) _ _ (λ i h. ap not (end-test i (omega arith)))
 
 module _ {p : Setting} (S : Sound p) {T : ℕ} {reception message residual : List ℕ} (R : Symbols (p .q) reception) (long : length reception ≡ (T + p .m) * p .n)
     (blocks : 1 ≤ T) (P : Settled p T reception T message residual) where

@@ -8,28 +8,20 @@ use Rattle.code.specs.Settings.{settingOf}
 use Rattle.question.specs.declared.Answer.{Answer}
 use Rattle.question.specs.Questions.{firstNo, blocksOf, symbolsTo, decodingQuestions}
 use Rattle.link.specs.Decoding.{FrameDecoded, DecodedIn, Decoded, well-formed}
-use Rattle.link.specs.Orders.{Order, reads, getsSeven}
-use Rattle.link.specs.Sample.{orders}
+use Rattle.link.specs.Sample.{orders, closingDamaged, oneMoreDamaged}
 use Rattle.link.proofs.Orders.{orders-kept}
 use Rattle.line.specs.Characters.{digitOf, characterOf, hex}
 use Rattle.line.specs.Answering.{outputLine, refused, well-formed as answered}
 use Rattle.line.specs.Sample.{SampleRead, SampleNone}
 
--- "Setting 1, 2431 2323 0000: message 1, count 4, just t" and "Setting 1, 2431 2320 0000: number 7".
-abbrev four-altered : Order
-four-altered = reads 1 (2 ∷ 4 ∷ 3 ∷ 1 ∷ 2 ∷ 3 ∷ 2 ∷ 3 ∷ 0 ∷ 0 ∷ 0 ∷ 0 ∷ []) (1 ∷ []) (2 ∷ 4 ∷ 3 ∷ 1 ∷ 2 ∷ 3 ∷ 2 ∷ 3 ∷ 2 ∷ 1 ∷ 3 ∷ 4 ∷ []) 4
-
-abbrev none-near : Order
-none-near = getsSeven 1 (2 ∷ 4 ∷ 3 ∷ 1 ∷ 2 ∷ 3 ∷ 2 ∷ 0 ∷ 0 ∷ 0 ∷ 0 ∷ 0 ∷ []) 1 12
-
-four-listed : List·Memᴰ four-altered orders
+closing-listed : List·Memᴰ closingDamaged orders
 unfolding orders
-four-listed = List·Memᴰ·tail (List·Memᴰ·tail (List·Memᴰ·tail
+closing-listed = List·Memᴰ·tail (List·Memᴰ·tail (List·Memᴰ·tail
     (List·Memᴰ·tail (List·Memᴰ·tail (List·Memᴰ·tail (List·Memᴰ·tail (List·Memᴰ·tail (List·Memᴰ·head refl))))))))
 
-none-listed : List·Memᴰ none-near orders
+more-listed : List·Memᴰ oneMoreDamaged orders
 unfolding orders
-none-listed =
+more-listed =
     List·Memᴰ·tail (List·Memᴰ·tail (List·Memᴰ·tail (List·Memᴰ·tail
     (List·Memᴰ·tail (List·Memᴰ·tail (List·Memᴰ·tail (List·Memᴰ·tail (List·Memᴰ·tail (List·Memᴰ·head refl)))))))))
 
@@ -50,14 +42,14 @@ pub sample-read : SampleRead
 unfolding digitOf characterOf hex symbolsTo
 sample-read shown (refused asked e) = absurd (asked refl)
 sample-read shown (answered asked r message sent D e) =
-    let kept = orders-kept four-altered four-listed (0 ∷ []) message (replicate 12 0) sent r (lit≤ tt) (lit≤ tt)
-    (decoded-exactly (four-altered .given) refl refl D) in
-    e ∙ ap₂ (λ (a : Answer) (m : List ℕ). outputLine (map characterOf (1 ∷ 0 ∷ 0 ∷ 1 ∷ four-altered .given)) a m) (kept .0) (kept .1)
+    let kept = orders-kept closingDamaged closing-listed (0 ∷ []) message (replicate 12 0) sent r (lit≤ tt) (lit≤ tt)
+    (decoded-exactly (closingDamaged .given) refl refl D) in
+    e ∙ ap₂ (λ (a : Answer) (m : List ℕ). outputLine (map characterOf (1 ∷ 0 ∷ 0 ∷ 1 ∷ closingDamaged .given)) a m) (kept .0) (kept .1)
 
 pub sample-none : SampleNone
 unfolding digitOf characterOf hex symbolsTo
 sample-none shown (refused asked e) = absurd (asked refl)
 sample-none shown (answered asked r message sent D e) =
-    let kept = orders-kept none-near none-listed (0 ∷ []) message (replicate 12 0) sent r (lit≤ tt) (lit≤ tt)
-    (decoded-exactly (none-near .given) refl refl D) in
-    e ∙ ap₂ (λ (a : Answer) (m : List ℕ). outputLine (map characterOf (1 ∷ 0 ∷ 0 ∷ 1 ∷ none-near .given)) a m) (kept .0) (kept .1)
+    let kept = orders-kept oneMoreDamaged more-listed (0 ∷ []) message (replicate 12 0) sent r (lit≤ tt) (lit≤ tt)
+    (decoded-exactly (oneMoreDamaged .given) refl refl D) in
+    e ∙ ap₂ (λ (a : Answer) (m : List ℕ). outputLine (map characterOf (1 ∷ 0 ∷ 0 ∷ 1 ∷ oneMoreDamaged .given)) a m) (kept .0) (kept .1)

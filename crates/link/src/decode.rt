@@ -1,8 +1,9 @@
 // Decoding: from a reception (the received word) to the message that fits it and its transmission.
 ghost use mathlib.Core.Path.{_≡_};
-ghost use Prim.Native.Nat.{_+_, _*_, _≤_};
+ghost use Prim.Native.Nat.{_+_, _-_, _*_, _≤_};
 ghost use lib.Dec.{T as Passes};
 ghost use lib.ListN.{length};
+ghost use Rattle.area.specs.parts.Weights.{weightTo};
 ghost use Rattle.field.specs.parts.Operations.{Good};
 ghost use Rattle.field.specs.Symbols.{Symbols};
 ghost use Rattle.code.specs.Settings.{isSetting, settingOf};
@@ -26,6 +27,15 @@ fn restore(q: usize, reception: &[u8], residual: &mut [u8])
         residual[i] = symbol;
         i += 1;
     }
+}
+
+// The altered count of a reception with this residual: the symbols that are not zero in blocks 0 to T−1; closing blocks do not count.
+fn altered_count(p: Setting, residual: &[u8]) -> usize
+    requires { ⌜ p .m * p .n ≤ length (now residual) ⌝ }
+    ensures { λ r. ⌜ r ≡ weightTo (now (residual .entry)) (length (now (residual .entry)) - p .m * p .n) ⌝ }
+{
+    let counted = residual.len() - p.m * p.n;
+    area::weight(&residual[..counted])
 }
 
 // Question 7, with the tables and the working areas lent, on areas of just the sizes that the message and its transmission take.
@@ -62,7 +72,7 @@ fn decode_lent(
         area::clear(transmission);
         return question::no(7, 0);
     }
-    let altered = area::weight(transmission);
+    let altered = altered_count(p, transmission);
     restore(p.q, reception, transmission);
     Answer {
         number: 0,

@@ -1,6 +1,6 @@
 -- `link::decode::decode_lent`: the frame is read; then its transmission restored, or zeros.
 use mathlib.Core.Path.{ap, _∙_}
-use Prim.Native.Nat.{ℕ}
+use Prim.Native.Nat.{ℕ, _-_, _*_}
 use native.Mathlib.Omega.{arith}
 use lib.ListN.{length, replicate}
 use borrow.Author.Needs.{needs}
@@ -58,6 +58,12 @@ restore-requires c κs =
       frame-residual-long (read .ensures) (c .before .before .before .if1 .left),
     )
 
+altered-count-requires : tie.Need-altered-count-requires
+altered-count-requires c κs =
+    let entry = entry-of-else1 (c .before) in
+    let read = before-else1 (c .before) .read in
+    omega (arith, read .kept .1 .1 .1 .1 .1 .1 .0, entry .pre .6, entry .pre .3)
+
 cast-t37 : tie.Need-cast-t37
 cast-t37 c =
     let entry = entry-of-end-2 c in
@@ -65,8 +71,8 @@ cast-t37 c =
     let read = before-else1 (before-end-2 c) .read in
     omega (
       arith,
-      distance-le (length (read .last .1 .1 .1 .1 .1 .1 .0)) (at (read .last .1 .1 .1 .1 .1 .1 .0)) (λ _. 0)
-          (c .before .before .before .before .weight .ensures),
+      distance-le (length (read .last .1 .1 .1 .1 .1 .1 .0) - a .p .m * a .p .n) (at (read .last .1 .1 .1 .1 .1 .1 .0)) (λ _. 0)
+          (c .before .before .before .before .altered-count .ensures),
       read .kept .1 .1 .1 .1 .1 .1 .0,
       entry .pre .6,
       entry .pre .3,
@@ -79,11 +85,11 @@ returns-2 c =
     let entry = entry-of-end-2 c in
     let read = before-else1 (before-end-2 c) .read in
     frame-decoded-found (entry .pre .0 .sound) (entry .pre .4) (entry .pre .3) (read .ensures) (before-end-2 c .if1 .left)
-    (c .before .before .before .before .weight .ensures) (c .before .before .restore .ensures)
+    (c .before .before .before .before .altered-count .ensures) (c .before .before .restore .ensures)
 
 pub decode-lent-spec : {M : Type 1} → statement M
 decode-lent-spec =
     tie.close
     (tie.spec (λ c κs. search needs) (λ c κs. search needs) (λ c κs. search needs) (λ c κs. search needs) (λ c. omega arith) (λ c. omega arith)
-    (λ c. omega arith) (λ c. omega arith) (λ c. omega arith) (λ c. omega arith) returns (λ c κs. search needs) restore-requires cast-t37
+    (λ c. omega arith) (λ c. omega arith) (λ c. omega arith) (λ c. omega arith) returns altered-count-requires restore-requires cast-t37
     (λ c. omega arith) (λ c. omega arith) (λ c. omega arith) (λ c. omega arith) (λ c. omega arith) (λ c. omega arith) returns-2)
