@@ -30,7 +30,7 @@ static inline bool all(const uint8_t *bytes, size_t length, uint8_t value)
     return true;
 }
 
-/* Whether an answer has this number and place and this count of altered symbols. */
+/* Whether an answer has this number and place and this altered count. */
 static inline bool answers(struct orderlink_answer answer, uint32_t number, uint64_t place,
                            uint32_t altered)
 {

@@ -68,7 +68,8 @@ struct orderlink_answer {
     uint32_t altered; /* after decoding with number 0: in how many symbols of
                          blocks 0 to T - 1 reception and transmission differ,
                          at most t * (T/(m + 1), rounded up); else 0. The
-                         closing blocks, T to T + m - 1, do not count. */
+                         closing blocks, T to T + m - 1, do not count, so 0
+                         does not say that nothing was altered. */
     uint64_t place;   /* with number 4: the place of the first wrong symbol in
                          the message or reception; else 0 */
 };

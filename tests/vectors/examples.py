@@ -186,10 +186,10 @@ def fits(setting, reception, message):
 
 
 def closing_damage():
-    """Orders of settings 1 to 3 with t altered symbols, all in closing blocks: none counts. With one more there no message fits, as all of them show. In settings
-    4 and 5 `worked_orders` has such orders, with the end of the last window altered."""
+    """Orders of settings 1 to 3 with t altered symbols, all in closing blocks: none counts. With one more there no message fits: all are tried. In settings 4 and
+    5 `worked_orders` has such orders, with the end of the last window altered."""
     for setting, text in ((1, "3"), (2, "56"), (3, "526")):
-        q, n, k, m, t = SETTINGS[setting]
+        q, n, k, _, t = SETTINGS[setting]
         message = symbols(text)
         transmission = transmission_of(setting, message)
         closing = range(n, len(transmission))

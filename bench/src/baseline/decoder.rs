@@ -33,7 +33,7 @@ pub fn decode(
     if windows.any(|window| weight(window) > code.limit()) {
         return None;
     }
-    // Closing blocks do not count.
+    // Closing blocks do not count (02, #102).
     let altered = weight(&transmission[..message.len() / code.k * code.n]);
     for (symbol, &received) in transmission.iter_mut().zip(reception) {
         *symbol = code.field.subtract(received, *symbol);

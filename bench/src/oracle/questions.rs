@@ -60,6 +60,7 @@ pub fn decode(
     };
     message_area.copy_from_slice(message);
     transmission_area.copy_from_slice(&transmission(setting, message));
+    // Closing blocks do not count (02, #102).
     let places = 0..blocks * setting.n;
     let altered = places.filter(|&place| transmission_area[place] != reception[place]).count();
     Answer { altered: altered as u32, ..Answer::YES }

@@ -38,15 +38,7 @@ pub fn at_the_limit(random: &mut Random, setting: &Setting) -> Vec<Known> {
         let altered = altered(setting, &sent, &reception);
         decoding(setting.number, reception, yes(altered), message, sent)
     };
-    vec![order(damage_evenly), order(damage_up_to)]
-}
-
-/// A random order with t altered symbols, all in closing blocks, comes back, and none counts.
-pub fn closing_damage(random: &mut Random, setting: &Setting) -> Known {
-    let (message, sent) = random_order(random, setting);
-    let mut reception = sent.clone();
-    damage_closing(random, setting, &mut reception, setting.t);
-    decoding(setting.number, reception, yes(0), message, sent)
+    vec![order(damage_evenly), order(damage_up_to), order(damage_closing)]
 }
 
 /// Random orders with one altered symbol more than can be within t, the second with all of them in
@@ -125,21 +117,22 @@ pub fn marked(random: &mut Random, setting: &Setting) -> Vec<Known> {
     known
 }
 
-/// Orders of 512 blocks: encoded, decoded with the last symbol altered, which does not count, and
-/// that symbol marked.
+/// Orders of 512 blocks: encoded; decoded with the last symbol that counts and the last of all
+/// altered; and these marked.
 pub fn longest() -> Vec<Known> {
     let random = &mut Random::new(512);
     let calls = |setting: &Setting| {
         let message = random.symbols(setting, setting.message_length(512));
         let sent = transmission(setting, &message);
         let mut reception = sent.clone();
+        alter(random, setting, &mut reception[512 * setting.n - 1]);
         alter(random, setting, &mut reception[sent.len() - 1]);
-        let last = 1 << (setting.window_length() - 1);
-        let marks = Marks { answer: yes(0), marks: last, set: 1 };
+        let marks = 1 << (setting.n - 1) | 1 << (setting.window_length() - 1);
+        let marks = Marks { answer: yes(0), marks, set: 2 };
         [
             encoding(setting.number, message.clone(), yes(0), sent.clone()),
             marking(setting.number, reception.clone(), sent.clone(), 511, marks),
-            decoding(setting.number, reception, yes(0), message, sent),
+            decoding(setting.number, reception, yes(1), message, sent),
         ]
     };
     SETTINGS.iter().flat_map(calls).collect()

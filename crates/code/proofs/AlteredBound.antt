@@ -18,31 +18,31 @@ use Rattle.code.specs.Windows.{transmission, altered, mostAltered, Fits}
 -- Blocks of n terms, where each window of m + 1 blocks that starts before block T totals at most b.
 module _ (f : ℕ → ℕ) (n m T b : ℕ) (near : (j : ℕ) → j < T → total ((m + 1) * n) (λ i. f (j * n + i)) ≤ b) where
   -- T/(m+1), rounded up.
-  abbrev d : ℕ
-  d = (T + m) / (m + 1)
+  abbrev windows : ℕ
+  windows = (T + m) / (m + 1)
 
-  parts : d * (m + 1) + (T + m) % (m + 1) ≡ T + m
+  parts : windows * (m + 1) + (T + m) % (m + 1) ≡ T + m
   parts = div-add-mod' (T + m) (m + 1)
 
-  -- Window s of these d..
-  window : (s : ℕ) → s < d → total ((m + 1) * n) (λ i. f (s * ((m + 1) * n) + i)) ≤ b
+  -- Window s of these..
+  window : (s : ℕ) → s < windows → total ((m + 1) * n) (λ i. f (s * ((m + 1) * n) + i)) ≤ b
   window s l =
-      let inside : s + 1 ≤ d = omega arith in
+      let inside : s + 1 ≤ windows = omega arith in
       let early : s * (m + 1) < T = omega (arith, mul-le-mul-right (m + 1) inside, parts) in
       let place : s * (m + 1) * n ≡ s * ((m + 1) * n) = omega arith in
       subst (λ (t : ℕ). total ((m + 1) * n) (λ i. f (t + i)) ≤ b) place (near (s * (m + 1)) early)
 
   -- .. and they cover the first T blocks.
-  covered : total (T * n) f ≤ b * d
+  covered : total (T * n) f ≤ b * windows
   covered =
       let positive : 0 < m + 1 = omega arith in
-      let reach : T ≤ d * (m + 1) = omega (arith, parts, mod-lt (T + m) positive) in
-      let within : T * n ≤ d * ((m + 1) * n) = omega (arith, mul-le-mul-right n reach) in
+      let reach : T ≤ windows * (m + 1) = omega (arith, parts, mod-lt (T + m) positive) in
+      let within : T * n ≤ windows * ((m + 1) * n) = omega (arith, mul-le-mul-right n reach) in
       omega (
         arith,
-        total-part f (T * n) (d * ((m + 1) * n)) within,
-        total-blocks d ((m + 1) * n) f,
-        total-most d b (λ s. total ((m + 1) * n) (λ i. f (s * ((m + 1) * n) + i))) window,
+        total-part f (T * n) (windows * ((m + 1) * n)) within,
+        total-blocks windows ((m + 1) * n) f,
+        total-most windows b (λ s. total ((m + 1) * n) (λ i. f (s * ((m + 1) * n) + i))) window,
       )
 
 pub altered-bound : (p : Setting) (T : ℕ) (reception x : List ℕ) → Fits p T reception x

@@ -8,18 +8,18 @@ use Rattle.code.specs.Settings.{settingOf}
 use Rattle.question.specs.declared.Answer.{Answer}
 use Rattle.question.specs.Questions.{firstNo, blocksOf, symbolsTo, decodingQuestions}
 use Rattle.link.specs.Decoding.{FrameDecoded, DecodedIn, Decoded, well-formed}
-use Rattle.link.specs.Sample.{orders, closingDamaged, oneMoreDamaged}
+use Rattle.link.specs.Sample.{orders, closingAtLimit, closingBeyondLimit}
 use Rattle.link.proofs.Orders.{orders-kept}
 use Rattle.line.specs.Characters.{digitOf, characterOf, hex}
 use Rattle.line.specs.Answering.{outputLine, refused, well-formed as answered}
 use Rattle.line.specs.Sample.{SampleRead, SampleNone}
 
-closing-listed : List·Memᴰ closingDamaged orders
+closing-listed : List·Memᴰ closingAtLimit orders
 unfolding orders
 closing-listed = List·Memᴰ·tail (List·Memᴰ·tail (List·Memᴰ·tail
     (List·Memᴰ·tail (List·Memᴰ·tail (List·Memᴰ·tail (List·Memᴰ·tail (List·Memᴰ·tail (List·Memᴰ·head refl))))))))
 
-more-listed : List·Memᴰ oneMoreDamaged orders
+more-listed : List·Memᴰ closingBeyondLimit orders
 unfolding orders
 more-listed =
     List·Memᴰ·tail (List·Memᴰ·tail (List·Memᴰ·tail (List·Memᴰ·tail
@@ -42,14 +42,14 @@ pub sample-read : SampleRead
 unfolding digitOf characterOf hex symbolsTo
 sample-read shown (refused asked e) = absurd (asked refl)
 sample-read shown (answered asked r message sent D e) =
-    let kept = orders-kept closingDamaged closing-listed (0 ∷ []) message (replicate 12 0) sent r (lit≤ tt) (lit≤ tt)
-    (decoded-exactly (closingDamaged .given) refl refl D) in
-    e ∙ ap₂ (λ (a : Answer) (m : List ℕ). outputLine (map characterOf (1 ∷ 0 ∷ 0 ∷ 1 ∷ closingDamaged .given)) a m) (kept .0) (kept .1)
+    let kept = orders-kept closingAtLimit closing-listed (0 ∷ []) message (replicate 12 0) sent r (lit≤ tt) (lit≤ tt)
+    (decoded-exactly (closingAtLimit .given) refl refl D) in
+    e ∙ ap₂ (λ (a : Answer) (m : List ℕ). outputLine (map characterOf (1 ∷ 0 ∷ 0 ∷ 1 ∷ closingAtLimit .given)) a m) (kept .0) (kept .1)
 
 pub sample-none : SampleNone
 unfolding digitOf characterOf hex symbolsTo
 sample-none shown (refused asked e) = absurd (asked refl)
 sample-none shown (answered asked r message sent D e) =
-    let kept = orders-kept oneMoreDamaged more-listed (0 ∷ []) message (replicate 12 0) sent r (lit≤ tt) (lit≤ tt)
-    (decoded-exactly (oneMoreDamaged .given) refl refl D) in
-    e ∙ ap₂ (λ (a : Answer) (m : List ℕ). outputLine (map characterOf (1 ∷ 0 ∷ 0 ∷ 1 ∷ oneMoreDamaged .given)) a m) (kept .0) (kept .1)
+    let kept = orders-kept closingBeyondLimit more-listed (0 ∷ []) message (replicate 12 0) sent r (lit≤ tt) (lit≤ tt)
+    (decoded-exactly (closingBeyondLimit .given) refl refl D) in
+    e ∙ ap₂ (λ (a : Answer) (m : List ℕ). outputLine (map characterOf (1 ∷ 0 ∷ 0 ∷ 1 ∷ closingBeyondLimit .given)) a m) (kept .0) (kept .1)

@@ -56,7 +56,7 @@ sample-short = refl
 abbrev pub Gets : List ℕ → List ℕ → Type 0
 Gets line text = (shown : List ℕ) → Answers (map characterOf line) shown → shown ≡ map characterOf text
 
--- 01's first line, with four altered symbols, all in closing blocks: it "becomes `00000010011`" (02, #102; `sample-read`, proofs/Samples) ..
+-- 01's first line, with four altered symbols, all in closing blocks: its answer "becomes `00000010011`" (02, #102; `sample-read`, proofs/Samples) ..
 abbrev pub SampleRead : Type 0
 SampleRead = Gets (1 ∷ 0 ∷ 0 ∷ 1 ∷ 2 ∷ 4 ∷ 3 ∷ 1 ∷ 2 ∷ 3 ∷ 2 ∷ 3 ∷ 0 ∷ 0 ∷ 0 ∷ 0 ∷ []) (0 ∷ 0 ∷ 0 ∷ 0 ∷ 0 ∷ 0 ∷ 1 ∷ 0 ∷ 0 ∷ 1 ∷ 1 ∷ [])
 

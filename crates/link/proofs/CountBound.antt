@@ -1,4 +1,4 @@
--- The bound of the altered count that a decoding call returns (01, "Reading a reception"). Holds: `count-bound`.
+-- The bound of the altered count that a decoding call returns (02, #102). Holds: `count-bound`.
 use mathlib.Core.Path.{_≡_, refl, sym, ap, subst, _∙_}
 use mathlib.Core.Bool.{Bool, true, false}
 use mathlib.Core.List.{List, [], _∷_}

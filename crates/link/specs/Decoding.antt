@@ -13,7 +13,8 @@ use Rattle.question.specs.Questions.{answer, firstNo, blocksOf, decodingQuestio
 -- Question 7, "Does some message fit?", of a reception of T+m blocks: the answer, and what it puts in the first T × k bytes of the message area and in the
 -- first (T+m) × n of the transmission area.
 pub data FrameDecoded (p : Setting) (T : ℕ) (reception : List ℕ) (r : Answer) (message transmitted : List ℕ) : Type 0 where
-  -- "a message that fits, its transmission and the number of symbols altered"
+  -- "a message that fits, its transmission and the number of symbols altered": the number is `altered`, closing blocks left out ("The count in decoding's
+  -- promise is read by this rule", 02, #102).
   found : Fits p T reception message → r ≡ answer 0 0 (altered p T reception (transmission p message)) → transmitted ≡ transmission p message
       → FrameDecoded p T reception r message transmitted
   -- "It refuses with number 7 if no message fits", and "the places for the message and its transmission hold zeros".
@@ -39,7 +40,8 @@ pub data Decoded (number : ℕ) (reception message transmitted : List ℕ) (r : 
       → DecodedIn (settingOf number) (blocksOf (settingOf number) (length reception)) reception message transmitted r message' transmitted'
       → Decoded number reception message transmitted r message' transmitted'
 
--- The count that a call returns "is at most t × ((T+m)/(m+1), rounded up)", whatever was received and lent (`count-bound`, proofs/CountBound).
+-- "The bound becomes t × (T/(m+1), rounded up)" (02, #102): of the count that a call returns, whatever was received and lent (`count-bound`,
+-- proofs/CountBound).
 abbrev pub CountBound : Type 0
 CountBound = (number : ℕ) (reception message transmitted : List ℕ) (r : Answer) (message' transmitted' : List ℕ)
     → Decoded number reception message transmitted r message' transmitted'

@@ -1,17 +1,17 @@
 -- Examples: 01's "Orders that were worked through", the ten starred ones, encodings and receptions alike, as one list with one statement (`orders-kept`,
--- proofs/Orders). One more order is one more line: encoded, read, or with number 7. Holds: `closingDamaged`,
--- `oneMoreDamaged`, two that crate `line` names; `orders`, `OrdersKept`.
+-- proofs/Orders). One more order is one more line: encoded, read, or with number 7. Holds: `closingAtLimit`
+-- and `closingBeyondLimit`, which crate `line` names; `orders`, `OrdersKept`.
 use mathlib.Core.List.{List, [], _∷_, List·Memᴰ}
 use lib.ListN.{replicate}
 use Rattle.link.specs.Orders.{Order, OrderKept, encodes, reads, getsSeven}
 
 -- "Setting 1, 2431 2323 0000: message 1", t altered symbols, all in closing blocks: "the count-4 order has 0" (02, #102).
-abbrev pub closingDamaged : Order
-closingDamaged = reads 1 (2 ∷ 4 ∷ 3 ∷ 1 ∷ 2 ∷ 3 ∷ 2 ∷ 3 ∷ 0 ∷ 0 ∷ 0 ∷ 0 ∷ []) (1 ∷ []) (2 ∷ 4 ∷ 3 ∷ 1 ∷ 2 ∷ 3 ∷ 2 ∷ 3 ∷ 2 ∷ 1 ∷ 3 ∷ 4 ∷ []) 0
+abbrev pub closingAtLimit : Order
+closingAtLimit = reads 1 (2 ∷ 4 ∷ 3 ∷ 1 ∷ 2 ∷ 3 ∷ 2 ∷ 3 ∷ 0 ∷ 0 ∷ 0 ∷ 0 ∷ []) (1 ∷ []) (2 ∷ 4 ∷ 3 ∷ 1 ∷ 2 ∷ 3 ∷ 2 ∷ 3 ∷ 2 ∷ 1 ∷ 3 ∷ 4 ∷ []) 0
 
--- "Setting 1, 2431 2320 0000: number 7", with one more there: "Whether a message fits still looks at all blocks."
-abbrev pub oneMoreDamaged : Order
-oneMoreDamaged = getsSeven 1 (2 ∷ 4 ∷ 3 ∷ 1 ∷ 2 ∷ 3 ∷ 2 ∷ 0 ∷ 0 ∷ 0 ∷ 0 ∷ 0 ∷ []) 1 12
+-- "Setting 1, 2431 2320 0000: number 7", one more there: "Whether a message fits still looks at all blocks."
+abbrev pub closingBeyondLimit : Order
+closingBeyondLimit = getsSeven 1 (2 ∷ 4 ∷ 3 ∷ 1 ∷ 2 ∷ 3 ∷ 2 ∷ 0 ∷ 0 ∷ 0 ∷ 0 ∷ 0 ∷ []) 1 12
 
 unfoldable pub orders : List Order
 orders =
@@ -39,8 +39,8 @@ orders =
     8 40
     -- "Setting 1, 0000 0000 0000: message 0, count 0"
     ∷ reads 1 (replicate 12 0) (0 ∷ []) (replicate 12 0) 0
-    ∷ closingDamaged
-    ∷ oneMoreDamaged
+    ∷ closingAtLimit
+    ∷ closingBeyondLimit
     ∷ []
 
 -- Every order of the list is kept.

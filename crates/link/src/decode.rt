@@ -29,7 +29,7 @@ fn restore(q: usize, reception: &[u8], residual: &mut [u8])
     }
 }
 
-// The altered count of a reception with this residual: the symbols that are not zero in blocks 0 to T−1; closing blocks do not count.
+// The altered count of a reception with this residual: how many symbols are not zero in blocks 0 to T−1; closing blocks do not count.
 fn altered_count(p: Setting, residual: &[u8]) -> usize
     requires { ⌜ p .m * p .n ≤ length (now residual) ⌝ }
     ensures { λ r. ⌜ r ≡ weightTo (now (residual .entry)) (length (now (residual .entry)) - p .m * p .n) ⌝ }
@@ -116,7 +116,7 @@ fn decode_frame(
     )
 }
 
-// Decodes a reception: the answer to questions 1 to 7 and the number of symbols altered; the message that fits in the first T × k bytes of its
+// Decodes a reception: the answer to questions 1 to 7 and the altered count; the message that fits in the first T × k bytes of its
 // area and its transmission in the first (T+m) × n bytes of its, or zeros there if no message fits.
 pub fn decode(setting: u64, reception: &[u8], message: &mut [u8], transmission: &mut [u8]) -> Answer
     ensures { λ r. ⌜ Decoded setting (now (reception .entry)) (now (message .entry)) (now (transmission .entry)) r (now (message .exit)) (now (transmission .exit)) ⌝ }

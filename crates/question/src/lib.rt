@@ -7,7 +7,7 @@ ghost use Rattle.question.specs.Questions.{answer, firstNo, symbolsTo, f
 // "T at most 512"
 pub const MOST_BLOCKS: usize = 512;
 
-// The answer of every call: the number and place of the first question answered "no", or 0 and 0, and the number of symbols altered.
+// The answer of every call: the number and place of the first question answered "no", or 0 and 0, and the altered count.
 #[repr(C)]
 pub struct Answer {
     pub number: u32,
