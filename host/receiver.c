@@ -302,7 +302,7 @@ static void no_areas(void)
     printf("areas of length 0: not looked at\n");
 }
 
-/* The longest order comes back with t altered symbols in every window. */
+/* The longest order comes back with t altered symbols in every window; as many count as can. */
 static void longest_order(const struct setting *setting)
 {
     size_t order_length = message_length(setting, MOST_BLOCKS);
@@ -314,6 +314,7 @@ static void longest_order(const struct setting *setting)
     EXPECT(answers(orderlink_encode(setting->number, order.bytes, order_length,
                                     sent.bytes, length), 0, 0, 0));
     uint32_t altered = damage(setting, sent.bytes, reception.bytes, length);
+    EXPECT(altered == setting->t * ((MOST_BLOCKS + setting->m) / (setting->m + 1)));
     EXPECT(answers(orderlink_decode(setting->number, reception.bytes, length,
                                     message.bytes, order_length, repaired.bytes, length),
                    0, 0, altered));

@@ -128,7 +128,8 @@ fn compare_windows(p: Setting, blocks: usize, residual: &[u8], bound: usize) -> 
     ensures { λ r. ⌜ Compared p blocks (now (residual .entry)) r ⌝ }
 {
     let n = p.n;
-    let size = (p.m + 1) * n;
+    let m = p.m;
+    let size = (m + 1) * n;
     let mut start: usize = 0;
     let mut j: usize = 0;
     while j < blocks {

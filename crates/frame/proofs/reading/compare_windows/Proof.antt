@@ -20,10 +20,10 @@ abbrev costAt : ℕ → ℕ → ℕ → List ℕ → ℕ → ℕ
 costAt q n size residual j = zeroCost q (take size (drop (j * n) residual))
 
 abbrev Inv-loop : tie.InvT-loop
-Inv-loop blocks residual bound n size start₀ j₀ start j = (j ≤ blocks) × (start ≡ j * n) × ((q i : ℕ) → i < j → costAt q n size residual i < bound)
+Inv-loop blocks residual bound n m size start₀ j₀ start j = (j ≤ blocks) × (start ≡ j * n) × ((q i : ℕ) → i < j → costAt q n size residual i < bound)
 
 abbrev μ-loop : tie.MeasureT-loop
-μ-loop blocks residual bound n size start₀ j₀ start j = blocks - j
+μ-loop blocks residual bound n m size start₀ j₀ start j = blocks - j
 
 -- A window of an information block lies within the residual.
 inside : (T m n size long j : ℕ) → size ≡ (m + 1) * n → long ≡ (T + m) * n → j < T → j * n + size ≤ long
@@ -33,25 +33,25 @@ inside T m n size long j e f l =
 
 -- Stages of the call, each from a later one.
 abbrev entry-of-zero-cost : tie.After-zero-cost Inv-loop μ-loop → tie.Start Inv-loop μ-loop
-entry-of-zero-cost c = c .before .before .before .before .before .before
+entry-of-zero-cost c = c .before .before .before .before .before
 
-window-room : (c : tie.In-loop Inv-loop μ-loop) → c .before .loop .start + windowLength (c .before .before .before .before .args .p) ≤ length
-    (now (c .before .before .before .before .args .residual))
+window-room : (c : tie.In-loop Inv-loop μ-loop) → c .before .loop .start + windowLength (c .before .before .before .args .p) ≤ length
+    (now (c .before .before .before .args .residual))
 window-room c =
-    let a = c .before .before .before .before .args in
+    let a = c .before .before .before .args in
     omega (
       arith,
       inside (a .blocks) (a .p .m) (a .p .n) (windowLength (a .p)) (length (now (a .residual))) (c .before .loop .j) refl
-          (c .before .before .before .before .pre .2) (c .loop-test .taken),
+          (c .before .before .before .pre .2) (c .loop-test .taken),
       c .before .loop .inv .1,
     )
 
 add-size : tie.Need-add-size Inv-loop μ-loop
-add-size c = let entry = c .before .before in omega (arith, sizes (entry .args .p) (entry .pre .0) .memory-most)
+add-size c = let entry = c .before in omega (arith, sizes (entry .args .p) (entry .pre .0) .memory-most)
 
 mul-size : tie.Need-mul-size Inv-loop μ-loop
 mul-size c =
-    let entry = c .before .before in
+    let entry = c .before in
     let most = sizes (entry .args .p) (entry .pre .0) in
     let few : entry .args .p .m + 1 ≤ 256 = omega (arith, most .memory-most) in
     omega (arith, mul-le-mul few (most .symbols-most))
@@ -63,7 +63,7 @@ add-end : tie.Need-add-end Inv-loop μ-loop
 add-end c = omega (arith, window-room c)
 
 part-zero-cost-end : tie.Need-part-zero-cost-end Inv-loop μ-loop
-part-zero-cost-end c = window-room c
+part-zero-cost-end c = omega (arith, window-room c)
 
 zero-cost-requires : tie.Need-zero-cost-requires Inv-loop μ-loop
 zero-cost-requires c κs = tt
@@ -106,7 +106,7 @@ loop-again c =
 
 returns-2 : tie.Need-returns-2 Inv-loop μ-loop
 returns-2 c =
-    let entry = c .before .before .before .before in
+    let entry = c .before .before .before in
     all-near (λ j l. rw (entry .pre .1) at (c .before .loop .inv .2 (entry .args .p .q) j (omega arith)))
 
 pub compare-windows-spec : {M : Type 1} → statement M
