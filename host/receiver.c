@@ -134,7 +134,7 @@ static void send_and_receive(const struct order *given)
     EXPECT(all(message.bytes + order_length, 3, UNTOUCHED));
     EXPECT(all(repaired.bytes + length, 3, UNTOUCHED));
     print("message", message.bytes, order_length, setting->k);
-    printf("altered      %u of %u count\n", (unsigned)altered, (unsigned)setting->t);
+    printf("altered      %u, of which %u count\n", (unsigned)setting->t, (unsigned)altered);
 
     struct orderlink_marks window =
         orderlink_marks(given->setting, reception, length, repaired.bytes, length, given->j);

@@ -4,7 +4,7 @@
 use mathlib.Core.Path.{_≡_, refl, sym, ap, subst, _∙_}
 use mathlib.Core.Bool.{Bool, true, false, not}
 use mathlib.Core.List.{List, _++_}
-use Prim.Native.Nat.{ℕ, _+_, _-_, _*_, _≤_, _<_}
+use Prim.Native.Nat.{ℕ, _+_, _*_, _≤_, _<_}
 use native.Mathlib.Omega.{arith}
 use lib.ListN.{length, getD, drop, set, replicate, length-set}
 use lib.Seq.{ext-getD, getD-set-other}
@@ -60,14 +60,11 @@ module _ {p : Setting} {T : ℕ} {reception message residual : List ℕ} where
   frame-decoded-none (none far) h e f g = none-fits far e f g
 
   pub frame-decoded-found : Sound p → {r : Bool} {restored : List ℕ} {weight : ℕ} → Symbols (p .q) reception → length reception ≡ (T + p .m) * p .n
-      → FrameRead p T reception message residual r → not r ≡ false → weight ≡ weightTo residual (length residual - p .m * p .n)
+      → FrameRead p T reception message residual r → not r ≡ false → weight ≡ weightTo residual (T * p .n)
       → Restored (p .q) (length residual) reception residual restored → FrameDecoded p T reception (answer 0 0 weight) message restored
   frame-decoded-found S R long (none far) h counted back = absurd (false-not-true (sym h))
   frame-decoded-found S {restored = restored} R long (fits F symbols same is-residual) h counted back =
-      let information : length residual - p .m * p .n ≡ T * p .n = omega (arith, same, long) in
-      found F
-      (ap (answer 0 0)
-      (counted ∙ (ap (weightTo residual) information ∙ sym (end-altered p S T reception message residual R (F .message-of) is-residual))))
+      found F (ap (answer 0 0) (counted ∙ sym (end-altered p S T reception message residual R (F .message-of) is-residual)))
       (ext-getD 0 restored (transmission p message) (back .long ∙ (same ∙ (long ∙ sym (transmission-length p S T message (F .message-of)))))
       (λ i l. back .inside i (omega (arith, back .long))
       ∙ end-back p S T reception message residual R (F .message-of) is-residual i (omega (arith, back .long, same, long))))

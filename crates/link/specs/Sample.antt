@@ -1,6 +1,6 @@
--- Examples: 01's "Orders that were worked through", the ten starred ones, encodings and receptions alike, as one list with one statement (`orders-kept`,
--- proofs/Orders). One more order is one more line: encoded, read, or with number 7. Holds: `closingAtLimit`
--- and `closingBeyondLimit`, which crate `line` names; `orders`, `OrdersKept`.
+-- Examples: 01's "Orders that were worked through", the ten starred ones, and two for 02's #102, encodings and receptions alike, as one list with one
+-- statement (`orders-kept`, proofs/Orders). One more order is one more line: encoded, read, or with number 7. Holds: `closingAtLimit` and
+-- `closingBeyondLimit`, which crate `line` names; `orders`, `OrdersKept`.
 use mathlib.Core.List.{List, [], _∷_, List·Memᴰ}
 use lib.ListN.{replicate}
 use Rattle.link.specs.Orders.{Order, OrderKept, encodes, reads, getsSeven}
@@ -41,6 +41,9 @@ orders =
     ∷ reads 1 (replicate 12 0) (0 ∷ []) (replicate 12 0) 0
     ∷ closingAtLimit
     ∷ closingBeyondLimit
+    -- #102: the last symbol that counts altered, and the next, the first of the closing blocks.
+    ∷ reads 1 (2 ∷ 4 ∷ 3 ∷ 0 ∷ 2 ∷ 3 ∷ 2 ∷ 3 ∷ 2 ∷ 1 ∷ 3 ∷ 4 ∷ []) (1 ∷ []) (2 ∷ 4 ∷ 3 ∷ 1 ∷ 2 ∷ 3 ∷ 2 ∷ 3 ∷ 2 ∷ 1 ∷ 3 ∷ 4 ∷ []) 1
+    ∷ reads 1 (2 ∷ 4 ∷ 3 ∷ 1 ∷ 0 ∷ 3 ∷ 2 ∷ 3 ∷ 2 ∷ 1 ∷ 3 ∷ 4 ∷ []) (1 ∷ []) (2 ∷ 4 ∷ 3 ∷ 1 ∷ 2 ∷ 3 ∷ 2 ∷ 3 ∷ 2 ∷ 1 ∷ 3 ∷ 4 ∷ []) 0
     ∷ []
 
 -- Every order of the list is kept.

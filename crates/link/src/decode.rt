@@ -1,6 +1,6 @@
 // Decoding: from a reception (the received word) to the message that fits it and its transmission.
 ghost use mathlib.Core.Path.{_≡_};
-ghost use Prim.Native.Nat.{_+_, _-_, _*_, _≤_};
+ghost use Prim.Native.Nat.{_+_, _*_, _≤_};
 ghost use lib.Dec.{T as Passes};
 ghost use lib.ListN.{length};
 ghost use Rattle.area.specs.parts.Weights.{weightTo};
@@ -30,11 +30,11 @@ fn restore(q: usize, reception: &[u8], residual: &mut [u8])
 }
 
 // The altered count of a reception with this residual: how many symbols are not zero in blocks 0 to T−1; closing blocks do not count.
-fn altered_count(p: Setting, residual: &[u8]) -> usize
-    requires { ⌜ p .m * p .n ≤ length (now residual) ⌝ }
-    ensures { λ r. ⌜ r ≡ weightTo (now (residual .entry)) (length (now (residual .entry)) - p .m * p .n) ⌝ }
+fn altered_count(blocks: usize, n: usize, residual: &[u8]) -> usize
+    requires { ⌜ blocks * n ≤ length (now residual) ⌝ }
+    ensures { λ r. ⌜ r ≡ weightTo (now (residual .entry)) (blocks * n) ⌝ }
 {
-    let counted = residual.len() - p.m * p.n;
+    let counted = blocks * n;
     area::weight(&residual[..counted])
 }
 
@@ -72,7 +72,7 @@ fn decode_lent(
         area::clear(transmission);
         return question::no(7, 0);
     }
-    let altered = altered_count(p, transmission);
+    let altered = altered_count(blocks, p.n, transmission);
     restore(p.q, reception, transmission);
     Answer {
         number: 0,

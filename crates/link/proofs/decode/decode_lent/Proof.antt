@@ -1,6 +1,6 @@
 -- `link::decode::decode_lent`: the frame is read; then its transmission restored, or zeros.
 use mathlib.Core.Path.{ap, _∙_}
-use Prim.Native.Nat.{ℕ, _-_, _*_}
+use Prim.Native.Nat.{ℕ, _*_}
 use native.Mathlib.Omega.{arith}
 use lib.ListN.{length, replicate}
 use borrow.Author.Needs.{needs}
@@ -71,7 +71,7 @@ cast-t37 c =
     let read = before-else1 (before-end-2 c) .read in
     omega (
       arith,
-      distance-le (length (read .last .1 .1 .1 .1 .1 .1 .0) - a .p .m * a .p .n) (at (read .last .1 .1 .1 .1 .1 .1 .0)) (λ _. 0)
+      distance-le (a .blocks * a .p .n) (at (read .last .1 .1 .1 .1 .1 .1 .0)) (λ _. 0)
           (c .before .before .before .before .altered-count .ensures),
       read .kept .1 .1 .1 .1 .1 .1 .0,
       entry .pre .6,
