@@ -1,4 +1,4 @@
--- The ten starred orders of 01 are kept, by computation. Holds: `orders-kept`.
+-- The worked orders are kept, by computation. Holds: `orders-kept`.
 use lib.Dec.{T as Passes}
 use Rattle.algebra.specs.Sum.{sum, power}
 use Rattle.algebra.specs.Polynomial.{fromRoots, timesRootAfter}
