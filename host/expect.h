@@ -37,4 +37,14 @@ static inline bool answers(struct orderlink_answer answer, uint32_t number, uint
     return answer.number == number && answer.place == place && answer.altered == altered;
 }
 
+/* Whether a decoding of woven frames was refused with this number and place; no frame then has an
+   answer. */
+static inline bool refuses(struct orderlink_woven woven, uint32_t number, uint64_t place)
+{
+    for (size_t f = 0; f < sizeof woven.frame / sizeof woven.frame[0]; f++)
+        if (!answers(woven.frame[f], 0, 0, 0))
+            return false;
+    return number != 0 && answers(woven.answer, number, place, 0);
+}
+
 #endif

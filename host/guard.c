@@ -125,16 +125,55 @@ static void encode(uint64_t setting, const uint8_t *order, size_t order_length, 
     }
 }
 
-/* What a decoding is given, and what it must answer and leave. */
+/* Weaves or unweaves, and must get this number and place, and fill so much of the out area. */
+static void weave(bool undo, uint64_t setting, uint64_t frames, const uint8_t *held, size_t length,
+                  size_t room, uint32_t number, uint64_t place, const uint8_t *expected,
+                  size_t filled)
+{
+    for (enum side side = BEHIND; side < SIDES; side++) {
+        struct area in = lend_to_read(side, held, length);
+        struct area out = lend(side, NULL, room);
+        say(undo ? "unweave" : "weave", setting, length, room, 0, side);
+        EXPECT(answers((undo ? orderlink_unweave : orderlink_weave)(
+                           setting, frames, in.bytes, length, out.bytes, room),
+                       number, place, 0));
+        take_back(in, held, length);
+        take_back(out, expected, filled);
+    }
+}
+
+/* What a decoding is given, and what it must answer and leave. Where there are frames, they are
+   woven, and each must get its own answer. */
 struct decoding {
-    uint64_t setting;
+    uint64_t setting, frames;
     const uint8_t *reception;
     size_t length, message_room, transmission_room;
     uint32_t number, altered;
     uint64_t place;
+    struct orderlink_answer frame[MOST_FRAMES];
     const uint8_t *message, *transmission;
     size_t message_filled, transmission_filled;
 };
+
+/* Makes a decoding in lent areas; its answers must be the expected ones. */
+static void decode_in(const struct decoding *c, struct area reception, struct area message,
+                      struct area transmission)
+{
+    if (c->frames == 0) {
+        EXPECT(answers(orderlink_decode(c->setting, reception.bytes, reception.length,
+                                        message.bytes, message.length, transmission.bytes,
+                                        transmission.length),
+                       c->number, c->place, c->altered));
+        return;
+    }
+    struct orderlink_woven woven =
+        orderlink_decode_woven(c->setting, c->frames, reception.bytes, reception.length,
+                               message.bytes, message.length, transmission.bytes,
+                               transmission.length);
+    EXPECT(answers(woven.answer, c->number, c->place, 0));
+    for (size_t f = 0; f < MOST_FRAMES; f++)
+        EXPECT(answers(woven.frame[f], c->frame[f].number, 0, c->frame[f].altered));
+}
 
 static void decode(struct decoding c)
 {
@@ -142,10 +181,9 @@ static void decode(struct decoding c)
         struct area reception = lend_to_read(side, c.reception, c.length);
         struct area message = lend(side, NULL, c.message_room);
         struct area transmission = lend(side, NULL, c.transmission_room);
-        say("decode", c.setting, c.length, c.message_room, c.transmission_room, side);
-        EXPECT(answers(orderlink_decode(c.setting, reception.bytes, c.length, message.bytes,
-                                        c.message_room, transmission.bytes, c.transmission_room),
-                       c.number, c.place, c.altered));
+        say(c.frames == 0 ? "decode" : "decode_woven", c.setting, c.length, c.message_room,
+            c.transmission_room, side);
+        decode_in(&c, reception, message, transmission);
         take_back(reception, c.reception, c.length);
         take_back(message, c.message, c.message_filled);
         take_back(transmission, c.transmission, c.transmission_filled);
@@ -178,8 +216,46 @@ static void fill(uint8_t *bytes, size_t length, uint32_t q)
     }
 }
 
-static uint8_t order[ROOM], sent[ROOM], damaged[ROOM], noise[ROOM], wrong[ROOM];
+static uint8_t order[ROOM], sent[ROOM], damaged[ROOM], noise[ROOM], wrong[ROOM], woven[ROOM];
 static const uint8_t zeros[ROOM];
+
+/* Every refusal of a decoding of so many frames; 0 where it is not a woven one. */
+static void refused_decodings(const struct setting *setting, uint64_t frames, size_t blocks)
+{
+    size_t count = frames == 0 ? 1 : (size_t)frames;
+    size_t order_length = count * message_length(setting, blocks);
+    size_t length = count * transmission_length(setting, blocks);
+    struct decoding refused = {
+        .setting = 0, .frames = frames, .reception = sent, .length = length,
+        .message_room = order_length, .transmission_room = length, .number = 1,
+    };
+    decode(refused);
+    refused.setting = setting->number;
+    refused.number = 2;
+    const size_t lengths[] = { 0, setting->m * setting->n, length / count - 1 };
+    for (size_t i = 0; i < 3; i++) {
+        refused.length = count * lengths[i];
+        decode(refused);
+    }
+    refused.length = length;
+    refused.reception = wrong;
+    refused.number = 4;
+    refused.place = length - 1;
+    decode(refused);
+    refused.reception = sent;
+    refused.place = 0;
+    refused.number = 5;
+    refused.message_room = 0;
+    decode(refused);
+    refused.message_room = order_length - 1;
+    decode(refused);
+    refused.message_room = order_length;
+    refused.number = 6;
+    refused.transmission_room = 0;
+    decode(refused);
+    refused.transmission_room = length - 1;
+    decode(refused);
+}
 
 /* Every call on an order of this many blocks: with success, with number 7, with every refusal. */
 static void try_blocks(const struct setting *setting, size_t blocks)
@@ -225,36 +301,7 @@ static void try_blocks(const struct setting *setting, size_t blocks)
     call.transmission_room = length;
     decode(call);
 
-    struct decoding refused = {
-        .setting = 0, .reception = sent, .length = length,
-        .message_room = order_length, .transmission_room = length, .number = 1,
-    };
-    decode(refused);
-    refused.setting = number;
-    refused.number = 2;
-    const size_t lengths[] = { 0, setting->m * setting->n, length - 1 };
-    for (size_t i = 0; i < 3; i++) {
-        refused.length = lengths[i];
-        decode(refused);
-    }
-    refused.length = length;
-    refused.reception = wrong;
-    refused.number = 4;
-    refused.place = length - 1;
-    decode(refused);
-    refused.reception = sent;
-    refused.place = 0;
-    refused.number = 5;
-    refused.message_room = 0;
-    decode(refused);
-    refused.message_room = order_length - 1;
-    decode(refused);
-    refused.message_room = order_length;
-    refused.number = 6;
-    refused.transmission_room = 0;
-    decode(refused);
-    refused.transmission_room = length - 1;
-    decode(refused);
+    refused_decodings(setting, 0, blocks);
 
     mark(number, damaged, length, sent, length, 0, 0, setting->t);
     mark(number, damaged, length, sent, length, blocks - 1, 0, setting->t);
@@ -264,6 +311,76 @@ static void try_blocks(const struct setting *setting, size_t blocks)
     mark(number, damaged, length, sent, length, UINT64_MAX, 12, 0);
     mark(number, damaged, length, sent, length - 1, 0, 13, 0);
     mark(number, damaged, length, sent, 0, 0, 13, 0);
+}
+
+/* The calls on so many woven frames of this many blocks each: with success, with number 7 for the
+   last frame alone, with every refusal. */
+static void try_woven(const struct setting *setting, uint64_t frames, size_t blocks)
+{
+    uint64_t number = setting->number;
+    size_t count = (size_t)frames, order_length = message_length(setting, blocks);
+    size_t length = transmission_length(setting, blocks), whole = count * length;
+    fill(order, count * order_length, setting->q);
+    for (size_t f = 0; f < count; f++)
+        EXPECT(orderlink_encode(number, order + f * order_length, order_length, sent + f * length,
+                                length).number == 0);
+    interleave(sent, count, length, woven);
+    memcpy(wrong, woven, whole);
+    wrong[whole - 1] = (uint8_t)setting->q;
+
+    for (int undo = 0; undo <= 1; undo++) {
+        const uint8_t *in = undo ? woven : sent, *out = undo ? sent : woven;
+        for (size_t more = 0; more <= MORE; more += MORE)
+            weave(undo, number, frames, in, whole, whole + more, 0, 0, out, whole);
+        weave(undo, 0, frames, in, whole, whole, 1, 0, NULL, 0);
+        weave(undo, number, 0, in, whole, whole, 14, 0, NULL, 0);
+        weave(undo, number, 1, in, whole, whole, 14, 0, NULL, 0);
+        weave(undo, number, UINT64_MAX, in, whole, whole, 14, 0, NULL, 0);
+        weave(undo, number, frames, in, whole - 1, whole, 15, 0, NULL, 0);
+        weave(undo, number, frames, in, 0, whole, 2, 0, NULL, 0);
+        weave(undo, number, frames, in, count, whole, 2, 0, NULL, 0);
+        weave(undo, number, frames, wrong, whole, whole, 4, whole - 1, NULL, 0);
+        weave(undo, number, frames, in, whole, whole - 1, 6, 0, NULL, 0);
+        weave(undo, number, frames, in, whole, 0, 6, 0, NULL, 0);
+    }
+
+    struct decoding refused = {
+        .setting = number, .frames = MOST_FRAMES + 1, .reception = woven, .length = whole,
+        .message_room = count * order_length, .transmission_room = whole, .number = 14,
+    };
+    decode(refused);
+    refused.frames = UINT64_MAX;
+    decode(refused);
+    refused.frames = frames;
+    refused.length = whole - 1;
+    refused.number = 15;
+    decode(refused);
+    refused_decodings(setting, frames, blocks);
+
+    struct decoding call = {
+        .setting = number, .frames = frames, .reception = woven, .length = whole,
+        .message_room = count * order_length, .transmission_room = whole,
+        .message = order, .message_filled = count * order_length,
+        .transmission = sent, .transmission_filled = whole,
+    };
+    decode(call);
+    uint32_t altered[MOST_FRAMES];
+    memcpy(damaged, woven, whole);
+    strike(setting, damaged, count, length, whole / 3, count * setting->t, altered);
+    call.reception = damaged;
+    for (size_t f = 0; f < count; f++)
+        call.frame[f].altered = altered[f];
+    decode(call);
+    call.message_room += MORE;
+    call.transmission_room += MORE;
+    decode(call);
+    fill(noise, length, setting->q);
+    for (size_t i = 0; i < length; i++)
+        damaged[i * count + count - 1] = noise[i];
+    memset(order + (count - 1) * order_length, 0, order_length);
+    memset(sent + (count - 1) * length, 0, length);
+    call.frame[count - 1] = (struct orderlink_answer){ .number = 7 };
+    decode(call);
 }
 
 /* Orders of one block too many get 3 from every call. */
@@ -276,6 +393,14 @@ static void try_too_long(const struct setting *setting)
                               .message_room = order_length, .transmission_room = length,
                               .number = 3 });
     mark(setting->number, zeros, length, zeros, length, 0, 3, 0);
+    for (size_t frames = 2; frames <= MOST_FRAMES; frames += MOST_FRAMES - 2) {
+        size_t whole = frames * length, room = frames * order_length;
+        weave(false, setting->number, frames, zeros, whole, whole, 3, 0, NULL, 0);
+        weave(true, setting->number, frames, zeros, whole, whole, 3, 0, NULL, 0);
+        decode((struct decoding){ .setting = setting->number, .frames = frames,
+                                  .reception = zeros, .length = whole, .message_room = room,
+                                  .transmission_room = whole, .number = 3 });
+    }
 }
 
 /* Reads or writes a byte that must not be. */
@@ -313,9 +438,12 @@ int main(void)
     EXPECT(sigaction(SIGSEGV, &action, NULL) == 0 && sigaction(SIGBUS, &action, NULL) == 0);
     try_pages();
     for (size_t i = 0; i < SETTING_COUNT; i++) {
-        EXPECT(transmission_length(&settings[i], MOST_BLOCKS + 1) <= ROOM);
-        for (size_t b = 0; b < sizeof blocks / sizeof blocks[0]; b++)
+        EXPECT(MOST_FRAMES * transmission_length(&settings[i], MOST_BLOCKS + 1) <= ROOM);
+        for (size_t b = 0; b < sizeof blocks / sizeof blocks[0]; b++) {
             try_blocks(&settings[i], blocks[b]);
+            for (uint64_t frames = 2; frames <= MOST_FRAMES; frames += 3)
+                try_woven(&settings[i], frames, blocks[b]);
+        }
         try_too_long(&settings[i]);
     }
     printf("areas against pages that must not be touched: none touched\n");

@@ -1,6 +1,6 @@
 /*
- * A receiver's use of the order link: it sends orders, damages them on the way,
- * reads them back, marks the differences, and gets every refusal.
+ * A receiver's use of the order link: it sends orders, alone and woven, damages
+ * them on the way, reads them back, marks the differences, and gets every refusal.
  *
  *   cc -std=c11 -O2 -Wall -Wextra -Werror -Iinclude host/receiver.c \
  *       target/staticlib/libhost.a
@@ -156,6 +156,80 @@ static void send_and_receive(const struct order *given)
     take_back(repaired);
 }
 
+/* Frames to weave, and where a run of altered symbols begins. In these settings d is 2t + 1: where
+   t + 1 symbols of a window are altered, no message fits. */
+static const struct weaving {
+    uint64_t setting;
+    size_t frames, start;
+} weavings[] = {
+    { 2, 3, 0 },
+    { 4, 8, 301 },
+    { 5, 2, 55 },
+};
+
+/* The blocks of each of these orders, and how many bytes more than needed their areas have. */
+enum { WOVEN_BLOCKS = 3, MORE = 3 };
+
+/* Sends orders woven: they come back from a run of D * t altered symbols. With one altered symbol
+   more one order is lost, and only its own places are zeros. */
+static void weave_and_receive(const struct weaving *given)
+{
+    const struct setting *setting = &settings[given->setting - 1];
+    size_t frames = given->frames, run = frames * setting->t, struck = given->start % frames;
+    size_t order_length = message_length(setting, WOVEN_BLOCKS);
+    size_t length = transmission_length(setting, WOVEN_BLOCKS);
+    size_t orders_length = frames * order_length, whole = frames * length;
+    struct area order = lend(orders_length), sent = lend(whole), expected = lend(whole);
+    struct area woven = lend(whole + MORE), unwoven = lend(whole + MORE);
+    for (size_t i = 0; i < orders_length; i++)
+        order.bytes[i] = (uint8_t)((i * i / 3 + 1) % setting->q);
+    for (size_t f = 0; f < frames; f++)
+        EXPECT(answers(orderlink_encode(given->setting, order.bytes + f * order_length,
+                                        order_length, sent.bytes + f * length, length), 0, 0, 0));
+    interleave(sent.bytes, frames, length, expected.bytes);
+    EXPECT(answers(orderlink_weave(given->setting, frames, sent.bytes, whole, woven.bytes,
+                                   woven.length), 0, 0, 0));
+    EXPECT(memcmp(woven.bytes, expected.bytes, whole) == 0);
+    EXPECT(all(woven.bytes + whole, MORE, UNTOUCHED));
+    EXPECT(answers(orderlink_unweave(given->setting, frames, woven.bytes, whole, unwoven.bytes,
+                                     unwoven.length), 0, 0, 0));
+    EXPECT(memcmp(unwoven.bytes, sent.bytes, whole) == 0);
+    EXPECT(all(unwoven.bytes + whole, MORE, UNTOUCHED));
+
+    uint32_t altered[MOST_FRAMES];
+    struct area message = lend(orders_length + MORE), repaired = lend(whole + MORE);
+    strike(setting, woven.bytes, frames, length, given->start, run, altered);
+    for (uint32_t more = 0; more <= 1; more++) {
+        if (more == 1) {
+            alter(setting, &woven.bytes[given->start + run], 0);
+            memset(order.bytes + struck * order_length, 0, order_length);
+            memset(sent.bytes + struck * length, 0, length);
+        }
+        struct orderlink_woven decoded =
+            orderlink_decode_woven(given->setting, frames, woven.bytes, whole, message.bytes,
+                                   message.length, repaired.bytes, repaired.length);
+        EXPECT(answers(decoded.answer, 0, 0, 0));
+        for (size_t f = 0; f < MOST_FRAMES; f++) {
+            bool lost = more == 1 && f == struck;
+            EXPECT(answers(decoded.frame[f], lost ? 7 : 0, 0, lost ? 0 : altered[f]));
+        }
+        EXPECT(memcmp(message.bytes, order.bytes, orders_length) == 0);
+        EXPECT(memcmp(repaired.bytes, sent.bytes, whole) == 0);
+        EXPECT(all(message.bytes + orders_length, MORE, UNTOUCHED));
+        EXPECT(all(repaired.bytes + whole, MORE, UNTOUCHED));
+    }
+    printf("setting %u, %zu orders woven: all back from a run of %zu altered symbols\n",
+           (unsigned)given->setting, frames, run);
+    printf("one altered symbol more: number 7 and zeros for order %zu, the others back\n", struck);
+    take_back(order);
+    take_back(sent);
+    take_back(expected);
+    take_back(woven);
+    take_back(unwoven);
+    take_back(message);
+    take_back(repaired);
+}
+
 /* Every refusal of a decoding; both areas stay as they were. A row may break later rules too. */
 static void refused_decodings(void)
 {
@@ -260,6 +334,61 @@ static void refused_marks(void)
     printf("refused marks: none set\n");
 }
 
+/* Every refusal of a weaving, an unweaving and a decoding of woven frames; all areas stay as they
+   were. A row may break later rules too; one that gets 5 does, since weaving does not ask it and
+   then says 6. */
+static void refused_weavings(void)
+{
+    static const uint8_t clean[2 * (MOST_BLOCKS + 1 + 2) * 4];
+    const uint8_t wrong[24] = { [5] = 5, [9] = 255 }, wrong_16[120] = { [5] = 15, [119] = 16 };
+    const struct {
+        uint64_t setting, frames;
+        const uint8_t *incoming;
+        size_t length, message_length, out_length;
+        uint32_t number;
+        uint64_t place;
+    } calls[] = {
+        { 0, 0, wrong, 1, 0, 0, 1, 0 },
+        { 257, 2, clean, 24, 2, 24, 1, 0 },
+        { 1, 0, wrong, 23, 0, 0, 14, 0 },
+        { 1, 1, clean, 24, 2, 24, 14, 0 },
+        { 1, 9, wrong, 24, 0, 0, 14, 0 },
+        { 1, (UINT64_C(1) << 32) + 2, clean, 24, 2, 24, 14, 0 },
+        { 1, UINT64_MAX, NULL, 0, 2, 24, 14, 0 },
+        { 1, 2, wrong, 1, 0, 0, 15, 0 },
+        { 1, 8, wrong, 12, 0, 0, 15, 0 },
+        { 1, 2, clean, 25, 2, 25, 15, 0 },
+        { 1, 2, NULL, 0, 2, 24, 2, 0 },
+        { 1, 2, wrong, 16, 0, 0, 2, 0 },
+        { 1, 2, clean, 26, 2, 26, 2, 0 },
+        { 1, 2, clean, sizeof clean, 0, 0, 3, 0 },
+        { 1, 2, wrong, 24, 0, 0, 4, 5 },
+        { 1, 2, clean, 24, 1, 23, 5, 0 },
+        { 1, 2, clean, 24, 2, 23, 6, 0 },
+        { 4, 2, wrong_16, 120, 0, 0, 4, 119 },
+        { 5, 2, wrong_16, 90, 9, 89, 5, 0 },
+    };
+    for (size_t i = 0; i < COUNT(calls); i++) {
+        uint64_t setting = calls[i].setting, frames = calls[i].frames, place = calls[i].place;
+        uint32_t number = calls[i].number, of_weaving = number == 5 ? 6 : number;
+        const uint8_t *incoming = calls[i].incoming;
+        size_t length = calls[i].length;
+        struct area message = lend(calls[i].message_length), out = lend(calls[i].out_length);
+        EXPECT(answers(orderlink_weave(setting, frames, incoming, length, out.bytes, out.length),
+                       of_weaving, place, 0));
+        EXPECT(answers(orderlink_unweave(setting, frames, incoming, length, out.bytes, out.length),
+                       of_weaving, place, 0));
+        EXPECT(refuses(orderlink_decode_woven(setting, frames, incoming, length, message.bytes,
+                                              message.length, out.bytes, out.length),
+                       number, place));
+        EXPECT(all(message.bytes, message.length, UNTOUCHED));
+        EXPECT(all(out.bytes, out.length, UNTOUCHED));
+        take_back(message);
+        take_back(out);
+    }
+    printf("refused weavings and decodings of woven frames: areas unchanged\n");
+}
+
 /* Numbers that are no setting, up to the largest, get 1 from every call, and nothing is written. */
 static void no_such_settings(void)
 {
@@ -281,6 +410,12 @@ static void no_such_settings(void)
             orderlink_marks(number, reception, length, transmission.bytes, length, 0);
         EXPECT(answers(window.answer, 1, 0, 0));
         EXPECT(window.marks == 0 && window.set == 0);
+        EXPECT(answers(orderlink_weave(number, 2, reception, length, transmission.bytes, length),
+                       1, 0, 0));
+        EXPECT(answers(orderlink_unweave(number, 2, reception, length, transmission.bytes, length),
+                       1, 0, 0));
+        EXPECT(refuses(orderlink_decode_woven(number, 2, reception, length, message.bytes, 1,
+                                              transmission.bytes, length), 1, 0));
         EXPECT(all(message.bytes, 1, UNTOUCHED));
         EXPECT(all(transmission.bytes, length, UNTOUCHED));
         take_back(message);
@@ -292,13 +427,19 @@ static void no_such_settings(void)
 /* Areas of length 0 may be NULL. */
 static void no_areas(void)
 {
-    static const uint8_t clean[14];
+    static const uint8_t clean[28];
     EXPECT(answers(orderlink_encode(3, NULL, 0, NULL, 0), 8, 0, 0));
     EXPECT(answers(orderlink_encode(3, clean, 3, NULL, 0), 6, 0, 0));
     EXPECT(answers(orderlink_decode(3, NULL, 0, NULL, 0, NULL, 0), 2, 0, 0));
     EXPECT(answers(orderlink_decode(3, clean, 14, NULL, 0, NULL, 0), 5, 0, 0));
     EXPECT(answers(orderlink_marks(3, NULL, 0, NULL, 0, 0).answer, 2, 0, 0));
     EXPECT(answers(orderlink_marks(3, clean, 14, NULL, 0, 0).answer, 13, 0, 0));
+    EXPECT(answers(orderlink_weave(3, 2, NULL, 0, NULL, 0), 2, 0, 0));
+    EXPECT(answers(orderlink_weave(3, 2, clean, 28, NULL, 0), 6, 0, 0));
+    EXPECT(answers(orderlink_unweave(3, 2, NULL, 0, NULL, 0), 2, 0, 0));
+    EXPECT(answers(orderlink_unweave(3, 2, clean, 28, NULL, 0), 6, 0, 0));
+    EXPECT(refuses(orderlink_decode_woven(3, 2, NULL, 0, NULL, 0, NULL, 0), 2, 0));
+    EXPECT(refuses(orderlink_decode_woven(3, 2, clean, 28, NULL, 0, NULL, 0), 5, 0));
     printf("areas of length 0: not looked at\n");
 }
 
@@ -336,9 +477,12 @@ int main(void)
 {
     for (size_t i = 0; i < COUNT(orders); i++)
         send_and_receive(&orders[i]);
+    for (size_t i = 0; i < COUNT(weavings); i++)
+        weave_and_receive(&weavings[i]);
     refused_decodings();
     refused_encodings();
     refused_marks();
+    refused_weavings();
     no_such_settings();
     no_areas();
     for (size_t i = 0; i < SETTING_COUNT; i++)

@@ -1,11 +1,13 @@
-/* The table of settings, and damage up to a setting's limit, for the programs in this folder. */
+/* The table of settings, woven frames, and damage up to a setting's limit, for the programs in this
+   folder. */
 #ifndef SETTINGS_H
 #define SETTINGS_H
 
 #include <stddef.h>
 #include <stdint.h>
+#include <string.h>
 
-enum { MOST_BLOCKS = 512 };
+enum { MOST_BLOCKS = 512, MOST_FRAMES = 8 };
 
 /* A row of the table; the letters are those of orderlink.h. */
 struct setting {
@@ -51,6 +53,27 @@ static inline uint32_t damage(const struct setting *setting, const uint8_t *sent
         altered += i < closing ? hit : 0;
     }
     return altered;
+}
+
+/* Weaves frames of a length: symbol i of frame f goes to i * frames + f. */
+static inline void interleave(const uint8_t *sent, size_t frames, size_t length, uint8_t *woven)
+{
+    for (size_t f = 0; f < frames; f++)
+        for (size_t i = 0; i < length; i++)
+            woven[i * frames + f] = sent[f * length + i];
+}
+
+/* Alters a run of woven symbols; says of each frame how many count, those before its closing
+   blocks. */
+static inline void strike(const struct setting *setting, uint8_t *woven, size_t frames,
+                          size_t length, size_t start, size_t run, uint32_t altered[MOST_FRAMES])
+{
+    size_t closing = length - setting->m * setting->n;
+    memset(altered, 0, MOST_FRAMES * sizeof altered[0]);
+    for (size_t i = start; i < start + run; i++) {
+        woven[i] = (uint8_t)((woven[i] + 1) % setting->q);
+        altered[i % frames] += i / frames < closing;
+    }
 }
 
 #endif

@@ -1,9 +1,10 @@
 //! The verified library behind its C interface (include/orderlink.h), as safe calls.
 
-use crate::calls::{Answer, Calls, Marks};
+use crate::calls::{Answer, Calls, Marks, Woven};
 
-/// The three calls of the C interface, answered by the linked archive.
-pub const CALLS: Calls = Calls { name: "Rattle", encode, decode, marks };
+/// The calls of the C interface, answered by the linked archive.
+pub const CALLS: Calls =
+    Calls { name: "Rattle", encode, decode, marks, weave, unweave, decode_woven };
 
 extern "C" {
     fn orderlink_encode(
@@ -32,6 +33,35 @@ extern "C" {
         transmission_len: usize,
         j: u64,
     ) -> Marks;
+
+    fn orderlink_weave(
+        setting: u64,
+        frames: u64,
+        incoming: *const u8,
+        incoming_len: usize,
+        out: *mut u8,
+        out_len: usize,
+    ) -> Answer;
+
+    fn orderlink_unweave(
+        setting: u64,
+        frames: u64,
+        incoming: *const u8,
+        incoming_len: usize,
+        out: *mut u8,
+        out_len: usize,
+    ) -> Answer;
+
+    fn orderlink_decode_woven(
+        setting: u64,
+        frames: u64,
+        reception: *const u8,
+        reception_len: usize,
+        message: *mut u8,
+        message_len: usize,
+        transmission: *mut u8,
+        transmission_len: usize,
+    ) -> Woven;
 }
 
 fn encode(setting: u64, message: &[u8], transmission: &mut [u8]) -> Answer {
@@ -72,6 +102,40 @@ fn marks(setting: u64, reception: &[u8], transmission: &[u8], j: u64) -> Marks {
             transmission.as_ptr(),
             transmission.len(),
             j,
+        )
+    }
+}
+
+fn weave(setting: u64, frames: u64, incoming: &[u8], out: &mut [u8]) -> Answer {
+    let (from, to) = ((incoming.as_ptr(), incoming.len()), (out.as_mut_ptr(), out.len()));
+    // SAFETY: each pointer and length are those of a live slice, and the slices do not overlap.
+    unsafe { orderlink_weave(setting, frames, from.0, from.1, to.0, to.1) }
+}
+
+fn unweave(setting: u64, frames: u64, incoming: &[u8], out: &mut [u8]) -> Answer {
+    let (from, to) = ((incoming.as_ptr(), incoming.len()), (out.as_mut_ptr(), out.len()));
+    // SAFETY: each pointer and length are those of a live slice, and the slices do not overlap.
+    unsafe { orderlink_unweave(setting, frames, from.0, from.1, to.0, to.1) }
+}
+
+fn decode_woven(
+    setting: u64,
+    frames: u64,
+    reception: &[u8],
+    message: &mut [u8],
+    transmission: &mut [u8],
+) -> Woven {
+    // SAFETY: each pointer and length are those of a live slice, and the slices do not overlap.
+    unsafe {
+        orderlink_decode_woven(
+            setting,
+            frames,
+            reception.as_ptr(),
+            reception.len(),
+            message.as_mut_ptr(),
+            message.len(),
+            transmission.as_mut_ptr(),
+            transmission.len(),
         )
     }
 }

@@ -1,4 +1,4 @@
-//! The three calls that a C host makes, as every implementation here offers them.
+//! The calls that a C host makes, as every implementation here offers them.
 
 /// The answer of a call: the first question that got "no", its place, and the altered count.
 #[repr(C)]
@@ -33,6 +33,18 @@ pub struct Marks {
     pub set: u32,
 }
 
+/// The most frames that are woven.
+pub const MOST_FRAMES: usize = 8;
+
+/// The answer of the questions before 7, and each frame's own; zeros where there is no frame or
+/// no answer of it.
+#[repr(C)]
+#[derive(Clone, Copy, Debug, Default, PartialEq, Eq)]
+pub struct Woven {
+    pub answer: Answer,
+    pub frame: [Answer; MOST_FRAMES],
+}
+
 /// Setting, message and transmission area.
 pub type Encode = fn(u64, &[u8], &mut [u8]) -> Answer;
 
@@ -42,6 +54,12 @@ pub type Decode = fn(u64, &[u8], &mut [u8], &mut [u8]) -> Answer;
 /// Setting, reception, transmission and window j.
 pub type Mark = fn(u64, &[u8], &[u8], u64) -> Marks;
 
+/// Setting, frames D, incoming area and out area.
+pub type Weave = fn(u64, u64, &[u8], &mut [u8]) -> Answer;
+
+/// Setting, frames D, woven receptions, message area and transmission area.
+pub type DecodeWoven = fn(u64, u64, &[u8], &mut [u8], &mut [u8]) -> Woven;
+
 /// One implementation of the calls.
 #[derive(Clone, Copy)]
 pub struct Calls {
@@ -49,4 +67,7 @@ pub struct Calls {
     pub encode: Encode,
     pub decode: Decode,
     pub marks: Mark,
+    pub weave: Weave,
+    pub unweave: Weave,
+    pub decode_woven: DecodeWoven,
 }

@@ -1,6 +1,7 @@
 //! Messages and receptions to try: random, clean, and damaged up to a chosen limit.
 
 use crate::oracle::Setting;
+use std::ops::Range;
 
 /// A small generator of random numbers (SplitMix64); the same seed gives the same numbers.
 pub struct Random(u64);
@@ -95,6 +96,17 @@ pub fn damage_closing(random: &mut Random, setting: &Setting, symbols: &mut [u8]
     for place in random.order(setting.m * setting.n).into_iter().take(count) {
         alter(random, setting, &mut symbols[closing + place]);
     }
+}
+
+/// Alters every symbol of a run.
+pub fn damage_run(random: &mut Random, setting: &Setting, symbols: &mut [u8], run: Range<usize>) {
+    symbols[run].iter_mut().for_each(|symbol| alter(random, setting, symbol));
+}
+
+/// Frames of one length woven: the first symbol of each, then the second of each, and so on.
+pub fn woven(frames: &[Vec<u8>]) -> Vec<u8> {
+    let symbols = 0..frames.first().map_or(0, Vec::len);
+    symbols.flat_map(|i| frames.iter().map(move |frame| frame[i])).collect()
 }
 
 /// The most altered symbols in a window that holds a block.

@@ -1,5 +1,6 @@
 """Calls with right answers that need no decoder: the examples of 000, 004 and 01, orders of settings 4 and 5 damaged up to the limit and beyond it, orders
-damaged in their closing blocks alone, orders and lines of the greatest length, and numbers that are no setting. What is sent is made by 01's definition."""
+damaged in their closing blocks alone, woven frames with a run of altered symbols, orders and lines of the greatest length, and numbers that are no setting
+or no D. What is sent is made by 01's definition."""
 import itertools
 
 # The settings of 01 and 02: q, n, k, m and t.
@@ -133,6 +134,34 @@ def marked(setting, reception, transmission, j, number):
     }
 
 
+def laid(call, setting, D, incoming, number, out, place=0, tail=0):
+    """A weaving or an unweaving with an out area `tail` bytes longer than `out`, which keeps those; numbers other than 0 change nothing."""
+    i, o = areas(incoming, out)
+    before = UNUSED * (len(out) + tail)
+    return {
+        "call": call,
+        "args": {"number": setting, "D": D, "frames" if call == "weave" else "woven": i, "area": before},
+        "result": {"answer": answered(number, place), "area": o + UNUSED * tail if number == 0 else before},
+    }
+
+
+def decoded_woven(setting, D, reception, number, frames, message, transmission, place=0, tail=0):
+    """A decoding of woven frames whose own answers are `frames`; the rest as with `decoded`."""
+    r, m, t = areas(reception, message, transmission)
+    before_m, before_t = (UNUSED * (len(area) + tail) for area in (message, transmission))
+    kept = UNUSED * tail
+    return {
+        "call": "decode_woven",
+        "args": {"number": setting, "D": D, "woven": r, "marea": before_m, "tarea": before_t},
+        "result": {
+            "answer": answered(number, place),
+            "frames": frames,
+            "message": m + kept if number == 0 else before_m,
+            "transmission": t + kept if number == 0 else before_t,
+        },
+    }
+
+
 def answered_line(line, answer):
     return {"call": "line", "args": {"line": line.encode().hex()}, "result": {"line": answer}}
 
@@ -200,6 +229,69 @@ def closing_damage():
         yield decoded(setting, reception, 7, [0] * len(message), [0] * len(transmission), tail=1)
 
 
+def woven(frames):
+    """Symbol i of frame f goes to i × D + f."""
+    D = len(frames)
+    area = [None] * sum(map(len, frames))
+    for f, frame in enumerate(frames):
+        for i, symbol in enumerate(frame):
+            area[i * D + f] = symbol
+    return area
+
+
+def struck(setting, messages, start, length):
+    """Woven orders decoded after a run of altered symbols. A frame with at most t of them comes back; one with more gets 7, and zeros."""
+    _, n, _, m, t = SETTINGS[setting]
+    D, run = len(messages), range(start, start + length)
+    sent = [transmission_of(setting, message) for message in messages]
+    reception = altered_at(setting, woven(sent), run)
+    frames, message, transmission = [], [], []
+    for f in range(D):
+        hit = [place // D for place in run if place % D == f]
+        back = len(hit) <= t
+        frames.append(answered(0, count=sum(i < len(sent[f]) - m * n for i in hit)) if back else answered(7))
+        message += messages[f] if back else [0] * len(messages[f])
+        transmission += sent[f] if back else [0] * len(sent[f])
+    return decoded_woven(setting, D, reception, 0, frames, message, transmission, tail=2)
+
+
+def woven_orders():
+    """D orders woven and unwoven; decoded after a run of D × t altered symbols, at the start, across the first block's border and at the end, which leaves every
+    order whole. One symbol more makes t + 1 in one window of one frame, which no message fits where d is 2t + 1, as in settings 2, 4 and 5."""
+    for setting, (q, n, k, _, t) in SETTINGS.items():
+        for D in range(2, 9):
+            messages = [[(3 * f + i * i + 1) % q for i in range(2 * k)] for f in range(D)]
+            sent = [transmission_of(setting, message) for message in messages]
+            apart, together = sum(sent, []), woven(sent)
+            yield laid("weave", setting, D, apart, 0, together, tail=1)
+            yield laid("unweave", setting, D, together, 0, apart, tail=1)
+            for run in (D * t, D * t + 1)[: 2 if setting in (2, 4, 5) else 1]:
+                for start in (0, 1, D * n - run // 2, len(together) - run):
+                    yield struck(setting, messages, start, run)
+
+
+def refused_woven():
+    """One question after another gets a no from the calls on woven frames, the later ones getting one too."""
+    for setting, (q, n, k, m, _) in SETTINGS.items():
+        for D in (2, 8):
+            length = (2 + m) * n
+            wrong = [0] * (D * length - 2) + [q, 255]
+            asked = [(setting + 5, 0, [q], 1, 0)]
+            asked += [(setting, no_frames, wrong + [0], 14, 0) for no_frames in (0, 1, 9, 2**32 + 2, 2**63, 2**64 - 1)]
+            asked += [(setting, D, incoming, 15, 0) for incoming in ([q], wrong + [0], wrong[1:])]
+            asked += [(setting, D, [q] * (D * size), 2, 0) for size in (0, m * n, length - 1, length + 1)]
+            asked += [(setting, D, [q] * (D * (513 + m) * n), 3, 0), (setting, D, wrong, 4, D * length - 2)]
+            for number, frames, incoming, question, place in asked:
+                yield laid("weave", number, frames, incoming, question, [0] * 3, place)
+                yield laid("unweave", number, frames, incoming, question, [0] * 3, place)
+                yield decoded_woven(number, frames, incoming, question, [], [0] * 3, [0] * 3, place)
+            clean = [0] * (D * length)
+            yield laid("weave", setting, D, clean, 6, clean[1:])
+            yield laid("unweave", setting, D, clean, 6, clean[1:])
+            yield decoded_woven(setting, D, clean, 5, [], [0] * (D * 2 * k - 1), clean[1:])
+            yield decoded_woven(setting, D, clean, 6, [], [0] * (D * 2 * k), clean[1:])
+
+
 def examples():
     none_fits = [
         (1, "2000 4004 4000 0431"),  # 000, Example 4.2 (a)
@@ -236,6 +328,8 @@ def examples():
         yield decoded(setting, powers(row), 0, symbols(message), powers(row))
     yield from worked_orders()
     yield from closing_damage()
+    yield from woven_orders()
+    yield from refused_woven()
     # Numbers that are no setting; five of them are one in their lowest 32 bits.
     message, transmission = long_order(1, 1)
     for number in (6, 2**32 + 1, 2**32 + 2, 2**63 + 3, 2**32 + 4, 2**63 + 5, 2**63, 2**64 - 1):

@@ -1,7 +1,7 @@
 #!/usr/bin/env python3
 """Makes crates/link_test/stdin and stdout: the calls of calls.jsonl and of examples.py, and what the program must write.
 
-A line of stdin: the call's letter, the setting, j, the lengths of three areas and the areas, all in hexadecimal (crates/link_test/src/main.rt).
+A line of stdin: the call's letter, the setting, j or D, the lengths of three areas and the areas, all in hexadecimal (crates/link_test/src/main.rt).
 A line of stdout: number, place and count of the answer in decimal, then what the call returned and what it left in the areas; for a desk line, its answer.
 Run it where it stands; `--check` only says whether the files are up to date."""
 import itertools, json, os, sys
@@ -10,6 +10,18 @@ from examples import examples
 
 here = os.path.dirname(os.path.abspath(__file__))
 crate = os.path.join(here, "..", "..", "crates", "link_test")
+
+
+
+def said(answer):
+    return [str(answer[name]) for name in ("number", "place", "count")]
+
+
+def said_of_frames(answers):
+    """The answers of eight frames; those that are not there are zeros."""
+    none = {"number": 0, "place": 0, "count": 0}
+    return [number for f in range(8) for number in said(answers[f] if f < len(answers) else none)]
+
 
 # The call's letter, its areas, and what it writes after the answer.
 CALLS = {
@@ -21,6 +33,13 @@ CALLS = {
     ),
     "window": ("W", lambda a: (a["reception"], "", ""), lambda r: [r["part"]]),
     "marks": ("M", lambda a: (a["reception"], a["transmission"], ""), lambda r: [str(r["marks"]), str(r["ones"])]),
+    "weave": ("V", lambda a: (a["frames"], "", a["area"]), lambda r: [r["area"]]),
+    "unweave": ("U", lambda a: (a["woven"], "", a["area"]), lambda r: [r["area"]]),
+    "decode_woven": (
+        "F",
+        lambda a: (a["woven"], a["marea"], a["tarea"]),
+        lambda r: [*said_of_frames(r["frames"]), r["message"], r["transmission"]],
+    ),
     "line": ("L", lambda a: (a["line"], "", ""), lambda r: [r["line"]]),
 }
 
@@ -35,10 +54,10 @@ with open(os.path.join(here, "calls.jsonl")) as lines:
         held = areas(arguments)
         if max(map(len, held)) > 2 * LONGEST:
             continue
-        numbers = ("%016x" % arguments.get(name, 0) for name in ("number", "j"))
-        head = [letter, *numbers, *("%04x" % (len(area) // 2) for area in held)]
+        numbers = arguments.get("number", 0), arguments.get("j", arguments.get("D", 0))
+        head = [letter, *("%016x" % number for number in numbers), *("%04x" % (len(area) // 2) for area in held)]
         given.append(" ".join(head) + " " + "".join(held) + "\n")
-        answer = [str(result["answer"][name]) for name in ("number", "place", "count")] if "answer" in result else []
+        answer = said(result["answer"]) if "answer" in result else []
         expected.append(" ".join(answer + returned(result)) + "\n")
 
 stale = False

@@ -8,8 +8,9 @@ pub const MAX_N: usize = MAX_Q - 1;
 pub const MAX_K: usize = 5;
 pub const MAX_WINDOW: usize = 4;
 
-/// The most information blocks in a message.
+/// The most information blocks in a message, and the most symbols in a transmission.
 pub const MAX_T: usize = 512;
+pub const MAX_SYMBOLS: usize = (MAX_T + MAX_WINDOW - 1) * MAX_N;
 
 /// One block of n symbols, and room after it: as many bytes as are copied in one step.
 pub type Block = [u8; MAX_Q];

@@ -1,6 +1,6 @@
 //! One line of the planning desk in, one line out.
 
-use super::code::{Code, MAX_K, MAX_N, MAX_T, MAX_WINDOW};
+use super::code::{Code, MAX_K, MAX_SYMBOLS, MAX_T};
 use super::decode;
 use crate::calls::Answer;
 
@@ -11,7 +11,6 @@ const MAX_LINE: usize = HEAD + MAX_SYMBOLS;
 pub const MAX_ANSWER: usize = 6 + HEAD + MAX_T * MAX_K;
 
 const HEAD: usize = 4;
-const MAX_SYMBOLS: usize = (MAX_T + MAX_WINDOW - 1) * MAX_N;
 const DIGITS: &[u8; 16] = b"0123456789abcdef";
 
 /// A line that got "yes" to every question before 4.

@@ -5,17 +5,20 @@ mod code;
 mod decoder;
 mod field;
 mod line;
+mod woven;
 
 pub use line::{line, MAX_ANSWER};
 
 use crate::calls::{Answer, Calls, Marks};
 use code::{Code, MAX_T};
+use woven::{decode_woven, unweave, weave};
 
 /// The code with a length that the questions found, or the refusal.
 type Allowed = Result<(&'static Code, usize), Answer>;
 
-/// The three calls of the C interface, answered by this module.
-pub const CALLS: Calls = Calls { name: "plain Rust", encode, decode, marks };
+/// The calls of the C interface, answered by this module.
+pub const CALLS: Calls =
+    Calls { name: "plain Rust", encode, decode, marks, weave, unweave, decode_woven };
 
 /// Writes the transmission of a message.
 fn encode(setting: u64, message: &[u8], transmission: &mut [u8]) -> Answer {
@@ -34,15 +37,24 @@ fn decode(setting: u64, reception: &[u8], message: &mut [u8], transmission: &mut
         Err(refusal) => refusal,
         Ok((code, blocks)) => {
             let message = &mut message[..blocks * code.k];
-            let transmission = &mut transmission[..reception.len()];
-            match decoder::decode(code, reception, message, transmission) {
-                Some(altered) => Answer { altered: altered as u32, ..Answer::YES },
-                None => {
-                    message.fill(0);
-                    transmission.fill(0);
-                    Answer::no(7)
-                }
-            }
+            decode_frame(code, reception, message, &mut transmission[..reception.len()])
+        }
+    }
+}
+
+/// Question 7, past all others, with areas of just the bytes that are filled.
+fn decode_frame(
+    code: &Code,
+    reception: &[u8],
+    message: &mut [u8],
+    transmission: &mut [u8],
+) -> Answer {
+    match decoder::decode(code, reception, message, transmission) {
+        Some(altered) => Answer { altered: altered as u32, ..Answer::YES },
+        None => {
+            message.fill(0);
+            transmission.fill(0);
+            Answer::no(7)
         }
     }
 }
@@ -75,7 +87,7 @@ fn marks(setting: u64, reception: &[u8], transmission: &[u8], j: u64) -> Marks {
 
 /// Questions 1, 8, 3, 4, 6; then the code and the transmission's length.
 fn encode_questions(setting: u64, message: &[u8], area: usize) -> Allowed {
-    let code = Code::of(setting).ok_or(Answer::no(1))?;
+    let code = code_of(setting)?;
     if message.is_empty() || !message.len().is_multiple_of(code.k) {
         return Err(Answer::no(8));
     }
@@ -129,15 +141,25 @@ fn marks_questions(setting: u64, reception: &[u8], transmission: &[u8], j: u64) 
 
 /// Questions 1, 2, 3; then the code and T.
 fn reception_questions(setting: u64, reception: &[u8]) -> Allowed {
-    let code = Code::of(setting).ok_or(Answer::no(1))?;
-    let blocks = reception.len() / code.n;
-    if !reception.len().is_multiple_of(code.n) || blocks <= code.m {
+    let code = code_of(setting)?;
+    Ok((code, length_questions(code, reception.len())?))
+}
+
+/// Question 1; then the code.
+fn code_of(setting: u64) -> Result<&'static Code, Answer> {
+    Code::of(setting).ok_or(Answer::no(1))
+}
+
+/// Questions 2 and 3 of a reception of this length; then T.
+fn length_questions(code: &Code, length: usize) -> Result<usize, Answer> {
+    let blocks = length / code.n;
+    if !length.is_multiple_of(code.n) || blocks <= code.m {
         return Err(Answer::no(2));
     }
     if blocks - code.m > MAX_T {
         return Err(Answer::no(3));
     }
-    Ok((code, blocks - code.m))
+    Ok(blocks - code.m)
 }
 
 /// Question 4. The largest byte is found first, since that loop is a fast one.

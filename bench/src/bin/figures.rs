@@ -1,11 +1,12 @@
-//! Times encoding, clean decoding and decoding at the limit, and prints the figures as tables.
+//! Times encoding, clean decoding, decoding at the limit, weaving and the decoding of woven frames, and
+//! prints the figures as tables.
 
 #[cfg(archive)]
 use orderlink_bench::archive;
 use orderlink_bench::baseline;
 use orderlink_bench::calls::{Answer, Calls};
 use orderlink_bench::oracle::{transmission, Setting, SETTINGS};
-use orderlink_bench::sample::{damage_evenly, Random};
+use orderlink_bench::sample::{damage_evenly, damage_run, woven, Random};
 use std::hint::black_box;
 use std::time::Instant;
 
@@ -19,6 +20,9 @@ const IMPLEMENTATIONS: &[Calls] = &[
 /// T of the orders that are timed.
 const LENGTHS: [usize; 3] = [8, 64, 512];
 
+/// D of the frames that are woven.
+const FRAMES: usize = 4;
+
 /// Information blocks in one batch, whatever the length of its orders.
 const BATCH_BLOCKS: usize = 4096;
 
@@ -30,6 +34,8 @@ enum Work {
     Encode,
     DecodeClean,
     DecodeAtLimit,
+    Weave,
+    DecodeWoven,
 }
 
 const WORKS: [(Work, &str); 3] = [
@@ -38,7 +44,22 @@ const WORKS: [(Work, &str); 3] = [
     (Work::DecodeAtLimit, "decode, at the limit"),
 ];
 
-/// A message, what is sent of it and what is received.
+/// The same of D woven frames; a run of D × t symbols is altered.
+const WOVEN_WORKS: [(Work, &str); 2] =
+    [(Work::Weave, "weave, D = 4"), (Work::DecodeWoven, "decode, D = 4 woven, a run altered")];
+
+impl Work {
+    /// How many frames one call takes.
+    fn frames(self) -> usize {
+        if matches!(self, Work::Weave | Work::DecodeWoven) {
+            FRAMES
+        } else {
+            1
+        }
+    }
+}
+
+/// A message, what is sent of it and what is received; or D of them, the received ones woven.
 struct Order {
     message: Vec<u8>,
     transmission: Vec<u8>,
@@ -73,9 +94,11 @@ fn main() {
 /// Every setting, call and length in the order of the tables.
 fn rows() -> Vec<Row> {
     let mut rows = Vec::new();
-    for setting in &SETTINGS {
-        for (work, call) in WORKS {
-            rows.extend(LENGTHS.map(|blocks| Row::new(setting, work, call, blocks)));
+    for works in [&WORKS[..], &WOVEN_WORKS] {
+        for setting in &SETTINGS {
+            for &(work, call) in works {
+                rows.extend(LENGTHS.map(|blocks| Row::new(setting, work, call, blocks)));
+            }
         }
     }
     rows
@@ -84,16 +107,17 @@ fn rows() -> Vec<Row> {
 impl Row {
     fn new(setting: &'static Setting, work: Work, call: &'static str, blocks: usize) -> Row {
         let random = &mut Random::new(blocks as u64);
+        let frames = work.frames();
         Row {
             setting,
             work,
             call,
             blocks,
-            orders: (0..BATCH_BLOCKS / blocks)
+            orders: (0..BATCH_BLOCKS / blocks / frames)
                 .map(|_| Order::new(random, setting, work, blocks))
                 .collect(),
-            message: vec![0; setting.message_length(blocks)],
-            transmission: vec![0; setting.transmission_length(blocks)],
+            message: vec![0; frames * setting.message_length(blocks)],
+            transmission: vec![0; frames * setting.transmission_length(blocks)],
             times: vec![Vec::new(); IMPLEMENTATIONS.len()],
         }
     }
@@ -105,9 +129,13 @@ impl Row {
             self.transmission.fill(0xff);
             let answer = self.call(calls, i);
             let order = &self.orders[i];
+            let written = (&self.message, &self.transmission);
             let right = answer.number == 0
-                && self.transmission == order.transmission
-                && (self.work == Work::Encode || self.message == order.message);
+                && match self.work {
+                    Work::Encode => *written.1 == order.transmission,
+                    Work::Weave => *written.1 == order.reception,
+                    _ => written == (&order.message, &order.transmission),
+                };
             assert!(right, "{}: setting {}, {}", calls.name, self.setting.number, self.call);
         }
     }
@@ -137,6 +165,16 @@ impl Row {
                 let reception = black_box(&orders[i].reception);
                 (calls.decode)(setting.number, reception, message, transmission)
             }
+            Work::Weave => {
+                let frames = black_box(&orders[i].transmission);
+                (calls.weave)(setting.number, FRAMES as u64, frames, transmission)
+            }
+            Work::DecodeWoven => {
+                let reception = black_box(&orders[i].reception);
+                let frames = FRAMES as u64;
+                (calls.decode_woven)(setting.number, frames, reception, message, transmission)
+                    .answer
+            }
         }
     }
 
@@ -152,15 +190,24 @@ impl Row {
 }
 
 impl Order {
-    /// A random message, received clean or with t altered symbols in every window.
+    /// Random messages, received clean, with t altered symbols in every window, or with a run of
+    /// altered symbols.
     fn new(random: &mut Random, setting: &Setting, work: Work, blocks: usize) -> Order {
-        let message = random.symbols(setting, setting.message_length(blocks));
-        let transmission = transmission(setting, &message);
-        let mut reception = transmission.clone();
-        if work == Work::DecodeAtLimit {
-            damage_evenly(random, setting, &mut reception, setting.t);
+        let frames = work.frames();
+        let message = |_| random.symbols(setting, setting.message_length(blocks));
+        let messages: Vec<Vec<u8>> = (0..frames).map(message).collect();
+        let sent: Vec<Vec<u8>> = messages.iter().map(|m| transmission(setting, m)).collect();
+        let mut reception = woven(&sent);
+        match work {
+            Work::DecodeAtLimit => damage_evenly(random, setting, &mut reception, setting.t),
+            Work::DecodeWoven => {
+                let start = random.below(reception.len() - frames * setting.t + 1);
+                let run = start..start + frames * setting.t;
+                damage_run(random, setting, &mut reception, run);
+            }
+            _ => {}
         }
-        Order { message, transmission, reception }
+        Order { message: messages.concat(), transmission: sent.concat(), reception }
     }
 }
 

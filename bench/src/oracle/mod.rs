@@ -6,6 +6,7 @@ mod lines;
 mod questions;
 mod search;
 mod sending;
+mod weaving;
 
 pub use definition::{Setting, SETTINGS};
 pub use lines::line;
@@ -13,6 +14,8 @@ pub use sending::transmission;
 
 use crate::calls::Calls;
 use questions::{decode, encode, marks};
+use weaving::{decode_woven, unweave, weave};
 
-/// The three calls of the C interface, answered by definition and search.
-pub const CALLS: Calls = Calls { name: "search", encode, decode, marks };
+/// The calls of the C interface, answered by definition and search.
+pub const CALLS: Calls =
+    Calls { name: "search", encode, decode, marks, weave, unweave, decode_woven };

@@ -35,7 +35,7 @@ pub fn decode(
     message_area: &mut [u8],
     transmission_area: &mut [u8],
 ) -> Answer {
-    let (setting, blocks) = match reception_questions(number, reception) {
+    let (setting, blocks) = match reception_questions(number, reception.len()) {
         Err(refusal) => return refusal,
         Ok(found) => found,
     };
@@ -69,7 +69,7 @@ pub fn decode(
 /// Questions 1, 2, 3, 12, 13; then a mark for each difference in window j.
 pub fn marks(number: u64, reception: &[u8], transmission: &[u8], j: u64) -> Marks {
     let refused = |answer| Marks { answer, marks: 0, set: 0 };
-    let (setting, blocks) = match reception_questions(number, reception) {
+    let (setting, blocks) = match reception_questions(number, reception.len()) {
         Err(refusal) => return refused(refusal),
         Ok(found) => found,
     };
@@ -90,13 +90,16 @@ pub fn marks(number: u64, reception: &[u8], transmission: &[u8], j: u64) -> Mark
     marks
 }
 
-/// Questions 1, 2, 3; then the setting and T.
-fn reception_questions(number: u64, reception: &[u8]) -> Result<(&'static Setting, usize), Answer> {
+/// Questions 1, 2, 3 of a reception of this length; then the setting and T.
+pub fn reception_questions(
+    number: u64,
+    length: usize,
+) -> Result<(&'static Setting, usize), Answer> {
     let setting = Setting::of(number).ok_or(Answer::no(1))?;
-    if !reception.len().is_multiple_of(setting.n) || reception.len() < setting.window_length() {
+    if !length.is_multiple_of(setting.n) || length < setting.window_length() {
         return Err(Answer::no(2));
     }
-    let blocks = reception.len() / setting.n - setting.m;
+    let blocks = length / setting.n - setting.m;
     if blocks > 512 {
         return Err(Answer::no(3));
     }
@@ -104,6 +107,6 @@ fn reception_questions(number: u64, reception: &[u8]) -> Result<(&'static Settin
 }
 
 /// Question 4's place.
-fn first_wrong_symbol(setting: &Setting, symbols: &[u8]) -> Option<usize> {
+pub fn first_wrong_symbol(setting: &Setting, symbols: &[u8]) -> Option<usize> {
     symbols.iter().position(|&symbol| symbol >= setting.q)
 }

@@ -1,15 +1,50 @@
 //! One call of the C interface, made on lent areas with guard bytes round them.
 
-use orderlink_bench::calls::{Answer, Calls, Marks};
+use orderlink_bench::calls::{Answer, Calls, Marks, Woven};
 use orderlink_bench::sample::Random;
 use std::ops::Range;
 
 /// A call's input: numbers, and what the lent areas hold before it.
 #[derive(Debug)]
 pub enum Call {
-    Encode { setting: u64, message: Vec<u8>, transmission: Vec<u8> },
-    Decode { setting: u64, reception: Vec<u8>, message: Vec<u8>, transmission: Vec<u8> },
-    Marks { setting: u64, reception: Vec<u8>, transmission: Vec<u8>, j: u64 },
+    Encode {
+        setting: u64,
+        message: Vec<u8>,
+        transmission: Vec<u8>,
+    },
+    Decode {
+        setting: u64,
+        reception: Vec<u8>,
+        message: Vec<u8>,
+        transmission: Vec<u8>,
+    },
+    Marks {
+        setting: u64,
+        reception: Vec<u8>,
+        transmission: Vec<u8>,
+        j: u64,
+    },
+    Weave {
+        way: Way,
+        setting: u64,
+        frames: u64,
+        incoming: Vec<u8>,
+        out: Vec<u8>,
+    },
+    DecodeWoven {
+        setting: u64,
+        frames: u64,
+        reception: Vec<u8>,
+        message: Vec<u8>,
+        transmission: Vec<u8>,
+    },
+}
+
+/// Weaving, or its undoing.
+#[derive(Clone, Copy, Debug)]
+pub enum Way {
+    Weave,
+    Unweave,
 }
 
 /// A call's answer, and what the areas that it may write hold after it.
@@ -18,6 +53,8 @@ pub enum Outcome {
     Encoded { answer: Answer, transmission: Vec<u8> },
     Decoded { answer: Answer, message: Vec<u8>, transmission: Vec<u8> },
     Marked(Marks),
+    Woven { answer: Answer, out: Vec<u8> },
+    DecodedWoven { woven: Woven, message: Vec<u8>, transmission: Vec<u8> },
 }
 
 impl Call {
@@ -47,15 +84,39 @@ impl Call {
                 transmission.assert_unchanged();
                 Outcome::Marked(marks)
             }
+            Call::Weave { way, setting, frames, incoming, out } => {
+                let (incoming, mut out) = (lend(incoming), lend(out));
+                let call = match way {
+                    Way::Weave => calls.weave,
+                    Way::Unweave => calls.unweave,
+                };
+                let answer = call(*setting, *frames, incoming.bytes(), out.bytes_mut());
+                incoming.assert_unchanged();
+                Outcome::Woven { answer, out: out.taken_back() }
+            }
+            Call::DecodeWoven { setting, frames, reception, message, transmission } => {
+                let reception = lend(reception);
+                let (mut message, mut transmission) = (lend(message), lend(transmission));
+                let areas = (message.bytes_mut(), transmission.bytes_mut());
+                let received = reception.bytes();
+                let woven = (calls.decode_woven)(*setting, *frames, received, areas.0, areas.1);
+                reception.assert_unchanged();
+                let (message, transmission) = (message.taken_back(), transmission.taken_back());
+                Outcome::DecodedWoven { woven, message, transmission }
+            }
         }
     }
 }
 
 impl Outcome {
-    pub fn answer(&self) -> Answer {
+    /// The call's answer, then those of its frames.
+    pub fn answers(&self) -> Vec<Answer> {
         match self {
-            Outcome::Encoded { answer, .. } | Outcome::Decoded { answer, .. } => *answer,
-            Outcome::Marked(marks) => marks.answer,
+            Outcome::Encoded { answer, .. }
+            | Outcome::Decoded { answer, .. }
+            | Outcome::Woven { answer, .. } => vec![*answer],
+            Outcome::Marked(marks) => vec![marks.answer],
+            Outcome::DecodedWoven { woven, .. } => [&[woven.answer], &woven.frame[..]].concat(),
         }
     }
 }

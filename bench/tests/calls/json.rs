@@ -1,4 +1,4 @@
-//! A reader for the JSON of the vectors: objects, strings without escapes, and whole numbers.
+//! A reader for the JSON of the vectors: objects, lists, strings without escapes, whole numbers.
 
 use std::collections::HashMap;
 
@@ -6,6 +6,7 @@ pub enum Value {
     Text(String),
     Number(u64),
     Object(HashMap<String, Value>),
+    List(Vec<Value>),
 }
 
 impl Value {
@@ -31,6 +32,13 @@ impl Value {
         }
     }
 
+    pub fn list(&self, name: &str) -> &[Value] {
+        match self.get(name) {
+            Value::List(values) => values,
+            _ => panic!("{name} is no list"),
+        }
+    }
+
     /// The bytes that a string writes in hexadecimal.
     pub fn bytes(&self, name: &str) -> Vec<u8> {
         let digits: Vec<u32> = self.text(name).chars().map(|c| c.to_digit(16).unwrap()).collect();
@@ -50,6 +58,7 @@ fn value(text: &str) -> (Value, &str) {
     let text = text.trim_start();
     match text.as_bytes()[0] {
         b'{' => object(&text[1..]),
+        b'[' => list(&text[1..]),
         b'"' => {
             let (string, rest) = string(text);
             (Value::Text(string), rest)
@@ -72,6 +81,20 @@ fn object(mut text: &str) -> (Value, &str) {
         let (name, rest) = string(text.strip_prefix(',').unwrap_or(text).trim_start());
         let (member, rest) = value(rest.trim_start().strip_prefix(':').expect("a colon"));
         members.insert(name, member);
+        text = rest;
+    }
+}
+
+/// Reads the values of a list, from after its opening bracket.
+fn list(mut text: &str) -> (Value, &str) {
+    let mut values = Vec::new();
+    loop {
+        text = text.trim_start();
+        if let Some(rest) = text.strip_prefix(']') {
+            return (Value::List(values), rest);
+        }
+        let (member, rest) = value(text.strip_prefix(',').unwrap_or(text));
+        values.push(member);
         text = rest;
     }
 }

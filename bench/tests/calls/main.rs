@@ -1,4 +1,4 @@
-//! The three calls of the C interface: every implementation gives the right answer and leaves the
+//! The calls of the C interface: every implementation gives the right answer and leaves the
 //! right bytes in the areas lent to it and round them.
 
 mod call;
@@ -6,11 +6,12 @@ mod cases;
 mod json;
 mod orders;
 mod stored;
+mod woven;
 
 #[cfg(archive)]
 use orderlink_bench::archive;
 use orderlink_bench::baseline;
-use orderlink_bench::calls::Calls;
+use orderlink_bench::calls::{Calls, MOST_FRAMES};
 use orderlink_bench::oracle::{self, SETTINGS};
 use orderlink_bench::sample::Random;
 
@@ -53,7 +54,7 @@ fn assert_searched(
             let call = case(random, longest);
             let right = call.make(random, &SEARCH);
             OTHERS.iter().for_each(|calls| assert_outcome(random, calls, &call, &right));
-            seen.insert(right.answer().number);
+            seen.extend(right.answers().iter().map(|answer| answer.number));
         }
     }
     assert_eq!(seen, BTreeSet::from_iter(numbers.iter().copied()));
@@ -111,6 +112,41 @@ fn no_settings() {
 }
 
 #[test]
+fn runs_at_the_limit() {
+    assert_struck(0);
+}
+
+#[test]
+fn runs_beyond_the_limit() {
+    assert_struck(1);
+}
+
+/// Woven frames of every setting and D, hit by a run of D × t altered symbols and so many more.
+fn assert_struck(more: usize) {
+    let random = &mut Random::new(6);
+    for setting in &SETTINGS {
+        for frames in 2..=MOST_FRAMES {
+            assert_known(woven::struck(random, setting, frames, more));
+        }
+    }
+}
+
+#[test]
+fn longest_woven_frames() {
+    assert_known(woven::longest());
+}
+
+#[test]
+fn refused_woven_frames() {
+    for setting in &SETTINGS {
+        for frames in 2..=MOST_FRAMES {
+            let none = (&cases::NO_SETTINGS, &cases::NO_FRAMES);
+            assert_known(woven::refused(setting, frames, none.0, none.1));
+        }
+    }
+}
+
+#[test]
 fn random_short_decodings() {
     assert_searched(cases::decode, &[(400_000, 6)], &[0, 1, 2, 4, 5, 6, 7]);
 }
@@ -129,6 +165,17 @@ fn random_encodings() {
 #[test]
 fn random_markings() {
     assert_searched(cases::marks, &[(150_000, 24), (3_000, 520)], &[0, 1, 2, 3, 12, 13]);
+}
+
+#[test]
+fn random_weavings() {
+    assert_searched(cases::weave, &[(60_000, 12), (2_000, 520)], &[0, 1, 2, 3, 4, 6, 14, 15]);
+}
+
+#[test]
+fn random_woven_decodings() {
+    let counts = [(60_000, 5), (10_000, 24), (1_000, 520)];
+    assert_searched(cases::decode_woven, &counts, &[0, 1, 2, 3, 4, 5, 6, 7, 14, 15]);
 }
 
 /// Window j, which C has no call for: the right part, and a part of the caller's own reception.

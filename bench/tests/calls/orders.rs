@@ -7,10 +7,10 @@ use orderlink_bench::calls::{Answer, Marks};
 use orderlink_bench::oracle::{transmission, Setting, SETTINGS};
 use orderlink_bench::sample::{alter, damage_closing, damage_evenly, damage_up_to, Random};
 
-type Known = (Call, Outcome);
+pub type Known = (Call, Outcome);
 
 /// What the areas that a call may write hold before it.
-const UNUSED: u8 = 0xee;
+pub const UNUSED: u8 = 0xee;
 
 /// The ten starred orders.
 pub fn starred() -> Vec<Known> {
@@ -177,7 +177,7 @@ fn random_order(random: &mut Random, setting: &Setting) -> (Vec<u8>, Vec<u8>) {
 }
 
 /// The altered count: closing blocks do not count.
-fn altered(setting: &Setting, sent: &[u8], reception: &[u8]) -> usize {
+pub fn altered(setting: &Setting, sent: &[u8], reception: &[u8]) -> usize {
     let closing = sent.len() - setting.m * setting.n;
     (0..closing).filter(|&place| sent[place] != reception[place]).count()
 }
@@ -223,7 +223,7 @@ fn marking(setting: u64, reception: Vec<u8>, sent: Vec<u8>, j: u64, marks: Marks
     (call, Outcome::Marked(marks))
 }
 
-fn yes(altered: usize) -> Answer {
+pub fn yes(altered: usize) -> Answer {
     Answer { altered: altered as u32, ..Answer::YES }
 }
 

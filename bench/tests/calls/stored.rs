@@ -1,8 +1,8 @@
 //! The stored calls, each with its right outcome (tests/vectors).
 
-use crate::call::{Call, Outcome};
+use crate::call::{Call, Outcome, Way};
 use crate::json::{self, Value};
-use orderlink_bench::calls::{Answer, Marks};
+use orderlink_bench::calls::{Answer, Marks, Woven};
 
 pub const LINES: &str = include_str!("../../../tests/vectors/calls.jsonl");
 
@@ -50,8 +50,28 @@ fn call(line: &Value) -> Option<(Call, Outcome)> {
             let (marks, set) = (result.number("marks"), result.number("ones") as u32);
             Some((call, Outcome::Marked(Marks { answer, marks, set })))
         }
+        "weave" => Some(weaving(Way::Weave, args.bytes("frames"), args, result)),
+        "unweave" => Some(weaving(Way::Unweave, args.bytes("woven"), args, result)),
+        "decode_woven" => {
+            let (frames, reception) = (args.number("D"), args.bytes("woven"));
+            let (message, transmission) = (args.bytes("marea"), args.bytes("tarea"));
+            let call = Call::DecodeWoven { setting, frames, reception, message, transmission };
+            let mut woven = Woven { answer, ..Woven::default() };
+            for (frame, stored) in woven.frame.iter_mut().zip(result.list("frames")) {
+                *frame = answer_of(stored);
+            }
+            let (message, transmission) = (result.bytes("message"), result.bytes("transmission"));
+            Some((call, Outcome::DecodedWoven { woven, message, transmission }))
+        }
         _ => None,
     }
+}
+
+/// A call that weaves or unweaves the incoming area.
+fn weaving(way: Way, incoming: Vec<u8>, args: &Value, result: &Value) -> (Call, Outcome) {
+    let (setting, frames) = (args.number("number"), args.number("D"));
+    let call = Call::Weave { way, setting, frames, incoming, out: args.bytes("area") };
+    (call, Outcome::Woven { answer: answer(result), out: result.bytes("area") })
 }
 
 fn window(line: &Value) -> Option<Window> {
@@ -67,7 +87,10 @@ fn window(line: &Value) -> Option<Window> {
 }
 
 fn answer(result: &Value) -> Answer {
-    let answer = result.get("answer");
+    answer_of(result.get("answer"))
+}
+
+fn answer_of(answer: &Value) -> Answer {
     Answer {
         number: answer.number("number") as u32,
         altered: answer.number("count") as u32,

@@ -1,7 +1,7 @@
 -- Totals of numbers, counts of the places at which a test holds, and weights of sequences over a field.
 -- Holds: `total-ext`, `total-mono`, `total-most`, `total-add`, `total-scale`, `total-split`, `total-part`, `total-blocks`; `countOf-ext`, `one-le`,
 -- `countOf-le`, `countOf-mono`, `countOf-without`; `zero-test`, `nonzero-test`, `zero-uncounted`, `weight-short`;
--- `distance-le`; `total-none`, `total-same`, `total-more` (as a loop adds up).
+-- `distance-le`, `distance-run`; `total-none`, `total-same`, `total-more` (as a loop adds up).
 use mathlib.Core.Path.{_≡_, refl, sym, ap, ap₂, subst, _∙_}
 use mathlib.Core.Bool.{Bool, true, false, not, _&&_}
 use Prim.Native.Nat.{ℕ, zero, suc, _+_, _-_, _*_, _≤_, _<_}
@@ -159,3 +159,23 @@ module _ (f : ℕ → ℕ) where
 -- Sequences differ in no more symbols than they have.
 pub distance-le : {r : ℕ} (n : ℕ) (a b : ℕ → ℕ) → r ≡ distance n a b → r ≤ n
 distance-le n a b e = subst (λ (t : ℕ). t ≤ n) (sym e) (countOf-le n (λ i. not (eqb (a i) (b i))))
+
+-- Sequences that are the same outside a run of places differ in no more symbols than the run has.
+pub distance-run : (n start run : ℕ) (a b : ℕ → ℕ) → ((i : ℕ) → i < n → i < start → a i ≡ b i) → ((i : ℕ) → i < n → start + run ≤ i → a i ≡ b i)
+    → distance n a b ≤ run
+unfolding total
+distance-run zero start run a b before after = omega arith
+distance-run (suc n) start run a b before after =
+    at (decLt n start) (decLt n (start + run)) (distance-run n start run a b (λ i l. before i (omega arith)) (λ i l. after i (omega arith)))
+    (distance-run n start (n - start) a b (λ i l. before i (omega arith)) (λ i l h. absurd (omega arith)))
+  where
+    same : a n ≡ b n → distance n a b ≤ run → distance n a b + pick (not (eqb (a n) (b n))) 1 0 ≤ run
+    same e rest =
+        let none : _≡_ {A = ℕ} (pick (not (eqb (a n) (b n))) 1 0) 0 = ap {B = ℕ} (λ (t : Bool). pick (not t) 1 0) (eq-eqb (a n) (b n) e) in
+        omega arith
+
+    at : Dec (n < start) → Dec (n < start + run) → distance n a b ≤ run → distance n a b ≤ n - start
+        → distance n a b + pick (not (eqb (a n) (b n))) 1 0 ≤ run
+    at (yes l) _ rest inside = same (before n (omega arith) l) rest
+    at (no d) (no far) rest inside = same (after n (omega arith) (omega arith)) rest
+    at (no d) (yes l) rest inside = omega (arith, one-le (not (eqb (a n) (b n))))

@@ -1,6 +1,6 @@
 -- Lists as blocks: tabulated lists, symbols of a list, equal parts.
--- Holds: `length-tabulate`, `getD-tabulate`, `view-tabulate`, `getD-zeros`, `equal-part`, `part-equal`, `copied-whole`;
--- `filled`, `stored` (a loop that fills places); `place-in-blocks`, `window-view` (places by block and symbol).
+-- Holds: `length-tabulate`, `getD-tabulate`, `tabulated`, `view-tabulate`, `getD-zeros`, `equal-part`, `part-equal`, `copied-whole`;
+-- `filled`, `stored` (a loop that fills places); `place-in-blocks`, `equal-blocks`, `window-view` (places by block and symbol).
 use mathlib.Core.Path.{_≡_, refl, sym, ap, ap₂, _∙_, subst}
 use mathlib.Core.List.{List, _++_, append-nil}
 use Prim.Native.Nat.{ℕ, zero, suc, _+_, _*_, _/_, _%_, _≤_, _<_}
@@ -22,6 +22,12 @@ unfolding tabulate
 getD-tabulate zero f i d l = absurd (omega arith)
 getD-tabulate (suc n) f zero d l = refl
 getD-tabulate (suc n) f (suc i) d l = getD-tabulate n (λ i. f (suc i)) i d (omega arith)
+
+-- A list whose symbols are known is tabulated.
+pub tabulated : (l : List ℕ) (n : ℕ) (f : ℕ → ℕ) → length l ≡ n → ((i : ℕ) → i < n → getD l i 0 ≡ f i) → l ≡ tabulate n f
+tabulated l n f long h =
+    ext-getD 0 l (tabulate n f) (long ∙ sym (length-tabulate n f))
+    (λ i below. let within : i < n = omega (arith, long) in h i within ∙ sym (getD-tabulate n f i 0 within))
 
 -- Symbol i of block s of a tabulated frame.
 pub view-tabulate : (blocks w : ℕ) (f : ℕ → ℕ → ℕ) (s i : ℕ) → s < blocks → i < w
@@ -75,6 +81,20 @@ stored l place f = filled 0 l place (λ a x. x ≡ f a)
 -- A place of a list of blocks of w symbols is a block and a symbol of it.
 pub place-in-blocks : (j i w : ℕ) → 1 ≤ w → i < j * w → (i / w < j) × (i % w < w) × (i / w * w + i % w ≡ i)
 place-in-blocks j i w h l = (div-lt-iff-lt-mul h .1 l, mod-lt i h, div-add-mod' i w)
+
+-- Where there is a place, a block has symbols.
+blocks-hold : (j i w : ℕ) → i < j * w → 1 ≤ w
+blocks-hold j i zero l = absurd (omega arith)
+blocks-hold j i (suc w) l = omega arith
+
+-- Lists of j blocks of w symbols that agree symbol by symbol of every block.
+pub equal-blocks : (j w : ℕ) (a b : List ℕ) → length a ≡ j * w → length b ≡ j * w → ((s i : ℕ) → s < j → i < w → view w a s i ≡ view w b s i) → a ≡ b
+equal-blocks j w a b la lb h =
+    ext-getD 0 a b (la ∙ sym lb)
+    (λ i l.
+    let within : i < j * w = omega (arith, la) in
+    let place = place-in-blocks j i w (blocks-hold j i w within) within in
+    subst (λ (t : ℕ). getD a t 0 ≡ getD b t 0) (place .2) (h (i / w) (i % w) (place .0) (place .1)))
 
 -- Symbol i of block s of window j of a list of blocks.
 pub window-view : (n m : ℕ) (list : List ℕ) (j s i : ℕ) → s ≤ m → i < n

@@ -48,7 +48,7 @@ advanced-some : {p : Setting} {T : ℕ} {reception : List ℕ} {j : ℕ} {messag
 advanced-some {p} {T} {reception} {j} {message} {residual} count some settled =
     subst (Advanced p T reception j message residual) (sym (lt-ltb 0 count some)) (advanced settled)
 
-module _ {p : Setting} (S : Sound p) {T : ℕ} {reception : List ℕ} (R : Symbols (p .q) reception) (long : length reception ≡ (T + p .m) * p .n)
+module _ {p : Setting} (S : Sound p) {T : ℕ} {reception : List ℕ} (R : Symbols (p .q) reception)
     {j : ℕ} {message residual : List ℕ} (P : Settled p T reception j message residual) (l : j < T) where
   abbrev window : List ℕ
   window = take (j * p .n + windowLength p - j * p .n) (drop (j * p .n) residual)
@@ -63,14 +63,14 @@ module _ {p : Setting} (S : Sound p) {T : ℕ} {reception : List ℕ} (R : Symbo
       → Advanced p T reception i message' residual' false
   advance-none (served found some few area first) e = absurd (omega arith)
   advance-none (none-serves far) e =
-      stopped (settled-none p S T reception R long j message residual P l
+      stopped (settled-none p S T reception R j message residual P l
       (λ y Y near. far y Y (subst (λ (w : List ℕ). Near p w (p .m) y) (sym same-window) near)))
 
   -- The residual of the window is light: the guess of its first block is right.
   pub advance-clean : length window ≡ windowLength p → {cost : ℕ} → cost ≡ zeroCost (p .q) window → cost < distancesTo (p .n) (p .k) (p .m)
       → Advanced p T reception (j + 1) message residual (ltb 0 (p .m + 1))
   advance-clean long-window counted few =
-      advanced-some (p .m + 1) (omega arith) (settled-found p S T reception R long j message residual P (λ r. 0) message residual l
+      advanced-some (p .m + 1) (omega arith) (settled-found p S T reception R j message residual P (λ r. 0) message residual l
       (λ y Y near r u. window-clean p S window long-window (omega arith) y Y (subst (λ (w : List ℕ). Near p w (p .m) y) (sym same-window) near) r u)
       (added-zero S (P .areas) (λ r. refl)))
 
@@ -79,7 +79,7 @@ module _ {p : Setting} (S : Sound p) {T : ℕ} {reception : List ℕ} (R : Symbo
       → Added p T j (λ r. getD information r 0) message residual message' residual'
       → Advanced p T reception (j + 1) message' residual' (ltb 0 found)
   advance-found {information = information} {message' = message'} {residual' = residual'} (served found some few area first) e D =
-      advanced-some found some (settled-found p S T reception R long j message residual P (λ r. getD information r 0) message' residual' l
+      advanced-some found some (settled-found p S T reception R j message residual P (λ r. getD information r 0) message' residual' l
       (λ y Y near r u. first y Y (subst (λ (w : List ℕ). Near p w (p .m) y) (sym same-window) near) r u) D)
   advance-found (none-serves far) e D = absurd (e refl)
 

@@ -1,6 +1,5 @@
 -- How far the guess is settled: at the start, after other guesses, once block j was found; or that no message fits.
--- Holds: `settled-start`, `near-of-fits`, `fits-below`, `settled-none`, `settled-revised`, `settled-found`; `settled-begun` (an empty message, and the
--- reception itself as its residual).
+-- Holds: `settled-start`, `near-of-fits`, `fits-below`, `settled-none`, `settled-revised`, `settled-found`.
 use mathlib.Core.Path.{_≡_, sym, ap, subst, _∙_}
 use mathlib.Core.List.{List, _++_}
 use Prim.Native.Nat.{ℕ, _+_, _-_, _*_, _≤_, _<_}
@@ -9,7 +8,7 @@ use native.Mathlib.Omega.{arith}
 use native.Mathlib.Decide.{decLt}
 use lib.ListN.{length, getD, replicate, length-replicate, take, drop}
 use Rattle.algebra.specs.Ops.{sub}
-use Rattle.area.proofs.Lists.{getD-zeros, copied-whole}
+use Rattle.area.proofs.Lists.{getD-zeros}
 use Rattle.field.specs.Fields.{opsOf}
 use Rattle.field.specs.Symbols.{Symbols}
 use Rattle.field.proofs.Symbols.{symbol-below, symbols-zeros}
@@ -25,12 +24,13 @@ use Rattle.code.proofs.ResidualSteps.{residual-start}
 use Rattle.frame.specs.parts.Window.{Near}
 use Rattle.frame.specs.parts.Frame.{Settled, Revised, Added, NoneFits}
 
-module _ (p : Setting) (S : Sound p) (T : ℕ) (reception : List ℕ) (R : Symbols (p .q) reception) (long : length reception ≡ (T + p .m) * p .n) where
+module _ (p : Setting) (S : Sound p) (T : ℕ) (reception : List ℕ) (R : Symbols (p .q) reception) where
   received : (i : ℕ) → getD reception i 0 < p .q
   received = symbol-below (p .q) reception R (positive p S)
 
-  pub settled-start : (message : List ℕ) → message ≡ replicate (T * p .k) 0 → Settled p T reception 0 message reception
-  settled-start message e =
+  -- An empty message, and the reception itself as its residual.
+  pub settled-start : length reception ≡ (T + p .m) * p .n → (message : List ℕ) → message ≡ replicate (T * p .k) 0 → Settled p T reception 0 message reception
+  settled-start long message e =
       record {
         areas = record {
           message-long = ap length e ∙ length-replicate (T * p .k) 0;
@@ -105,11 +105,3 @@ module _ (p : Setting) (S : Sound p) (T : ℕ) (reception : List ℕ) (R : Symbo
               (sym (ahead-first x r) ∙ first (ahead p x message j) (fits-below x F) (near-of-fits l x F) r u)
               ∙ sym (D .symbol r l u));
         }
-
-pub settled-begun : (p : Setting) → Sound p → (T : ℕ) (reception area cleared message after : List ℕ) → Symbols (p .q) reception
-    → length reception ≡ (T + p .m) * p .n
-    → length message ≡ T * p .k → cleared ≡ replicate (length message) 0 → length area ≡ length reception
-    → after ≡ take (length reception) reception ++ drop (length reception) area → Settled p T reception 0 cleared after
-settled-begun p S T reception area cleared message after R long room empty same copied =
-    subst (λ (t : List ℕ). Settled p T reception 0 cleared t) (sym (copied-whole reception area after same copied))
-    (settled-start p S T reception R long cleared (empty ∙ ap (λ (t : ℕ). replicate t 0) room))

@@ -8,7 +8,7 @@ ghost use Rattle.code.specs.Code.{distancesTo};
 ghost use Rattle.code.specs.parts.Sound.{Sound};
 ghost use Rattle.tables.specs.parts.Rows.{Ready};
 ghost use Rattle.block.specs.parts.BlockAreas.{BlockAreas};
-ghost use Rattle.frame.specs.parts.Frame.{Settled, Advanced, Compared, FrameRead};
+ghost use Rattle.frame.specs.parts.Frame.{FrameAreas, Settled, Advanced, Turned, Compared, FrameRead};
 use code::Setting;
 use field::Products;
 
@@ -20,7 +20,6 @@ fn settle(
     rows: &[u8],
     bound: usize,
     blocks: usize,
-    reception: &[u8],
     j: usize,
     message: &mut [u8],
     residual: &mut [u8],
@@ -29,8 +28,8 @@ fn settle(
     values: &mut [u8],
     information: &mut [u8],
 ) -> usize
-    requires { ⌜ Ready p (now products) (now rows) × (bound ≡ distancesTo (p .n) (p .k) (p .m)) × (length (now reception) ≡ (blocks + p .m) * p .n) × Symbols (p .q) (now reception) × (j < blocks) × Settled p blocks (now reception) j (now message) (now residual) × BlockAreas p (now series) (now locator) (now values) (now information) ⌝ }
-    ensures { λ r. ⌜ Advanced p blocks (now (reception .entry)) (j + 1) (now (message .exit)) (now (residual .exit)) (ltb 0 r) ⌝ }
+    requires { ⌜ Ready p (now products) (now rows) × (bound ≡ distancesTo (p .n) (p .k) (p .m)) × (j < blocks) × FrameAreas p blocks (now message) (now residual) × BlockAreas p (now series) (now locator) (now values) (now information) ⌝ }
+    ensures { λ r. ⌜ Turned p blocks j (now (message .entry)) (now (residual .entry)) (now (message .exit)) (now (residual .exit)) (ltb 0 r) ⌝ }
 {
     let start = j * p.n;
     let end = start + (p.m + 1) * p.n;
@@ -64,7 +63,7 @@ fn settle(
     found
 }
 
-// The windows in turn: blocks of window j are guessed, and then block j is made certain. The next window begins one block later; of its blocks only those
+// The windows in turn, of a reception that is its own residual for an empty message: blocks of window j are guessed, and then block j is made certain. The next window begins one block later; of its blocks only those
 // after the settled ones are guessed, since only they can have changed or are new.
 fn read_windows(
     p: Setting,
@@ -72,7 +71,6 @@ fn read_windows(
     rows: &[u8],
     bound: usize,
     blocks: usize,
-    reception: &[u8],
     message: &mut [u8],
     residual: &mut [u8],
     series: &mut [u8],
@@ -80,8 +78,8 @@ fn read_windows(
     values: &mut [u8],
     information: &mut [u8],
 ) -> bool
-    requires { ⌜ Ready p (now products) (now rows) × (bound ≡ distancesTo (p .n) (p .k) (p .m)) × (length (now reception) ≡ (blocks + p .m) * p .n) × Symbols (p .q) (now reception) × Settled p blocks (now reception) 0 (now message) (now residual) × BlockAreas p (now series) (now locator) (now values) (now information) ⌝ }
-    ensures { λ r. ⌜ Advanced p blocks (now (reception .entry)) blocks (now (message .exit)) (now (residual .exit)) r ⌝ }
+    requires { ⌜ Ready p (now products) (now rows) × (bound ≡ distancesTo (p .n) (p .k) (p .m)) × Settled p blocks (now residual) 0 (now message) (now residual) × BlockAreas p (now series) (now locator) (now values) (now information) ⌝ }
+    ensures { λ r. ⌜ Advanced p blocks (now (residual .entry)) blocks (now (message .exit)) (now (residual .exit)) r ⌝ }
 {
     let scale = field::inverse(p.q, products, rows[0]);
     let mut j: usize = 0;
@@ -104,7 +102,6 @@ fn read_windows(
             rows,
             bound,
             blocks,
-            reception,
             j,
             message,
             residual,
@@ -144,13 +141,12 @@ fn compare_windows(p: Setting, blocks: usize, residual: &[u8], bound: usize) -> 
     true
 }
 
-// The message that fits the reception, and its residual; or false, if no message fits. The other areas are worked in.
+// The message that fits the reception that stands in the residual's place, and its residual; or false, if no message fits. The other areas are worked in.
 pub fn read(
     p: Setting,
     products: &Products,
     rows: &[u8],
     blocks: usize,
-    reception: &[u8],
     message: &mut [u8],
     residual: &mut [u8],
     series: &mut [u8],
@@ -158,20 +154,18 @@ pub fn read(
     values: &mut [u8],
     information: &mut [u8],
 ) -> bool
-    requires { ⌜ Ready p (now products) (now rows) × (1 ≤ blocks) × (length (now reception) ≡ (blocks + p .m) * p .n) × Symbols (p .q) (now reception) × (length (now message) ≡ blocks * p .k) × (length (now residual) ≡ length (now reception)) × BlockAreas p (now series) (now locator) (now values) (now information) ⌝ }
-    ensures { λ r. ⌜ FrameRead p blocks (now (reception .entry)) (now (message .exit)) (now (residual .exit)) r ⌝ }
+    requires { ⌜ Ready p (now products) (now rows) × (1 ≤ blocks) × (length (now message) ≡ blocks * p .k) × (length (now residual) ≡ (blocks + p .m) * p .n) × Symbols (p .q) (now residual) × BlockAreas p (now series) (now locator) (now values) (now information) ⌝ }
+    ensures { λ r. ⌜ FrameRead p blocks (now (residual .entry)) (now (message .exit)) (now (residual .exit)) r ⌝ }
 {
     let m = p.m;
     let bound = code::distances_to(p, m);
     area::clear(message);
-    bytes::copy(reception, residual);
     if !read_windows(
         p,
         products,
         rows,
         bound,
         blocks,
-        reception,
         message,
         residual,
         series,

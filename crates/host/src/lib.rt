@@ -1,4 +1,6 @@
-// The three functions that a C program calls (include/orderlink.h), thin over the proved library.
+// The functions that a C program calls (include/orderlink.h), thin over the proved library: the three of 01 here, those of 02 each in a module of its own.
+pub mod woven;
+
 ghost use Rattle.display.specs.Marks.{Marked};
 ghost use Rattle.link.specs.Encoding.{Encoded};
 ghost use Rattle.link.specs.Decoding.{Decoded};

@@ -1,12 +1,13 @@
 -- From what reading a frame promises to what decoding promises.
--- Holds: `restored-none`, `restored-more`; `frame-residual-symbols`, `frame-residual-long`, `frame-decoded-found`, `frame-decoded-none`; `Receiving`,
--- `receiving`; `decoded-refused`, `decoded-asked`.
+-- Holds: `restored-none`, `restored-more`; `answered-read`, `answered-none`, `answered-symbols`, `decoded-found`, `decoded-none`; `Receiving`, `receiving`;
+-- `decoded-refused`, `decoded-asked`; `decoded-alone`, `frame-alone`, in areas of just the right sizes.
 use mathlib.Core.Path.{_≡_, refl, sym, ap, subst, _∙_}
 use mathlib.Core.Bool.{Bool, true, false, not}
-use mathlib.Core.List.{List, _++_}
+use mathlib.Core.List.{List, _++_, append-nil}
 use Prim.Native.Nat.{ℕ, _+_, _*_, _≤_, _<_}
 use native.Mathlib.Omega.{arith}
-use lib.ListN.{length, getD, drop, set, replicate, length-set}
+use lib.Dec.{T as Passes}
+use lib.ListN.{length, getD, drop, set, replicate, length-set, drop-of-length-le}
 use lib.Seq.{ext-getD, getD-set-other}
 use Rattle.algebra.specs.Ops.{sub}
 use Rattle.algebra.proofs.Tests.{false-not-true}
@@ -15,17 +16,19 @@ use Rattle.area.proofs.Lists.{stored}
 use Rattle.field.specs.Fields.{opsOf}
 use Rattle.field.specs.Symbols.{Symbols}
 use Rattle.code.specs.declared.Setting.{Setting}
-use Rattle.code.specs.Settings.{settingOf}
+use Rattle.code.specs.Settings.{isSetting, settingOf}
 use Rattle.code.specs.parts.Sound.{Sound}
 use Rattle.code.specs.Windows.{transmission}
 use Rattle.code.proofs.CodeBelow.{transmission-length}
 use Rattle.code.proofs.Settings.{Sizes, sizesOf}
 use Rattle.question.specs.declared.Answer.{Answer}
 use Rattle.question.specs.Questions.{answer, firstNo, mostBlocks, blocksOf, decodingQuestions}
-use Rattle.question.proofs.Questions.{decoding-yes}
+use Rattle.question.proofs.Questions.{FrameShape, decoding-yes, decoding-all-yes}
+use Rattle.weave.specs.parts.Columns.{columnOf}
+use Rattle.weave.proofs.Weaving.{column-one}
 use Rattle.frame.specs.parts.Frame.{FrameRead, fits, none}
 use Rattle.frame.proofs.Ends.{end-altered, end-back}
-use Rattle.link.specs.parts.Restoring.{Restored}
+use Rattle.link.specs.parts.Restoring.{FrameAnswered, read, none-read, Restored}
 use Rattle.link.specs.Decoding.{FrameDecoded, found, none-fits, Decoded, refused, well-formed}
 
 module _ (q : ℕ) (reception before : List ℕ) where
@@ -43,31 +46,40 @@ module _ (q : ℕ) (reception before : List ℕ) where
         outside = λ a h. getD-set-other after i a v 0 (omega arith) ∙ R .outside a (omega arith);
       }
 
+not-seven : {a : Answer} → a ≡ answer 7 0 0 → a .number ≡ 0 → ⊥
+not-seven e z = let both : _≡_ {A = ℕ} 7 0 = ap (λ (t : Answer). t .number) (sym e) ∙ z in omega arith
+
 module _ {p : Setting} {T : ℕ} {reception message residual : List ℕ} where
-  -- What the frame's reader leaves, if it found a message..
-  pub frame-residual-symbols : {r : Bool} → FrameRead p T reception message residual r → not r ≡ false → Symbols (p .q) residual
-  frame-residual-symbols (fits F symbols long is-residual) h = symbols
-  frame-residual-symbols (none far) h = absurd (false-not-true (sym h))
+  -- What the frame's reader found, as an answer..
+  pub answered-read : {r : Bool} {weight : ℕ} → FrameRead p T reception message residual r → not r ≡ false → weight ≡ weightTo residual (T * p .n)
+      → FrameAnswered p T reception (answer 0 0 weight) message residual
+  answered-read (fits F symbols long is-residual) h counted = read (fits F symbols long is-residual) (ap (answer 0 0) counted)
+  answered-read (none far) h counted = absurd (false-not-true (sym h))
 
-  pub frame-residual-long : {r : Bool} → FrameRead p T reception message residual r → not r ≡ false → length residual ≡ length reception
-  frame-residual-long (fits F symbols long is-residual) h = long
-  frame-residual-long (none far) h = absurd (false-not-true (sym h))
+  pub answered-none : {r : Bool} {a : Answer} {cleared emptied : List ℕ} → FrameRead p T reception message residual r → not r ≡ true → a ≡ answer 7 0 0
+      → cleared ≡ replicate (T * p .k) 0 → emptied ≡ replicate ((T + p .m) * p .n) 0 → FrameAnswered p T reception a cleared emptied
+  answered-none (fits F symbols long is-residual) h e f g = absurd (false-not-true h)
+  answered-none (none far) h e f g = none-read far e f g
 
-  -- .. and if it found none.
-  pub frame-decoded-none : {r : Bool} {a : Answer} {cleared emptied : List ℕ} → FrameRead p T reception message residual r → not r ≡ true → a ≡ answer 7 0 0
-      → cleared ≡ replicate (T * p .k) 0 → emptied ≡ replicate ((T + p .m) * p .n) 0 → FrameDecoded p T reception a cleared emptied
-  frame-decoded-none (fits F symbols long is-residual) h e f g = absurd (false-not-true h)
-  frame-decoded-none (none far) h e f g = none-fits far e f g
+  -- .. and what an answer says: 0, and the residual is there; or another number, and no message fits.
+  module _ {a : Answer} where
+    pub answered-symbols : FrameAnswered p T reception a message residual → a .number ≡ 0 → Symbols (p .q) residual
+    answered-symbols (read (fits F symbols long is-residual) e) h = symbols
+    answered-symbols (none-read far e f g) h = absurd (not-seven e h)
 
-  pub frame-decoded-found : Sound p → {r : Bool} {restored : List ℕ} {weight : ℕ} → Symbols (p .q) reception → length reception ≡ (T + p .m) * p .n
-      → FrameRead p T reception message residual r → not r ≡ false → weight ≡ weightTo residual (T * p .n)
-      → Restored (p .q) (length residual) reception residual restored → FrameDecoded p T reception (answer 0 0 weight) message restored
-  frame-decoded-found S R long (none far) h counted back = absurd (false-not-true (sym h))
-  frame-decoded-found S {restored = restored} R long (fits F symbols same is-residual) h counted back =
-      found F (ap (answer 0 0) (counted ∙ sym (end-altered p S T reception message residual R (F .message-of) is-residual)))
-      (ext-getD 0 restored (transmission p message) (back .long ∙ (same ∙ (long ∙ sym (transmission-length p S T message (F .message-of)))))
-      (λ i l. back .inside i (omega (arith, back .long))
-      ∙ end-back p S T reception message residual R (F .message-of) is-residual i (omega (arith, back .long, same, long))))
+    pub decoded-none : FrameAnswered p T reception a message residual → (a .number ≡ 0 → ⊥) → FrameDecoded p T reception a message residual
+    decoded-none (read F e) h = absurd (h (ap (λ (t : Answer). t .number) e))
+    decoded-none (none-read far e f g) h = none-fits far e f g
+
+    pub decoded-found : Sound p → {restored : List ℕ} → Symbols (p .q) reception → length reception ≡ (T + p .m) * p .n
+        → FrameAnswered p T reception a message residual → a .number ≡ 0
+        → Restored (p .q) (length residual) reception residual restored → FrameDecoded p T reception a message restored
+    decoded-found S {restored} R long (none-read far e f g) h back = absurd (not-seven e h)
+    decoded-found S {restored} R long (read (fits F symbols same is-residual) e) h back =
+        found F (e ∙ ap (answer 0 0) (sym (end-altered p S T reception message residual R (F .message-of) is-residual)))
+        (ext-getD 0 restored (transmission p message) (back .long ∙ (same ∙ (long ∙ sym (transmission-length p S T message (F .message-of)))))
+        (λ i l. back .inside i (omega (arith, back .long))
+        ∙ end-back p S T reception message residual R (F .message-of) is-residual i (omega (arith, back .long, same, long))))
 
 -- What decoding knows of the setting p in hand and the reception, once questions 1 to 6 got "yes".
 pub record Receiving (p : Setting) (reception : List ℕ) (messageRoom transmissionRoom : ℕ) : Type 0 where
@@ -95,17 +107,53 @@ module _ (number : ℕ) (reception message transmitted : List ℕ) where
         transmission-room = known .transmission-room;
       })
 
+  -- A reception alone is one woven frame.
   pub decoded-asked : (p : Setting) → p ≡ settingOf number → firstNo (decodingQuestions number reception (length message) (length transmitted)) .number ≡ 0
-      → {r : Answer} {front sent : List ℕ} → FrameDecoded p (blocksOf p (length reception)) reception r front sent
+      → {r : Answer} {front sent : List ℕ} → FrameDecoded (settingOf number) (blocksOf p (length reception)) (columnOf 1 0 reception) r front sent
       → Decoded number reception message transmitted r (front ++ drop (blocksOf p (length reception) * p .k) message)
       (sent ++ drop ((blocksOf p (length reception) + p .m) * p .n) transmitted)
-  decoded-asked p e asked {r} {front} {sent} =
-      subst (λ (s : Setting). FrameDecoded s (blocksOf s (length reception)) reception r front sent
+  decoded-asked p e asked {r} {front} {sent} frame =
+      subst (λ (s : Setting). FrameDecoded (settingOf number) (blocksOf s (length reception)) reception r front sent
       → Decoded number reception message transmitted r (front ++ drop (blocksOf s (length reception) * s .k) message)
       (sent ++ drop ((blocksOf s (length reception) + s .m) * s .n) transmitted)) (sym e)
       (λ frame. well-formed asked
       (record { message-part = front; transmission-part = sent; decoded = frame; message-area = refl; transmission-area = refl }))
+      (subst (λ (l : List ℕ). FrameDecoded (settingOf number) (blocksOf p (length reception)) l r front sent) (column-one reception) frame)
 
   pub decoded-refused : (r : Answer) → r ≡ firstNo (decodingQuestions number reception (length message) (length transmitted)) → (r .number ≡ 0 → ⊥)
       → Decoded number reception message transmitted r message transmitted
   decoded-refused r e h = refused (λ z. h (ap (λ (a : Answer). a .number) e ∙ z)) e refl refl
+
+-- Nothing of an area lies past a part of its size.
+whole-part : (part before : List ℕ) (size : ℕ) → length before ≡ size → part ≡ part ++ drop size before
+whole-part part before size e =
+    let none : length before ≤ size = omega arith in
+    sym (ap (λ (l : List ℕ). part ++ l) (drop-of-length-le before none) ∙ append-nil part)
+
+-- With areas of just the sizes that the message and its transmission take, decoding is question 7: from there to decoding's promise, and back.
+module _ (number : ℕ) (reception message transmitted : List ℕ) (known : Passes (isSetting number)) (frame : FrameShape (settingOf number) (length reception))
+    (symbols : Symbols (settingOf number .q) reception) (short : length message ≡ blocksOf (settingOf number) (length reception) * settingOf number .k)
+    (long : length transmitted ≡ (blocksOf (settingOf number) (length reception) + settingOf number .m) * settingOf number .n) where
+  all-yes-alone : firstNo (decodingQuestions number reception (length message) (length transmitted)) .number ≡ 0
+  all-yes-alone = decoding-all-yes number reception (length message) (length transmitted) known frame symbols (omega (arith, short)) (omega (arith, long))
+
+  pub decoded-alone : {r : Answer} {message' transmitted' : List ℕ}
+      → FrameDecoded (settingOf number) (blocksOf (settingOf number) (length reception)) reception r message' transmitted'
+      → Decoded number reception message transmitted r message' transmitted'
+  decoded-alone {message' = message'} {transmitted' = transmitted'} F = well-formed all-yes-alone
+      (record {
+        message-part = message';
+        transmission-part = transmitted';
+        decoded = F;
+        message-area = whole-part message' message _ short;
+        transmission-area = whole-part transmitted' transmitted _ long;
+      })
+
+  pub frame-alone : {r : Answer} {message' transmitted' : List ℕ} → Decoded number reception message transmitted r message' transmitted'
+      → FrameDecoded (settingOf number) (blocksOf (settingOf number) (length reception)) reception r message' transmitted'
+  frame-alone (refused h e m t) = absurd (h all-yes-alone)
+  frame-alone {r} {message'} {transmitted'} (well-formed h D) =
+      let p = settingOf number in
+      let T = blocksOf p (length reception) in
+      subst (λ (l : List ℕ). FrameDecoded p T reception r l transmitted') (whole-part (D .message-part) message _ short ∙ sym (D .message-area))
+      (subst (FrameDecoded p T reception r (D .message-part)) (whole-part (D .transmission-part) transmitted _ long ∙ sym (D .transmission-area)) (D .decoded))

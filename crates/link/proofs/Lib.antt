@@ -7,3 +7,5 @@ pub mod Determined
 pub mod OrderKinds
 pub mod Orders
 pub mod Demand3
+pub mod WovenFrames
+pub mod Burst

@@ -2,6 +2,7 @@
 pub mod Encoding
 pub mod Decoding
 pub mod Demand3
+pub mod Woven
 pub mod Orders
 pub mod Sample
 pub mod parts

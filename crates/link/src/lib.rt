@@ -1,3 +1,4 @@
-// Encoding and decoding.
+// Encoding and decoding, of a frame alone and of woven frames.
 pub mod decode;
 pub mod encode;
+pub mod woven;

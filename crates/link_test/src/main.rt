@@ -1,6 +1,6 @@
 // Runs the calls of tests/vectors on the library, a line in and a line out; tests/vectors/rattle.py makes stdin and stdout.
 //
-// A line in: the call's letter, the setting and j (16 digits each) and the lengths of three areas (4 digits each), with a space after each,
+// A line in: the call's letter, the setting, and j or D (16 digits each), the lengths of three areas (4 digits each), with a space after each,
 // then the areas, two digits a byte, one after the other. All digits are hexadecimal.
 // A line out: number, place and count of the answer in decimal, then what the call returned and what it left in the areas; for a desk line, its answer.
 ghost use mathlib.Core.Path.{_≡_};
@@ -104,12 +104,26 @@ fn show_answer(answer: Answer) {
     show_number(answer.altered as u64);
 }
 
-fn encode(number: u64, message: &[u8], transmission: &mut [u8], digits: &mut [u8]) {
-    let answer = link::encode::encode(number, message, transmission);
+// A call's answer, and what it returned or left in its one area.
+fn show_with(answer: Answer, area: &[u8], digits: &mut [u8]) {
     show_answer(answer);
+    space();
+    show(area, digits);
+    end_line();
+}
+
+// What a call left in both of its areas.
+fn show_areas(message: &[u8], transmission: &[u8], digits: &mut [u8]) {
+    space();
+    show(message, digits);
     space();
     show(transmission, digits);
     end_line();
+}
+
+fn encode(number: u64, message: &[u8], transmission: &mut [u8], digits: &mut [u8]) {
+    let answer = link::encode::encode(number, message, transmission);
+    show_with(answer, transmission, digits);
 }
 
 fn decode(
@@ -121,20 +135,13 @@ fn decode(
 ) {
     let answer = link::decode::decode(number, reception, message, transmission);
     show_answer(answer);
-    space();
-    show(message, digits);
-    space();
-    show(transmission, digits);
-    end_line();
+    show_areas(message, transmission, digits);
 }
 
 fn window(number: u64, reception: &[u8], j: u64, digits: &mut [u8]) {
     let answer = display::window_answer(number, reception, j);
-    show_answer(answer);
-    space();
     let part = display::window(number, reception, j);
-    show(part, digits);
-    end_line();
+    show_with(answer, part, digits);
 }
 
 fn marks(number: u64, reception: &[u8], transmission: &[u8], j: u64) {
@@ -146,6 +153,43 @@ fn marks(number: u64, reception: &[u8], transmission: &[u8], j: u64) {
     space();
     show_number(found.set as u64);
     end_line();
+}
+
+fn weave(number: u64, frames: u64, incoming: &[u8], out: &mut [u8], digits: &mut [u8]) {
+    let answer = weave::weave(number, frames, incoming, out);
+    show_with(answer, out, digits);
+}
+
+fn unweave(number: u64, frames: u64, incoming: &[u8], out: &mut [u8], digits: &mut [u8]) {
+    let answer = weave::unweave(number, frames, incoming, out);
+    show_with(answer, out, digits);
+}
+
+// The answers of eight frames; those that are not there are zeros.
+fn show_frames(answers: [Answer; 8]) {
+    let mut f: usize = 0;
+    while f < 8 {
+        space();
+        let answer = answers[f];
+        show_answer(answer);
+        f += 1;
+    }
+}
+
+fn decode_woven(
+    number: u64,
+    frames: u64,
+    reception: &[u8],
+    message: &mut [u8],
+    transmission: &mut [u8],
+    digits: &mut [u8],
+) {
+    let woven = link::woven::decode_woven(number, frames, reception, message, transmission);
+    let answer = woven.answer;
+    let answers = woven.frame;
+    show_answer(answer);
+    show_frames(answers);
+    show_areas(message, transmission, digits);
 }
 
 // The answer to a desk line, by way of areas that it is lent.
@@ -180,11 +224,12 @@ fn desk_line(text: &[u8]) {
 }
 
 // E: encoding of the first area into the third. D: decoding of the first into the second and the third. W: window j of the first. M: marks of the first and
-// the second in window j. L: the first as a line at the planning desk.
+// the second in window j. V: weaving of the first into the third; U: unweaving. F: decoding of woven frames, the areas as with D. L: the first as a line at
+// the planning desk. The number is the setting, `chosen` is j or D.
 fn call_on(
     call: u8,
     number: u64,
-    j: u64,
+    chosen: u64,
     first: &[u8],
     second: &mut [u8],
     third: &mut [u8],
@@ -199,11 +244,23 @@ fn call_on(
         return;
     }
     if call == b'W' {
-        window(number, first, j, digits);
+        window(number, first, chosen, digits);
         return;
     }
     if call == b'M' {
-        marks(number, first, second, j);
+        marks(number, first, second, chosen);
+        return;
+    }
+    if call == b'V' {
+        weave(number, chosen, first, third, digits);
+        return;
+    }
+    if call == b'U' {
+        unweave(number, chosen, first, third, digits);
+        return;
+    }
+    if call == b'F' {
+        decode_woven(number, chosen, first, second, third, digits);
         return;
     }
     if call == b'L' {
@@ -215,7 +272,7 @@ fn call_on(
 struct Head {
     call: u8,
     number: u64,
-    j: u64,
+    chosen: u64,
     first: usize,
     second: usize,
     third: usize,
@@ -225,14 +282,14 @@ fn head_of(start: &[u8]) -> Head
     requires { ⌜ length (now start) ≡ 51 ⌝ }
 {
     let number = word(&start[2..18]);
-    let j = word(&start[19..35]);
+    let chosen = word(&start[19..35]);
     let first = word(&start[36..40]) as usize;
     let second = word(&start[41..45]) as usize;
     let third = word(&start[46..50]) as usize;
     Head {
         call: start[0],
         number: number,
-        j: j,
+        chosen: chosen,
         first: first,
         second: second,
         third: third,
@@ -248,7 +305,15 @@ fn handed(head: Head, digits: &mut [u8], first: &mut [u8], second: &mut [u8], th
     bytes(digits, 0, first);
     bytes(digits, second_at, second);
     bytes(digits, third_at, third);
-    call_on(head.call, head.number, head.j, first, second, third, digits);
+    call_on(
+        head.call,
+        head.number,
+        head.chosen,
+        first,
+        second,
+        third,
+        digits,
+    );
 }
 
 // The areas of a line, read and handed to its call; false where the input ends.

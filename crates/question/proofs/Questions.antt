@@ -1,23 +1,24 @@
 -- What the first "no" of a list of questions says, and what a call knows when every answer was "yes".
 -- Holds: of one question `first-yes`, `first-no`; of a list before others `append-yes`, `append-no`; `numbered`, `AllYes`, `all-yes`, `yes-all` (number 0
--- says that every answer was "yes"), `true-of`;
--- of each call what it asks over the setting in hand, `frameLater`, `decodingLater`, `encodingLater`, `displayLater`;
--- of a call that asks in order `Left`, `left-all`, `left-yes`, `says-no`, `says-yes`, `first-says-no`, `first-left`, `after-first`, `after-frame`,
--- `setting-known`, `setting-sizes`;
+-- says that every answer was "yes"), `true-of`, `number-of`;
+-- of each call what it asks over the setting in hand, `encodingLater`, `displayLater`, `weavingLater`, `wovenDecodingLater`;
+-- of a call that asks in order `Left`, `left-all`, `left-yes`, `says-no`, `says-yes`, `left-again`, `says-rest`, `symbols-no`, `symbols-yes`,
+-- `first-says-no`, `first-left`, `setting-left`, `after-first`, `after-asked`, `setting-known`, `setting-sizes`; of a share of the room `share`, `shares-left`;
 -- of question 4, as a loop asks it, `Searched`, `searched-none`, `searched-more`, `searched-stop`, `searched-all`, `map-same`, `symbolsTo-whole`,
--- `whole-symbols`; what a call knows, `FrameShape`, `frame-of-setting`, `FrameYes`, `DecodingYes`, `EncodingYes`, `WindowYes`, `frame-yes`, `decoding-yes`,
--- `encoding-yes`, `display-yes`, `marks-yes`; the areas' sizes, `message-most`, `transmission-most`, `transmission-small`, `window-small`.
+-- `whole-symbols`; what a call knows, `FrameShape`, `frame-of-setting`, `FrameYes`, `DecodingYes`, `EncodingYes`, `WindowYes`, `WovenYes`, `WovenDecodingYes`,
+-- `frame-yes`, `decoding-yes`, `encoding-yes`, `display-yes`, `marks-yes`, `woven-yes`, `weaving-yes`, `woven-decoding-yes`; from that the answer "yes",
+-- `decoding-all-yes`; the areas' sizes, `message-most`, `transmission-most`, `transmission-small`, `window-small`.
 use mathlib.Core.Path.{_≡_, refl, sym, ap, subst, _∙_}
 use mathlib.Core.Bool.{Bool, true, false, not, _&&_}
 use mathlib.Core.List.{List, [], _∷_, _++_, map}
 use Prim.Native.Nat.{ℕ, suc, _+_, _-_, _*_, _/_, _%_, _≤_, _<_}
-use native.Mathlib.Nat.{div-add-mod', le-div-iff-mul-le, le-trans, mul-le-mul, mul-le-mul-right}
+use native.Mathlib.Nat.{div-add-mod, div-add-mod', le-div-iff-mul-le, le-trans, mul-comm, mul-le-mul, mul-le-mul-right, mul-mod-left}
 use native.Mathlib.Numerals.{add-one}
 use native.Mathlib.Omega.{arith}
-use lib.Dec.{T as Passes, eqb, leb, ltb, leb→le, ltb→lt, eqb→eq}
+use lib.Dec.{T as Passes, eqb, leb, ltb, leb→le, le→leb, ltb→lt, eqb→eq}
 use lib.ListN.{length, getD, drop}
 use lib.Seq.{drop-cons, drop-length}
-use borrow.Author.Tests.{eq-eqb, lt-ltb, le-ltb, ltb-true, not-false}
+use borrow.Author.Tests.{eq-eqb, ne-eqb, lt-ltb, le-ltb, le-leb, leb-true, ltb-true, not-false}
 use Rattle.algebra.specs.Ops.{pick}
 use Rattle.algebra.proofs.Tests.{and-left, and-right}
 use Rattle.field.specs.Symbols.{Symbols}
@@ -27,8 +28,9 @@ use Rattle.code.specs.Settings.{isSetting, settingOf}
 use Rattle.code.specs.Windows.{windowLength, Message}
 use Rattle.code.proofs.Settings.{largestOf, Sizes, sizesOf}
 use Rattle.question.specs.declared.Answer.{Answer}
-use Rattle.question.specs.Questions.{Question, ask, answer, symbolQuestion, transmissionQuestion, firstNo, mostBlocks, mostSymbols, mostInformation}
-use Rattle.question.specs.Questions.{blocksOf, symbolsTo, frameQuestions, decodingQuestions, encodingQuestions, displayQuestions, marksQuestions}
+use Rattle.question.specs.Questions.{Question, ask, askAt, answer, symbolQuestion, transmissionQuestion, firstNo, mostBlocks, mostFrames}
+use Rattle.question.specs.Questions.{mostSymbols, mostInformation, blocksOf, symbolsTo, frameQuestions, areaQuestions, decodingQuestions}
+use Rattle.question.specs.Questions.{encodingQuestions, displayQuestions, marksQuestions, wovenQuestions, weavingQuestions, wovenDecodingQuestions}
 
 pub true-of : (t : Bool) → Passes t → t ≡ true
 true-of true h = refl
@@ -68,6 +70,10 @@ yes-all (x ∷ rest) t = at (x .holds) (t .0) (yes-all rest (t .1))
     at true t e = e
     at false t e = absurd t
 
+-- A call's answer r is the answer s of its questions: their number is 0 with its.
+pub number-of : {r s : Answer} → r ≡ s → r .number ≡ 0 → s .number ≡ 0
+number-of asked e = ap (λ (t : Answer). t .number) (sym asked) ∙ e
+
 -- A list of questions before others: its "no" is the answer, and if it has none the others are asked.
 pub append-no : (a b : List Question) → (firstNo a .number ≡ 0 → ⊥) → firstNo (a ++ b) ≡ firstNo a
 append-no [] b h = absurd (h refl)
@@ -90,19 +96,6 @@ append-yes (x ∷ a) b n e = at (append-yes a b (and-right (not (eqb (x .number)
     at more false e = absurd (subst (λ (t : Bool). Passes (not t)) (eq-eqb (x .number) 0 e) (and-left (not (eqb (x .number) 0)) (numbered a) n))
 
 -- The questions of each call after those that need no setting, over the setting p that code holds.
-abbrev pub frameLater : ℕ → Setting → List Question
-frameLater long p =
-    ask 2 (eqb (long % p .n) 0 && leb (windowLength p) long)
-    ∷ ask 3 (leb (blocksOf p long) mostBlocks)
-    ∷ []
-
-abbrev pub decodingLater : List ℕ → ℕ → ℕ → Setting → List Question
-decodingLater reception messageRoom transmissionRoom p =
-    symbolQuestion (p .q) reception
-    ∷ ask 5 (leb (blocksOf p (length reception) * p .k) messageRoom)
-    ∷ transmissionQuestion p (blocksOf p (length reception)) transmissionRoom
-    ∷ []
-
 abbrev pub encodingLater : List ℕ → ℕ → Setting → List Question
 encodingLater message transmissionRoom p =
     ask 8 (eqb (length message % p .k) 0 && leb (p .k) (length message))
@@ -113,6 +106,16 @@ encodingLater message transmissionRoom p =
 
 abbrev pub displayLater : ℕ → ℕ → Setting → List Question
 displayLater long j p = ask 12 (ltb j (blocksOf p long)) ∷ []
+
+abbrev pub weavingLater : List ℕ → ℕ → Setting → List Question
+weavingLater incoming room p = symbolQuestion (p .q) incoming ∷ ask 6 (leb (length incoming) room) ∷ []
+
+abbrev pub wovenDecodingLater : ℕ → List ℕ → ℕ → ℕ → Setting → List Question
+wovenDecodingLater D reception messageRoom transmissionRoom p =
+    symbolQuestion (p .q) reception
+    ∷ ask 5 (leb (D * (blocksOf p (length reception / D) * p .k)) messageRoom)
+    ∷ ask 6 (leb (D * ((blocksOf p (length reception / D) + p .m) * p .n)) transmissionRoom)
+    ∷ []
 
 -- A call that asks in order: of the questions `all` those before `rest` got "yes".
 pub record Left (all rest : List Question) : Type 0 where
@@ -132,17 +135,34 @@ says-no {all} {rest} {x} l e a = a ∙ sym (l .same ∙ first-no x rest e)
 pub says-yes : {all : List Question} {r : Answer} → Left all [] → r ≡ answer 0 0 0 → r ≡ firstNo all
 says-yes l a = a ∙ sym (l .same)
 
+-- A question that got "yes" may be asked once more.
+pub left-again : {all rest : List Question} (x : Question) → Left all rest → x .holds ≡ true → Left all (x ∷ rest)
+left-again {all} {rest} x l e = record { same = l .same ∙ sym (first-yes x rest e) }
+
+-- What is left is asked by another call.
+pub says-rest : {all rest : List Question} {r : Answer} → Left all rest → r ≡ firstNo rest → r ≡ firstNo all
+says-rest l a = a ∙ sym (l .same)
+
+-- Question 4, asked of the place that a call found.
+pub symbols-no : {all rest : List Question} {place long found : ℕ} {r : Answer} → Left all (askAt 4 place (eqb place long) ∷ rest) → found ≡ place
+    → (found ≡ long → ⊥) → r ≡ answer 4 found 0 → r ≡ firstNo all
+symbols-no l e h a = says-no l (ne-eqb _ _ (λ z. h (e ∙ z))) (a ∙ ap (λ (t : ℕ). answer 4 t 0) e)
+
+pub symbols-yes : {all rest : List Question} {place long found : ℕ} → Left all (askAt 4 place (eqb place long) ∷ rest) → found ≡ place → found ≡ long
+    → Left all rest
+symbols-yes l e h = left-yes l (eq-eqb _ _ (sym e ∙ h))
+
 -- The questions a were asked before b by another call, with the answer r.
 module _ (a b : List Question) {r : Answer} (asked : r ≡ firstNo a) where
   pub first-says-no : (r .number ≡ 0 → ⊥) → r ≡ firstNo (a ++ b)
   first-says-no h = asked ∙ sym (append-no a b (λ e. h (ap (λ (t : Answer). t .number) asked ∙ e)))
 
   pub first-left : Passes (numbered a) → r .number ≡ 0 → Left (a ++ b) b
-  first-left n e = record { same = append-yes a b n (ap (λ (t : Answer). t .number) (sym asked) ∙ e) }
+  first-left n e = record { same = append-yes a b n (number-of asked e) }
 
--- Question 1, or 1 to 3, got "yes", and p is the setting: what is left is asked of p.
-setting-left : {all : List Question} (number : ℕ) (p : Setting) (later : Setting → List Question) → p ≡ settingOf number → Left all (later (settingOf number))
-    → Left all (later p)
+-- What is left is asked of p, which is the setting; question 1, or the questions a, got "yes" before.
+pub setting-left : {all : List Question} (number : ℕ) (p : Setting) (later : Setting → List Question) → p ≡ settingOf number
+    → Left all (later (settingOf number)) → Left all (later p)
 setting-left number p later e l = record { same = l .same ∙ ap (λ (t : Setting). firstNo (later t)) (sym e) }
 
 pub after-first : (number : ℕ) (p : Setting) (later : Setting → List Question) → Passes (isSetting number) → p ≡ settingOf number
@@ -150,9 +170,9 @@ pub after-first : (number : ℕ) (p : Setting) (later : Setting → List Questio
 after-first number p later known e =
     setting-left number p later e (left-yes (left-all (ask 1 (isSetting number) ∷ later (settingOf number))) (true-of (isSetting number) known))
 
-pub after-frame : (number long : ℕ) (p : Setting) (later : Setting → List Question) {r : Answer} → r ≡ firstNo (frameQuestions number long) → r .number ≡ 0
-    → p ≡ settingOf number → Left (frameQuestions number long ++ later (settingOf number)) (later p)
-after-frame number long p later asked zero e = setting-left number p later e (first-left (frameQuestions number long) (later (settingOf number)) asked tt zero)
+pub after-asked : (a : List Question) (number : ℕ) (p : Setting) (later : Setting → List Question) {r : Answer} → Passes (numbered a) → r ≡ firstNo a
+    → r .number ≡ 0 → p ≡ settingOf number → Left (a ++ later (settingOf number)) (later p)
+after-asked a number p later n asked zero e = setting-left number p later e (first-left a (later (settingOf number)) asked n zero)
 
 -- What the test of question 1 says.
 pub setting-known : (number : ℕ) {t : Bool} → t ≡ isSetting number → not t ≡ false → Passes (isSetting number)
@@ -160,6 +180,35 @@ setting-known number {t} e h = subst Passes (sym (not-false t h) ∙ e) tt
 
 pub setting-sizes : (number : ℕ) (p : Setting) → Passes (isSetting number) → p ≡ settingOf number → Sizes p
 setting-sizes number p known e = subst Sizes (sym e) (sizesOf number known)
+
+-- A share of the room: D frames have room where each has it in its share.
+tests-agree : (s t : Bool) → (s ≡ true → t ≡ true) → (t ≡ true → s ≡ true) → s ≡ t
+tests-agree true t up down = sym (up refl)
+tests-agree false true up down = down refl
+tests-agree false false up down = refl
+
+pub share : (D x room : ℕ) → 1 ≤ D → leb x (room / D) ≡ leb (D * x) room
+share D x room h =
+    tests-agree (leb x (room / D)) (leb (D * x) room)
+    (λ e. le-leb (D * x) room (subst (λ (t : ℕ). t ≤ room) (mul-comm x D) (le-div-iff-mul-le h .0 (leb-true x (room / D) e))))
+    (λ e. le-leb x (room / D) (le-div-iff-mul-le h .1 (subst (λ (t : ℕ). t ≤ room) (mul-comm D x) (leb-true (D * x) room e))))
+
+shares : (D : ℕ) (reception : List ℕ) (messageRoom transmissionRoom : ℕ) (p : Setting) → 1 ≤ D
+    → firstNo (areaQuestions p (blocksOf p (length reception / D)) reception (messageRoom / D) (transmissionRoom / D))
+    ≡ firstNo (wovenDecodingLater D reception messageRoom transmissionRoom p)
+shares D reception messageRoom transmissionRoom p h =
+    let T = blocksOf p (length reception / D) in
+    let four = symbolQuestion (p .q) reception in
+    ap (λ (t : Bool). firstNo (four ∷ ask 5 t ∷ transmissionQuestion p T (transmissionRoom / D) ∷ [])) (share D (T * p .k) messageRoom h)
+    ∙ ap (λ (t : Bool). firstNo (four ∷ ask 5 (leb (D * (T * p .k)) messageRoom) ∷ ask 6 t ∷ [])) (share D ((T + p .m) * p .n) transmissionRoom h)
+
+-- What is left for D frames is left for one of them with shares, T being that of the setting p in hand.
+pub shares-left : {all : List Question} (D number : ℕ) (reception : List ℕ) (messageRoom transmissionRoom : ℕ) (p : Setting) → 1 ≤ D → p ≡ settingOf number
+    → Left all (wovenDecodingLater D reception messageRoom transmissionRoom (settingOf number))
+    → Left all (areaQuestions (settingOf number) (blocksOf p (length reception / D)) reception (messageRoom / D) (transmissionRoom / D))
+shares-left D number reception messageRoom transmissionRoom p h e l =
+    setting-left number p (λ t. areaQuestions (settingOf number) (blocksOf t (length reception / D)) reception (messageRoom / D) (transmissionRoom / D)) e
+    (record { same = l .same ∙ sym (shares D reception messageRoom transmissionRoom (settingOf number) h) })
 
 -- Question 4, as a loop asks it of values that it reads by f: those before place i are below q.
 pub record Searched (q : ℕ) (f : ℕ → ℕ) (l : List ℕ) (i : ℕ) : Type 0 where
@@ -243,11 +292,11 @@ pub record FrameYes (number long : ℕ) : Type 0 where
 
 pub frame-yes : (number long : ℕ) {r : Answer} → r ≡ firstNo (frameQuestions number long) → r .number ≡ 0 → FrameYes number long
 frame-yes number long asked e =
-    let all = all-yes (frameQuestions number long) tt (ap (λ (t : Answer). t .number) (sym asked) ∙ e) in
+    let all = all-yes (frameQuestions number long) tt (number-of asked e) in
     record { setting = all .0; frame = frame-of (settingOf number) long (sizesOf number (all .0)) (all .1 .0) (all .1 .1 .0) }
 
-pub frame-of-setting : {number long : ℕ} {p : Setting} → FrameYes number long → p ≡ settingOf number → FrameShape p long
-frame-of-setting {number} {long} {p} known e = subst (λ (t : Setting). FrameShape t long) (sym e) (known .frame)
+pub frame-of-setting : {s p : Setting} {long : ℕ} → FrameShape s long → p ≡ s → FrameShape p long
+frame-of-setting {s} {p} {long} frame e = subst (λ (t : Setting). FrameShape t long) (sym e) frame
 
 -- The areas that a frame of any setting needs, over the setting p in hand.
 pub message-most : (number : ℕ) (p : Setting) (blocks : ℕ) → Passes (isSetting number) → p ≡ settingOf number → blocks ≤ mostBlocks
@@ -295,6 +344,31 @@ decoding-yes number reception messageRoom transmissionRoom e =
       message-room = leb→le (blocksOf p (length reception) * p .k) messageRoom (all .1 .1 .1 .1 .0);
       transmission-room = leb→le ((blocksOf p (length reception) + p .m) * p .n) transmissionRoom (all .1 .1 .1 .1 .1 .0);
     }
+
+-- The other way round: what decoding knows is all that it asks.
+length-test : {p : Setting} {long : ℕ} → FrameShape p long → Passes (eqb (long % p .n) 0 && leb (windowLength p) long)
+length-test {p} {long} frame =
+    let T = blocksOf p long in
+    let whole : long % p .n ≡ 0 = ap (λ (t : ℕ). t % p .n) (frame .long-is) ∙ mul-mod-left (T + p .m) (p .n) in
+    let least : p .m + 1 ≤ T + p .m = omega (arith, frame .blocks) in
+    let room : windowLength p ≤ long = subst (λ (t : ℕ). windowLength p ≤ t) (sym (frame .long-is)) (mul-le-mul-right (p .n) least) in
+    let yes : (eqb (long % p .n) 0 && leb (windowLength p) long) ≡ true = simp (eq-eqb _ _ whole, le-leb _ _ room) in
+    subst Passes (sym yes) tt
+
+pub decoding-all-yes : (number : ℕ) (reception : List ℕ) (messageRoom transmissionRoom : ℕ) → Passes (isSetting number)
+    → FrameShape (settingOf number) (length reception) → Symbols (settingOf number .q) reception
+    → blocksOf (settingOf number) (length reception) * settingOf number .k ≤ messageRoom
+    → (blocksOf (settingOf number) (length reception) + settingOf number .m) * settingOf number .n ≤ transmissionRoom
+    → firstNo (decodingQuestions number reception messageRoom transmissionRoom) .number ≡ 0
+decoding-all-yes number reception messageRoom transmissionRoom known frame S messages transmissions =
+    let p = settingOf number in
+    let T = blocksOf p (length reception) in
+    let four = subst Passes (sym (eq-eqb (symbolsTo (p .q) reception) (length reception) (symbolsTo-whole (p .q) reception S))) tt in
+    let five = le→leb (T * p .k) messageRoom messages in
+    let six = le→leb ((T + p .m) * p .n) transmissionRoom transmissions in
+    ap (λ (t : Answer). t .number)
+    (yes-all (decodingQuestions number reception messageRoom transmissionRoom)
+    (known, (length-test frame, (le→leb T mostBlocks (frame .most), (four, (five, (six, tt)))))))
 
 -- What encoding knows when its questions got "yes", T being the length divided by k.
 pub record EncodingYes (number : ℕ) (message : List ℕ) (transmissionRoom : ℕ) : Type 0 where
@@ -350,3 +424,64 @@ pub marks-yes : (number receptionLong transmissionLong j : ℕ) → firstNo (mar
 marks-yes number receptionLong transmissionLong j e =
     let all = all-yes (marksQuestions number receptionLong transmissionLong j) tt e in
     (window-of number receptionLong j (all .0) (all .1 .0) (all .1 .1 .0) (all .1 .1 .1 .0), eqb→eq receptionLong transmissionLong (all .1 .1 .1 .1 .0))
+
+-- What is known of D woven frames of together this length, when 1, 14, 15, 2 and 3 got "yes".
+pub record WovenYes (number D long : ℕ) : Type 0 where
+  pub setting : Passes (isSetting number)
+  pub least : 2 ≤ D
+  pub most : D ≤ mostFrames
+  pub whole : long ≡ D * (long / D)
+  pub frame : FrameShape (settingOf number) (long / D)
+
+woven-of : (number D long : ℕ) → AllYes (wovenQuestions number D long) → WovenYes number D long
+woven-of number D long all = record {
+  setting = all .0;
+  least = leb→le 2 D (and-left (leb 2 D) (leb D mostFrames) (all .1 .0));
+  most = leb→le D mostFrames (and-right (leb 2 D) (leb D mostFrames) (all .1 .0));
+  whole = omega (arith, div-add-mod long D, eqb→eq (long % D) 0 (all .1 .1 .0));
+  frame = frame-of (settingOf number) (long / D) (sizesOf number (all .0)) (all .1 .1 .1 .0) (all .1 .1 .1 .1 .0);
+}
+
+pub woven-yes : (number D long : ℕ) → firstNo (wovenQuestions number D long) .number ≡ 0 → WovenYes number D long
+woven-yes number D long e = woven-of number D long (all-yes (wovenQuestions number D long) tt e)
+
+-- Before other questions.
+all-of-first : (a b : List Question) → AllYes (a ++ b) → AllYes a × AllYes b
+all-of-first [] b all = (tt, all)
+all-of-first (x ∷ a) b all = let rest = all-of-first a b (all .1) in ((all .0, rest .0), rest .1)
+
+-- What weaving and unweaving know when their questions got "yes".
+pub weaving-yes : (number D : ℕ) (incoming : List ℕ) (room : ℕ) → firstNo (weavingQuestions number D incoming room) .number ≡ 0
+    → WovenYes number D (length incoming) × (Symbols (settingOf number .q) incoming × (length incoming ≤ room))
+weaving-yes number D incoming room e =
+    let p = settingOf number in
+    let yes-to = all-yes (weavingQuestions number D incoming room) tt e in
+    let all = all-of-first (wovenQuestions number D (length incoming)) (weavingLater incoming room p) yes-to in (
+      woven-of number D (length incoming) (all .0),
+      (
+        whole-symbols (p .q) incoming (eqb→eq (symbolsTo (p .q) incoming) (length incoming) (all .1 .0)),
+        leb→le (length incoming) room (all .1 .1 .0),
+      ),
+    )
+
+-- What decoding of D woven frames knows when its questions got "yes".
+pub record WovenDecodingYes (number D : ℕ) (reception : List ℕ) (messageRoom transmissionRoom : ℕ) : Type 0 where
+  pub woven : WovenYes number D (length reception)
+  pub symbols : Symbols (settingOf number .q) reception
+  pub message-room : D * (blocksOf (settingOf number) (length reception / D) * settingOf number .k) ≤ messageRoom
+  pub transmission-room : D * ((blocksOf (settingOf number) (length reception / D) + settingOf number .m) * settingOf number .n) ≤ transmissionRoom
+
+pub woven-decoding-yes : (number D : ℕ) (reception : List ℕ) (messageRoom transmissionRoom : ℕ)
+    → firstNo (wovenDecodingQuestions number D reception messageRoom transmissionRoom) .number ≡ 0
+    → WovenDecodingYes number D reception messageRoom transmissionRoom
+woven-decoding-yes number D reception messageRoom transmissionRoom e =
+    let p = settingOf number in
+    let T = blocksOf p (length reception / D) in
+    let yes-to = all-yes (wovenDecodingQuestions number D reception messageRoom transmissionRoom) tt e in
+    let all = all-of-first (wovenQuestions number D (length reception)) (wovenDecodingLater D reception messageRoom transmissionRoom p) yes-to in
+    record {
+      woven = woven-of number D (length reception) (all .0);
+      symbols = whole-symbols (p .q) reception (eqb→eq (symbolsTo (p .q) reception) (length reception) (all .1 .0));
+      message-room = leb→le (D * (T * p .k)) messageRoom (all .1 .1 .0);
+      transmission-room = leb→le (D * ((T + p .m) * p .n)) transmissionRoom (all .1 .1 .1 .0);
+    }

@@ -1,11 +1,17 @@
 // The questions of 01, asked in order by every call: the answer is the first "no".
 ghost use mathlib.Core.Path.{_≡_};
 ghost use Prim.Native.Nat.{_+_, _≤_};
+ghost use lib.Dec.{T as Passes};
 ghost use Rattle.field.specs.Symbols.{Symbols};
-ghost use Rattle.question.specs.Questions.{answer, firstNo, symbolsTo, frameQuestions, decodingQuestions, encodingQuestions, displayQuestions, marksQuestions};
+ghost use Rattle.code.specs.Settings.{isSetting, settingOf};
+ghost use Rattle.question.specs.Questions.{answer, firstNo, mostBlocks, symbolsTo, frameQuestions, areaQuestions, decodingQuestions, encodingQuestions, displayQuestions, marksQuestions};
+ghost use Rattle.question.specs.Questions.{wovenQuestions, weavingQuestions, wovenDecodingQuestions};
 
 // "T at most 512"
 pub const MOST_BLOCKS: usize = 512;
+
+// "14 when D isn't 2 to 8"
+pub const MOST_FRAMES: usize = 8;
 
 // The answer of every call: the number and place of the first question answered "no", or 0 and 0, and the altered count.
 #[repr(C)]
@@ -103,6 +109,35 @@ pub fn frame_questions(number: u64, long: usize) -> Answer
     yes()
 }
 
+// 4, 5 and 6 of frames of this many information blocks, in areas with this much room for each.
+fn area_questions(
+    number: u64,
+    blocks: usize,
+    reception: &[u8],
+    message_room: usize,
+    transmission_room: usize,
+) -> Answer
+    requires { ⌜ Passes (isSetting number) × (blocks ≤ mostBlocks) ⌝ }
+    ensures { λ r. ⌜ r ≡ firstNo (areaQuestions (settingOf number) blocks (now (reception .entry)) «message_room» «transmission_room») ⌝ }
+{
+    let p = code::setting_of(number);
+    let q = p.q;
+    let n = p.n;
+    let k = p.k;
+    let m = p.m;
+    let symbols = first_not_below(q, reception);
+    if symbols != reception.len() {
+        return no(4, symbols as u64);
+    }
+    if message_room < blocks * k {
+        return no(5, 0);
+    }
+    if transmission_room < (blocks + m) * n {
+        return no(6, 0);
+    }
+    yes()
+}
+
 // Decoding: 1, 2, 3, 4, 5, 6.
 pub fn decoding_questions(
     number: u64,
@@ -117,22 +152,10 @@ pub fn decoding_questions(
         return frame;
     }
     let p = code::setting_of(number);
-    let q = p.q;
     let n = p.n;
-    let k = p.k;
     let m = p.m;
-    let symbols = first_not_below(q, reception);
-    if symbols != reception.len() {
-        return no(4, symbols as u64);
-    }
     let blocks = reception.len() / n - m;
-    if message_room < blocks * k {
-        return no(5, 0);
-    }
-    if transmission_room < (blocks + m) * n {
-        return no(6, 0);
-    }
-    yes()
+    area_questions(number, blocks, reception, message_room, transmission_room)
 }
 
 // Encoding: 1, 8, 3, 4, 6.
@@ -202,4 +225,69 @@ pub fn marks_questions(
         return no(13, 0);
     }
     yes()
+}
+
+// Of this many frames woven into this many symbols: 1, 14, 15, and 2 and 3 of one frame. Question 1 is asked first, and again with 2 and 3.
+fn woven_questions(number: u64, frames: u64, long: usize) -> Answer
+    ensures { λ r. ⌜ r ≡ firstNo (wovenQuestions number frames «long») ⌝ }
+{
+    if !code::is_setting(number) {
+        return no(1, 0);
+    }
+    if frames < 2 {
+        return no(14, 0);
+    }
+    if (MOST_FRAMES as u64) < frames {
+        return no(14, 0);
+    }
+    let count = frames as usize;
+    if long % count != 0 {
+        return no(15, 0);
+    }
+    let one = long / count;
+    frame_questions(number, one)
+}
+
+// Weaving and unweaving: 1, 14, 15, 2, 3, 4, 6.
+pub fn weaving_questions(number: u64, frames: u64, incoming: &[u8], room: usize) -> Answer
+    ensures { λ r. ⌜ r ≡ firstNo (weavingQuestions number frames (now (incoming .entry)) «room») ⌝ }
+{
+    let frame = woven_questions(number, frames, incoming.len());
+    if frame.number != 0 {
+        return frame;
+    }
+    let p = code::setting_of(number);
+    let q = p.q;
+    let symbols = first_not_below(q, incoming);
+    if symbols != incoming.len() {
+        return no(4, symbols as u64);
+    }
+    if room < incoming.len() {
+        return no(6, 0);
+    }
+    yes()
+}
+
+// Decoding of woven frames: 1, 14, 15, 2, 3, 4, and 5 and 6 for all frames: for each a share of the room.
+pub fn woven_decoding_questions(
+    number: u64,
+    frames: u64,
+    reception: &[u8],
+    message_room: usize,
+    transmission_room: usize,
+) -> Answer
+    ensures { λ r. ⌜ r ≡ firstNo (wovenDecodingQuestions number frames (now (reception .entry)) «message_room» «transmission_room») ⌝ }
+{
+    let frame = woven_questions(number, frames, reception.len());
+    if frame.number != 0 {
+        return frame;
+    }
+    let count = frames as usize;
+    let p = code::setting_of(number);
+    let n = p.n;
+    let m = p.m;
+    let blocks = reception.len() / count / n - m;
+    let message_share = message_room / count;
+    let transmission_share = transmission_room / count;
+    area_questions(number, blocks, reception, message_share, transmission_share)
 }

@@ -1,5 +1,5 @@
 -- Reading a frame: the windows in turn, then the last comparison (01, "Reading a reception").
--- Holds: `FrameAreas`, `Settled`, `Revised`, `Adjusted`, `Added`, `NoneFits`, `Advanced`, `Compared`, `FrameRead`.
+-- Holds: `FrameAreas`, `Settled`, `Revised`, `Adjusted`, `Added`, `NoneFits`, `Advanced`, `Turned`, `FrameRead`, `Compared`.
 use mathlib.Core.Path.{_≡_}
 use mathlib.Core.Bool.{Bool, true, false}
 use mathlib.Core.List.{List}
@@ -50,6 +50,11 @@ NoneFits p T reception = (x : List ℕ) → Fits p T reception x → ⊥
 pub data Advanced (p : Setting) (T : ℕ) (reception : List ℕ) (j : ℕ) (message residual : List ℕ) : Bool → Type 0 where
   advanced : Settled p T reception j message residual → Advanced p T reception j message residual true
   stopped : NoneFits p T reception → Advanced p T reception j message residual false
+
+-- A turn at window j, which knows the residual and not what was received: of every reception with this residual, the windows before j+1 were read.
+pub record Turned (p : Setting) (T j : ℕ) (message residual message' residual' : List ℕ) (r : Bool) : Type 0 where
+  pub advances : (reception : List ℕ) → Symbols (p .q) reception → Settled p T reception j message residual
+      → Advanced p T reception (j + 1) message' residual' r
 
 -- The message fits, with its residual; or no message does.
 pub data FrameRead (p : Setting) (T : ℕ) (reception message residual : List ℕ) : Bool → Type 0 where

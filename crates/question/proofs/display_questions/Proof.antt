@@ -3,7 +3,7 @@ use native.Mathlib.Omega.{arith}
 use borrow.Author.Tests.{lt-ltb, le-ltb}
 use Rattle.code.specs.Settings.{settingOf}
 use Rattle.question.specs.Questions.{frameQuestions, displayQuestions}
-use Rattle.question.proofs.Questions.{Left, left-yes, says-no, says-yes, first-says-no, after-frame, displayLater, FrameYes, frame-yes}
+use Rattle.question.proofs.Questions.{Left, left-yes, says-no, says-yes, first-says-no, after-asked, displayLater, FrameYes, frame-yes}
 use Rattle.question.proofs.Questions.{frame-of-setting, FrameShape}
 use Rattle.question.proofs.display_questions.Statement.{statement}
 use Rattle.question.proofs.display_questions.Tie as tie
@@ -18,7 +18,7 @@ asked : (c : tie.Else1) → FrameYes (c .before .before .before .args .number) (
 asked c = frame-yes _ _ (c .before .before .frame-questions .ensures) (c .if1 .left)
 
 frame : (c : tie.After-setting-of) → FrameShape (c .setting-of .result) (c .before .before .before .before .args .long)
-frame c = frame-of-setting (asked (c .before)) (c .setting-of .ensures)
+frame c = frame-of-setting (asked (c .before) .frame) (c .setting-of .ensures)
 
 -- What is left of the questions, over the setting in hand.
 three : (c : tie.After-setting-of)
@@ -26,7 +26,7 @@ three : (c : tie.After-setting-of)
     Left (displayQuestions (a .number) (a .long) (a .j)) (displayLater (a .long) (a .j) (c .setting-of .result))
 three c =
     let a = c .before .before .before .before .args in
-    after-frame (a .number) (a .long) (c .setting-of .result) (displayLater (a .long) (a .j))
+    after-asked (frameQuestions (a .number) (a .long)) (a .number) (c .setting-of .result) (displayLater (a .long) (a .j)) tt
     (c .before .before .before .frame-questions .ensures) (c .before .if1 .left) (c .setting-of .ensures)
 
 pub display-questions-spec : {M : Type 1} → statement M

@@ -1,5 +1,5 @@
 -- `question::encoding_questions` asks 1, 8, 3, 4 and 6 in order.
-use mathlib.Core.Path.{sym, ap, _∙_}
+use mathlib.Core.Path.{sym, _∙_}
 use mathlib.Core.List.{List}
 use Prim.Native.Nat.{ℕ}
 use native.Mathlib.Omega.{arith}
@@ -9,9 +9,9 @@ use lib.ListN.{drop}
 use borrow.Author.Tests.{eq-eqb, ne-eqb, le-leb, lt-leb, not-true}
 use Rattle.code.specs.Settings.{isSetting}
 use Rattle.code.proofs.Settings.{Sizes}
-use Rattle.question.specs.Questions.{Question, answer, encodingQuestions}
+use Rattle.question.specs.Questions.{Question, encodingQuestions}
 use Rattle.question.proofs.Questions.{Left, left-all, left-yes, says-no, says-yes, after-first, encodingLater, setting-known, setting-sizes}
-use Rattle.question.proofs.Questions.{transmission-most}
+use Rattle.question.proofs.Questions.{symbols-no, symbols-yes, transmission-most}
 use Rattle.question.proofs.encoding_questions.Statement.{statement}
 use Rattle.question.proofs.encoding_questions.Tie as tie
 
@@ -60,12 +60,10 @@ three : (c : tie.Else4) → After (c .before .before .before) 2
 three c = left-yes (eight (c .before)) (le-leb _ _ (c .if4 .left))
 
 returns-5 : tie.Need-returns-5
-returns-5 c =
-    let e = c .before .before .first-not-below .ensures in
-    says-no (three (c .before .before .before)) (ne-eqb _ _ (λ z. c .before .if5 .taken (e ∙ z))) (c .no5 .ensures ∙ ap (λ (t : ℕ). answer 4 t 0) e)
+returns-5 c = symbols-no (three (c .before .before .before)) (c .before .before .first-not-below .ensures) (c .before .if5 .taken) (c .no5 .ensures)
 
 four : (c : tie.Else5) → After (before-first-not-below (c .before)) 3
-four c = left-yes (three (c .before .before)) (eq-eqb _ _ (sym (c .before .first-not-below .ensures) ∙ c .if5 .left))
+four c = symbols-yes (three (c .before .before)) (c .before .first-not-below .ensures) (c .if5 .left)
 
 add-if6 : tie.Need-add-if6
 add-if6 c = omega (arith, c .before .before .if4 .left, sizes (before-first-not-below (c .before)) .memory-most)

@@ -9,8 +9,8 @@ use lib.ListN.{drop}
 use borrow.Author.Tests.{eq-eqb, ne-eqb, le-leb, lt-leb, not-true}
 use Rattle.code.specs.Settings.{isSetting}
 use Rattle.code.proofs.Settings.{Sizes}
-use Rattle.question.specs.Questions.{Question, frameQuestions}
-use Rattle.question.proofs.Questions.{Left, left-all, left-yes, says-no, says-yes, after-first, frameLater, setting-known, setting-sizes, window-small}
+use Rattle.question.specs.Questions.{Question, lengthQuestions, frameQuestions}
+use Rattle.question.proofs.Questions.{Left, left-all, left-yes, says-no, says-yes, after-first, setting-known, setting-sizes, window-small}
 use Rattle.question.proofs.frame_questions.Statement.{statement}
 use Rattle.question.proofs.frame_questions.Tie as tie
 
@@ -34,12 +34,12 @@ sizes c = setting-sizes (c .before .before .before .args .number) (c .setting-of
 
 -- What is left after question 1 and some more, over the setting in hand.
 abbrev After : tie.After-setting-of → ℕ → Type 0
-After c more = Left (questions (c .before .before .before)) (drop more (frameLater (c .before .before .before .args .long) (c .setting-of .result)))
+After c more = Left (questions (c .before .before .before)) (drop more (lengthQuestions (c .setting-of .result) (c .before .before .before .args .long)))
 
 one : (c : tie.After-setting-of) → After c 0
 one c =
     let a = c .before .before .before .args in
-    after-first (a .number) (c .setting-of .result) (frameLater (a .long)) (known (c .before)) (c .setting-of .ensures)
+    after-first (a .number) (c .setting-of .result) (λ p. lengthQuestions p (a .long)) (known (c .before)) (c .setting-of .ensures)
 
 returns-2 : tie.Need-returns-2
 returns-2 c = says-no (one (c .before .before)) (simp (ne-eqb _ _ (c .before .if2 .taken))) (c .no2 .ensures)

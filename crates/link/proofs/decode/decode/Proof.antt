@@ -1,12 +1,14 @@
 -- `link::decode::decode`: refused by the first "no", or what question 7 says in front of what the areas held.
-use mathlib.Core.Path.{_≡_, sym, ap, _∙_}
+use mathlib.Core.Path.{_≡_, sym, ap, subst, _∙_}
+use Prim.Native.Nat.{_+_, _*_}
 use native.Mathlib.Omega.{arith}
 use borrow.Author.Needs.{needs}
 use denote.Ref.{now}
-use lib.ListN.{length}
+use lib.ListN.{length, take}
 use lib.Seq.{length-take-le}
-use Rattle.tables.proofs.Lending.{narrowOf}
-use Rattle.question.specs.Questions.{firstNo, decodingQuestions}
+use Rattle.field.specs.Symbols.{Symbols}
+use Rattle.code.specs.declared.Setting.{Setting}
+use Rattle.question.specs.Questions.{firstNo, blocksOf, decodingQuestions}
 use Rattle.question.proofs.Questions.{decoding-yes}
 use Rattle.link.proofs.Decoding.{Receiving, receiving, decoded-refused, decoded-asked}
 use Rattle.link.proofs.decode.decode.Statement.{statement}
@@ -76,17 +78,18 @@ decode-frame-requires : tie.Need-decode-frame-requires
 decode-frame-requires c κs =
     let a = entry-of-if1 (c .before .before .before .before) .args in
     let k = known (c .before .before) in
-    let is-setting = decoding-yes (a .setting) (now (a .reception)) (length (now (a .message))) (length (now (a .transmission)))
-    (asked (c .before .before .before)) .setting in (
-      is-setting,
-      c .before .before .setting-of .ensures,
-      narrowOf (a .setting) (c .before .before .setting-of .result) is-setting (c .before .before .setting-of .ensures),
+    let p = c .before .before .setting-of .result in
+    let e = c .before .before .setting-of .ensures in
+    let T = blocksOf p (length (now (a .reception))) in
+    let long : length (take ((T + p .m) * p .n) (now (a .transmission))) ≡ (T + p .m) * p .n = length-take-le _ _ (k .transmission-room) in (
+      decoding-yes (a .setting) (now (a .reception)) (length (now (a .message))) (length (now (a .transmission))) (asked (c .before .before .before)) .setting,
+      omega arith,
       k .blocks,
       k .most,
-      k .long,
-      k .symbols,
-      length-take-le _ _ (k .message-room),
-      length-take-le _ _ (k .transmission-room) ∙ sym (k .long),
+      omega (arith, k .long, long),
+      subst (λ (p : Setting). Symbols (p .q) (now (a .reception))) e (k .symbols),
+      length-take-le _ _ (k .message-room) ∙ ap (λ (s : Setting). T * s .k) e,
+      long ∙ ap (λ (s : Setting). (T + s .m) * s .n) e,
     )
 
 returns-2 : tie.Need-returns-2

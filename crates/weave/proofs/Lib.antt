@@ -1,0 +1,2 @@
+-- Lemmas on woven frames.
+pub mod Weaving

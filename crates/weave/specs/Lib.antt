@@ -1,0 +1,3 @@
+-- Frames woven against bursts (02, #104).
+pub mod Weaving
+pub mod parts

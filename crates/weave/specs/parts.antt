@@ -1,0 +1,2 @@
+-- What moving symbols promises the calls.
+pub mod Columns
