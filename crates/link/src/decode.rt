@@ -105,7 +105,7 @@ pub fn decode_frame(
     let mut information = [0u8; tables::LONGEST_BLOCK + 1];
     let room = p.n + 1;
     weave::take_column(frames, f, woven, transmission);
-    let answer = read_lent(
+    let found = read_lent(
         p,
         &products,
         &rows,
@@ -117,11 +117,11 @@ pub fn decode_frame(
         &mut values[..room],
         &mut information[..room],
     );
-    if answer.number != 0 {
-        return answer;
+    if found.number != 0 {
+        return found;
     }
     restore(p.q, frames, f, woven, transmission);
-    answer
+    found
 }
 
 // Decodes a reception: the answer to questions 1 to 7 and the altered count; the message that fits in the first T × k bytes of its

@@ -1,13 +1,14 @@
 -- `link::woven::decode_frames`: the frames before f were decoded.
 use mathlib.Core.Path.{_≡_, refl, sym, ap, subst, _∙_}
 use Prim.Native.Nat.{ℕ, _+_, _-_, _*_, _≤_, _<_}
-use native.Mathlib.Nat.{mul-le-mul-right}
+use native.Mathlib.Nat.{mul-le-mul, mul-le-mul-right}
 use native.Mathlib.Omega.{arith}
 use denote.Ref.{now}
 use lib.ListN.{length, length-set}
 use Rattle.area.proofs.Parts.{part-length, length-put}
 use Rattle.code.specs.declared.Setting.{Setting}
 use Rattle.code.specs.Settings.{settingOf}
+use Rattle.question.specs.Questions.{mostFrames, mostSymbols, mostInformation}
 use Rattle.question.proofs.Questions.{setting-sizes, message-most, transmission-most}
 use Rattle.link.specs.parts.WovenFrames.{FramesTo}
 use Rattle.link.proofs.WovenFrames.{no-answers, frames-none, frames-more}
@@ -51,13 +52,22 @@ transmission-room c =
 inside : (D size f : ℕ) → f < D → f * size + size ≤ D * size
 inside D size f h = let next : f + 1 ≤ D = omega arith in omega (arith, mul-le-mul-right size next)
 
+-- What a frame takes is a small number..
+short-small : (c : tie.After-setting-of Inv-loop μ-loop) → short c ≤ mostInformation
+short-small c =
+    let entry = entry-of c in
+    message-most (entry .args .setting) (setting c) (entry .args .blocks) (entry .pre .0) (c .setting-of .ensures) (entry .pre .3)
+
+long-small : (c : tie.After-setting-of Inv-loop μ-loop) → long c ≤ mostSymbols
+long-small c =
+    let entry = entry-of c in
+    transmission-most (entry .args .setting) (setting c) (entry .args .blocks) (entry .pre .0) (c .setting-of .ensures) (entry .pre .3)
+
 setting-of-requires : tie.Need-setting-of-requires Inv-loop μ-loop
 setting-of-requires c κs = c .before .before .before .pre .0
 
 mul-short : tie.Need-mul-short Inv-loop μ-loop
-mul-short c =
-    let entry = entry-of c in
-    omega (arith, message-most (entry .args .setting) (setting c) (entry .args .blocks) (entry .pre .0) (c .setting-of .ensures) (entry .pre .3))
+mul-short c = omega (arith, short-small c)
 
 add-long : tie.Need-add-long Inv-loop μ-loop
 add-long c =
@@ -65,9 +75,7 @@ add-long c =
     omega (arith, entry .pre .3, setting-sizes (entry .args .setting) (setting c) (entry .pre .0) (c .setting-of .ensures) .memory-most)
 
 mul-long : tie.Need-mul-long Inv-loop μ-loop
-mul-long c =
-    let entry = entry-of c in
-    omega (arith, transmission-most (entry .args .setting) (setting c) (entry .args .blocks) (entry .pre .0) (c .setting-of .ensures) (entry .pre .3))
+mul-long c = omega (arith, long-small c)
 
 loop-holds : tie.Need-loop-holds Inv-loop μ-loop
 loop-holds c = (omega arith, refl, refl, refl, frames-none _ _ _ _ _ _ _ (no-answers 8 (c .yes .ensures)))
@@ -87,11 +95,18 @@ transmission-part c =
     let s = setting-at c in
     omega (arith, inside (entry-of s .args .frames) (long s) (c .before .loop .f) (c .loop-test .taken), transmission-room s, c .before .loop .inv .2)
 
+-- .. and so is where its part begins.
+start-small : (c : tie.In-loop Inv-loop μ-loop) → c .before .loop .f * short (setting-at c) ≤ mostFrames * mostInformation
+start-small c =
+    let s = setting-at c in
+    let some : c .before .loop .f ≤ mostFrames = omega (arith, c .loop-test .taken, entry-of s .pre .1) in
+    mul-le-mul some (short-small s)
+
 mul-message-start : tie.Need-mul-message-start Inv-loop μ-loop
-mul-message-start c = omega (arith, message-part c)
+mul-message-start c = omega (arith, start-small c)
 
 add-message-end : tie.Need-add-message-end Inv-loop μ-loop
-add-message-end c = omega (arith, message-part c)
+add-message-end c = omega (arith, start-small c, short-small (setting-at c), long-small (setting-at c))
 
 mul-start : tie.Need-mul-start Inv-loop μ-loop
 mul-start c = omega (arith, transmission-part c)
@@ -115,7 +130,7 @@ decode-frame-requires c κs =
     let by-number = ap (λ (p : Setting). (a .blocks + p .m) * p .n) (s .setting-of .ensures) in
     let long-part = part-length (long s) (l .f * long s) (l .transmission) (transmission-part turn) ∙ by-number in (
       entry .pre .0,
-      turn .loop-test .taken,
+      omega (arith, turn .loop-test .taken),
       entry .pre .2,
       entry .pre .3,
       entry .pre .4 ∙ ap (λ (t : ℕ). t * a .frames) (sym long-part),
