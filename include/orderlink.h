@@ -58,8 +58,9 @@
  *   14  Is D 2, 3, 4, 5, 6, 7 or 8?
  *   15  Is the incoming area's length a multiple of D?
  *
- *   With D frames, 2 and 3 look at one frame: its length, which is that of the
- *   incoming area divided by D, and its T. 4 looks at the whole incoming area,
+ *   With D frames the incoming area is `in` or, in decoding, `reception`. 2 and 3
+ *   look at one frame: its length, which is that of the incoming area divided by
+ *   D, and its T. 4 looks at the whole incoming area,
  *   and its place is counted there. 5 and 6 want the bytes of D frames; weaving
  *   and unweaving ask 6 of the out area.
  */
@@ -152,8 +153,8 @@ struct orderlink_marks orderlink_marks(uint64_t setting,
                                        uint64_t j);
 
 /*
- * Weaves D = frames frames, which lie one after the other: symbol i of frame f
- * goes to place i * D + f.
+ * Weaves D frames (`frames` is D), which lie one after the other: symbol i of
+ * frame f goes to place i * D + f.
  * Questions: 1, 14, 15, 2 and 3 (of one frame), 4 (the whole incoming area), 6
  * (for as many bytes as come in, in_len).
  * The areas must not overlap; where they do, number 0 means nothing.
@@ -166,8 +167,8 @@ struct orderlink_answer orderlink_weave(uint64_t setting, uint64_t frames,
                                         uint8_t *out, size_t out_len);
 
 /*
- * Undoes the weaving of D = frames frames: the symbol at place i * D + f goes to
- * symbol i of frame f. Each of the two calls is the exact undoing of the other.
+ * Undoes the weaving of D frames (`frames` is D): the symbol at place i * D + f
+ * goes to symbol i of frame f. Each of the two calls is the exact undoing of the other.
  * Questions: 1, 14, 15, 2 and 3 (of one frame), 4 (the whole incoming area, as
  * it lies woven), 6 (for as many bytes as come in, in_len).
  * The areas must not overlap; where they do, number 0 means nothing.
@@ -181,8 +182,8 @@ struct orderlink_answer orderlink_unweave(uint64_t setting, uint64_t frames,
                                           uint8_t *out, size_t out_len);
 
 /*
- * Decodes D = frames woven receptions, each of T = reception_len / D / n - m
- * information blocks and as if it came alone.
+ * Decodes D woven receptions (`frames` is D), each of T = reception_len / D / n
+ * - m information blocks and as if it came alone.
  * Questions: 1, 14, 15, 2 and 3 (of one frame), 4 (the whole woven area, as it
  * lies), 5 (for D * T * k bytes), 6 (for D * (T + m) * n bytes). They give
  * `answer`. Then 7 of one frame after another gives each its own, `frame`.
@@ -194,9 +195,12 @@ struct orderlink_answer orderlink_unweave(uint64_t setting, uint64_t frames,
  * answer.number 0   by frame[f].number:
  *        number 0   the bytes of frame f hold the message that fits and its
  *                   transmission, block after block
- *        number 7   the bytes of frame f are 0, and those of no other frame for
- *                   that reason
- * any other         both areas are unchanged
+ *        number 7   the bytes of frame f are 0; other frames' bytes are their own
+ * any other         both areas are unchanged, and frame[] is all zeros, which
+ *                   says nothing
+ *
+ * So look at answer.number first, which is never 7, and then at frame[0] to
+ * frame[D - 1], whose numbers are 0 or 7.
  *
  * If answer.number is 0 and the only damage to the woven transmissions is one
  * run of at most D * t neighbouring symbols, every message comes back: no frame

@@ -1,6 +1,6 @@
 -- Lists as blocks: tabulated lists, symbols of a list, equal parts.
 -- Holds: `length-tabulate`, `getD-tabulate`, `tabulated`, `view-tabulate`, `getD-zeros`, `equal-part`, `part-equal`, `copied-whole`;
--- `filled`, `stored` (a loop that fills places); `place-in-blocks`, `equal-blocks`, `window-view` (places by block and symbol).
+-- `filled`, `stored` (a loop that fills places); `place-in-blocks`, `blocks-hold`, `equal-blocks`, `window-view` (places by block and symbol).
 use mathlib.Core.Path.{_≡_, refl, sym, ap, ap₂, _∙_, subst}
 use mathlib.Core.List.{List, _++_, append-nil}
 use Prim.Native.Nat.{ℕ, zero, suc, _+_, _*_, _/_, _%_, _≤_, _<_}
@@ -83,7 +83,7 @@ pub place-in-blocks : (j i w : ℕ) → 1 ≤ w → i < j * w → (i / w < j) ×
 place-in-blocks j i w h l = (div-lt-iff-lt-mul h .1 l, mod-lt i h, div-add-mod' i w)
 
 -- Where there is a place, a block has symbols.
-blocks-hold : (j i w : ℕ) → i < j * w → 1 ≤ w
+pub blocks-hold : (j i w : ℕ) → i < j * w → 1 ≤ w
 blocks-hold j i zero l = absurd (omega arith)
 blocks-hold j i (suc w) l = omega arith
 

@@ -1,6 +1,6 @@
 -- A part of a list as it is lent, and the list with another part in its place (`putMid`, what a lent part leaves in the whole), place by place.
 -- Holds: `front-weight`; `part-size`, `part-length`, `part-symbol`, `part-weight`; `put-length`, `put-before`, `put-inside`, `put-after`.
--- Of lists of parts of one size (`partAt`, `inTurn`): `length-part-at`, `part-at-symbol`; of a part put back (`withPart`) `part-put`,
+-- Of lists of parts of one size (`partAt`, `inTurn`): `parts-apart`, `length-part-at`, `part-at-symbol`; of a part put back (`withPart`) `part-put`,
 -- `length-put`, `part-put-before`, `drop-put`; of an area whose parts are known `take-in-turn`, `in-turn-of-parts`; `length-in-turn`, `part-at-in-turn`; of a
 -- loop that puts one part after another `PartsTo`, `parts-none`, `parts-more`.
 use mathlib.Core.Path.{_≡_, refl, sym, ap, ap₂, _∙_, subst}
@@ -76,7 +76,7 @@ module _ (a k : ℕ) (xs ys : List ℕ) (room : a + k ≤ length xs) (long : len
       ∙ (getD-drop k (drop a xs) (i - (a + k)) 0 ∙ (getD-drop a xs (k + (i - (a + k))) 0 ∙ ap (λ (t : ℕ). getD xs t 0) back))))
 
 -- The end of part g lies not past the start of part f.
-parts-apart : (size f g : ℕ) → g < f → g * size + size ≤ f * size
+pub parts-apart : (size f g : ℕ) → g < f → g * size + size ≤ f * size
 parts-apart size f g h = let next : g + 1 ≤ f = omega arith in omega (arith, mul-le-mul-right size next)
 
 -- The length of a part, and its symbols.

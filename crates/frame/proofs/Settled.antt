@@ -1,12 +1,12 @@
 -- How far the guess is settled: at the start, after other guesses, once block j was found; or that no message fits.
 -- Holds: `settled-start`, `near-of-fits`, `fits-below`, `settled-none`, `settled-revised`, `settled-found`.
 use mathlib.Core.Path.{_≡_, sym, ap, subst, _∙_}
-use mathlib.Core.List.{List, _++_}
+use mathlib.Core.List.{List}
 use Prim.Native.Nat.{ℕ, _+_, _-_, _*_, _≤_, _<_}
 use native.Mathlib.Nat.{mul-le-mul-right}
 use native.Mathlib.Omega.{arith}
 use native.Mathlib.Decide.{decLt}
-use lib.ListN.{length, getD, replicate, length-replicate, take, drop}
+use lib.ListN.{length, getD, replicate, length-replicate}
 use Rattle.algebra.specs.Ops.{sub}
 use Rattle.area.proofs.Lists.{getD-zeros}
 use Rattle.field.specs.Fields.{opsOf}
@@ -28,7 +28,7 @@ module _ (p : Setting) (S : Sound p) (T : ℕ) (reception : List ℕ) (R : Symbo
   received : (i : ℕ) → getD reception i 0 < p .q
   received = symbol-below (p .q) reception R (positive p S)
 
-  -- An empty message, and the reception itself as its residual.
+  -- The zero message, and the reception itself as its residual.
   pub settled-start : length reception ≡ (T + p .m) * p .n → (message : List ℕ) → message ≡ replicate (T * p .k) 0 → Settled p T reception 0 message reception
   settled-start long message e =
       record {

@@ -63,8 +63,8 @@ fn settle(
     found
 }
 
-// The windows in turn, of a reception that is its own residual for an empty message: blocks of window j are guessed, and then block j is made certain. The next window begins one block later; of its blocks only those
-// after the settled ones are guessed, since only they can have changed or are new.
+// The windows in turn, of a reception that is its own residual for the zero message: blocks of window j are guessed, and then block j is made certain. The next
+// window begins one block later; of its blocks only those after the settled ones are guessed, since only they can have changed or are new.
 fn read_windows(
     p: Setting,
     products: &Products,

@@ -18,13 +18,13 @@ use Rattle.code.proofs.Settings.{soundOf, block-positive}
 use Rattle.code.proofs.CodeBelow.{transmission-length}
 use Rattle.code.proofs.Demand3.{at-most-one-fits}
 use Rattle.question.specs.declared.Answer.{Answer}
-use Rattle.question.specs.Questions.{answer, firstNo, blocksOf, wovenDecodingQuestions}
+use Rattle.question.specs.Questions.{answer, blocksOf}
 use Rattle.weave.specs.Weaving.{woven}
 use Rattle.weave.specs.parts.Columns.{columnOf}
 use Rattle.weave.proofs.Weaving.{whole-frames, column-symbol, column-length, length-woven, woven-place}
 use Rattle.link.specs.declared.woven.WovenAnswer.{WovenAnswer}
 use Rattle.link.specs.Decoding.{FrameDecoded, found, none-fits}
-use Rattle.link.specs.Woven.{DecodedWoven, refused, well-formed, OneRun, AllReturned, BurstReturned}
+use Rattle.link.specs.Woven.{refused, well-formed, OneRun, AllReturned, BurstReturned}
 use Rattle.link.proofs.WovenFrames.{woven-known, column-alone}
 
 -- Symbol i of frame f of D stands at i × D + f: the first that stands at `start` or later, ..
@@ -68,10 +68,10 @@ module _ (p : Setting) (S : Sound p) (D T start run : ℕ) (messages : ℕ → L
   one-long : length sent / D ≡ (T + p .m) * p .n
   one-long = whole-frames D ((T + p .m) * p .n) (length sent) some sent-long
 
-  pub received-long : length received ≡ D * ((T + p .m) * p .n)
+  received-long : length received ≡ D * ((T + p .m) * p .n)
   received-long = only .long ∙ (length-woven D sent (sent-long ∙ ap (λ (t : ℕ). D * t) (sym one-long)) ∙ sent-long)
 
-  pub received-one : length received / D ≡ (T + p .m) * p .n
+  received-one : length received / D ≡ (T + p .m) * p .n
   received-one = whole-frames D ((T + p .m) * p .n) (length received) some received-long
 
   module _ (f : ℕ) (below : f < D) where

@@ -1,17 +1,16 @@
 -- Woven frames: one after another decoded on its own part of the areas, and from there to decoding's promise of each.
--- Holds: `no-answers`; `frames-none`, `frames-more`, as the loop over the frames goes; `woven-known`; `frame-column`, `alone`, `column-alone` (a frame by
--- itself); `woven-given`, `woven-decoded`.
+-- Holds: `no-answers`; `frames-none`, `frames-more`, as the loop over the frames goes; `woven-known`; `alone`, `column-alone` (a frame by itself);
+-- `woven-given`, `woven-decoded`.
 use mathlib.Core.Path.{_≡_, refl, sym, ap, subst, _∙_}
 use mathlib.Core.List.{List}
 use Prim.Native.Nat.{ℕ, _+_, _*_, _/_, _≤_, _<_}
-use native.Mathlib.Nat.{mul-comm, mul-le-mul-right}
+use native.Mathlib.Nat.{mul-comm}
 use native.Mathlib.Omega.{arith}
 use native.Mathlib.Decide.{decLt, ℕ-discrete}
-use lib.Dec.{T as Passes}
-use lib.ListN.{length, getD, drop, set, replicate, length-replicate, getD-replicate, List·getD-eq-default}
+use lib.ListN.{length, getD, set, replicate, length-replicate, getD-replicate, List·getD-eq-default}
 use lib.Seq.{getD-set-same, getD-set-other}
 use Rattle.area.specs.Lists.{partAt}
-use Rattle.area.proofs.Parts.{length-part-at, withPart, part-put, part-put-before, drop-put}
+use Rattle.area.proofs.Parts.{parts-apart, length-part-at, withPart, part-put, part-put-before, drop-put}
 use Rattle.field.specs.Symbols.{Symbols}
 use Rattle.code.specs.declared.Setting.{Setting}
 use Rattle.code.specs.Settings.{settingOf}
@@ -24,7 +23,7 @@ use Rattle.weave.proofs.Weaving.{column-length, column-symbols, column-part}
 use Rattle.link.specs.declared.woven.WovenAnswer.{WovenAnswer}
 use Rattle.link.specs.parts.WovenFrames.{FramesTo, EachDecoded}
 use Rattle.link.specs.Decoding.{FrameDecoded, Decoded}
-use Rattle.link.specs.Woven.{FramesDecoded, DecodedWoven, refused, well-formed}
+use Rattle.link.specs.Woven.{DecodedWoven, well-formed}
 use Rattle.link.proofs.Decoding.{decoded-alone, frame-alone}
 
 -- Before any frame is decoded, and after a refusal, every frame's answer is zeros.
@@ -85,7 +84,7 @@ module _ (number D : ℕ) (reception message transmitted : List ℕ)
     frame = partAt ((T + p .m) * p .n) f (unwoven D reception)
 
     -- It is column f of the woven area.
-    pub frame-column : columnOf D f reception ≡ frame
+    frame-column : columnOf D f reception ≡ frame
     frame-column = column-part D f reception below ∙ ap (λ (t : ℕ). partAt t f (unwoven D reception)) (woven-known .woven .frame .long-is)
 
     frame-long : length frame ≡ length reception / D
@@ -102,7 +101,7 @@ module _ (number D : ℕ) (reception message transmitted : List ℕ)
 
     -- Part f of an area with room for D parts.
     part-long : (size : ℕ) (area : List ℕ) → D * size ≤ length area → length (partAt size f area) ≡ size
-    part-long size area room = let end : (f + 1) * size ≤ D * size = mul-le-mul-right size (omega arith) in length-part-at size f area (omega arith)
+    part-long size area room = length-part-at size f area (omega (arith, parts-apart size D f below))
 
     short : length (partAt (T * p .k) f message) ≡ blocksOf p (length frame) * p .k
     short = part-long (T * p .k) message (woven-known .message-room) ∙ ap (λ (t : ℕ). t * p .k) (sym frame-blocks)

@@ -1,7 +1,7 @@
 -- What decoding of woven frames promises (02, #104), and what follows of a burst.
 -- Holds: `FramesDecoded`, the frames' own answers; `DecodedWoven`, a whole call; `OneRun`, `AllReturned`, `BurstReturned`, the promise on bursts.
 use mathlib.Core.Path.{_≡_}
-use mathlib.Core.List.{List, _++_}
+use mathlib.Core.List.{List}
 use Prim.Native.Nat.{ℕ, _+_, _*_, _/_, _≤_, _<_}
 use lib.ListN.{length, getD, drop}
 use Rattle.area.specs.Lists.{partAt, inTurn, overwritten}
@@ -24,7 +24,7 @@ pub record FramesDecoded (number D T : ℕ) (reception message transmitted : Lis
       (partAt (T * settingOf number .k) f message) (partAt ((T + settingOf number .m) * settingOf number .n) f transmitted)
       (getD answers f (answer 0 0 0))
       (partAt (T * settingOf number .k) f message') (partAt ((T + settingOf number .m) * settingOf number .n) f transmitted')
-  -- "zeros from frame D on"
+  -- No frame from D on: zeros.
   pub no-frame : (f : ℕ) → D ≤ f → getD answers f (answer 0 0 0) ≡ answer 0 0 0
   pub message-past : drop (D * (T * settingOf number .k)) message' ≡ drop (D * (T * settingOf number .k)) message
   pub transmission-past : drop (D * ((T + settingOf number .m) * settingOf number .n)) transmitted'

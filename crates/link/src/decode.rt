@@ -82,7 +82,7 @@ fn read_lent(
 
 // Question 7 of frame f of a woven area, on areas of just the sizes that the message and its transmission take. The frame is copied to the transmission area and
 // read there; the tables and the working areas are made here. A reception alone is one woven frame. The setting is taken by its number, so that the compiler
-// knows here which blocks there can be: that spares an eighth of the time.
+// knows which n and q there are (docs/DECISIONS.md).
 pub fn decode_frame(
     setting: u64,
     frames: usize,

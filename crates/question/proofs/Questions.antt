@@ -2,12 +2,12 @@
 -- Holds: of one question `first-yes`, `first-no`; of a list before others `append-yes`, `append-no`; `numbered`, `AllYes`, `all-yes`, `yes-all` (number 0
 -- says that every answer was "yes"), `true-of`, `number-of`;
 -- of each call what it asks over the setting in hand, `encodingLater`, `displayLater`, `weavingLater`, `wovenDecodingLater`;
--- of a call that asks in order `Left`, `left-all`, `left-yes`, `says-no`, `says-yes`, `left-again`, `says-rest`, `symbols-no`, `symbols-yes`,
+-- of a call that asks in order `Left`, `left-all`, `left-yes`, `says-no`, `says-yes`, `says-rest`, `symbols-no`, `symbols-yes`,
 -- `first-says-no`, `first-left`, `setting-left`, `after-first`, `after-asked`, `setting-known`, `setting-sizes`; of a share of the room `share`, `shares-left`;
 -- of question 4, as a loop asks it, `Searched`, `searched-none`, `searched-more`, `searched-stop`, `searched-all`, `map-same`, `symbolsTo-whole`,
 -- `whole-symbols`; what a call knows, `FrameShape`, `frame-of-setting`, `FrameYes`, `DecodingYes`, `EncodingYes`, `WindowYes`, `WovenYes`, `WovenDecodingYes`,
 -- `frame-yes`, `decoding-yes`, `encoding-yes`, `display-yes`, `marks-yes`, `woven-yes`, `weaving-yes`, `woven-decoding-yes`; from that the answer "yes",
--- `decoding-all-yes`; the areas' sizes, `message-most`, `transmission-most`, `transmission-small`, `window-small`.
+-- `decoding-all-yes`, `weaving-again`; the areas' sizes, `message-most`, `transmission-most`, `transmission-small`, `window-small`.
 use mathlib.Core.Path.{_≡_, refl, sym, ap, subst, _∙_}
 use mathlib.Core.Bool.{Bool, true, false, not, _&&_}
 use mathlib.Core.List.{List, [], _∷_, _++_, map}
@@ -134,10 +134,6 @@ says-no {all} {rest} {x} l e a = a ∙ sym (l .same ∙ first-no x rest e)
 
 pub says-yes : {all : List Question} {r : Answer} → Left all [] → r ≡ answer 0 0 0 → r ≡ firstNo all
 says-yes l a = a ∙ sym (l .same)
-
--- A question that got "yes" may be asked once more.
-pub left-again : {all rest : List Question} (x : Question) → Left all rest → x .holds ≡ true → Left all (x ∷ rest)
-left-again {all} {rest} x l e = record { same = l .same ∙ sym (first-yes x rest e) }
 
 -- What is left is asked by another call.
 pub says-rest : {all rest : List Question} {r : Answer} → Left all rest → r ≡ firstNo rest → r ≡ firstNo all
@@ -463,6 +459,20 @@ weaving-yes number D incoming room e =
         leb→le (length incoming) room (all .1 .1 .0),
       ),
     )
+
+-- Weaving asks the same of other symbols in the same number, which have the room.
+pub weaving-again : (number D : ℕ) (incoming other : List ℕ) (room room' : ℕ) → firstNo (weavingQuestions number D incoming room) .number ≡ 0
+    → length other ≡ length incoming → Symbols (settingOf number .q) other → length other ≤ room'
+    → firstNo (weavingQuestions number D other room') ≡ answer 0 0 0
+weaving-again number D incoming other room room' e same S enough =
+    let p = settingOf number in
+    let yes-to = all-yes (weavingQuestions number D incoming room) tt e in
+    let first = all-of-first (wovenQuestions number D (length incoming)) (weavingLater incoming room p) yes-to .0 in
+    let woven = subst (λ (t : ℕ). AllYes (wovenQuestions number D t)) (sym same) first in
+    let four = subst Passes (sym (eq-eqb (symbolsTo (p .q) other) (length other) (symbolsTo-whole (p .q) other S))) tt in
+    let six = le→leb (length other) room' enough in
+    yes-all (weavingQuestions number D other room')
+    (woven .0, (woven .1 .0, (woven .1 .1 .0, (woven .1 .1 .1 .0, (woven .1 .1 .1 .1 .0, (four, (six, tt)))))))
 
 -- What decoding of D woven frames knows when its questions got "yes".
 pub record WovenDecodingYes (number D : ℕ) (reception : List ℕ) (messageRoom transmissionRoom : ℕ) : Type 0 where

@@ -179,8 +179,8 @@ pub marks-samples : firstNo (marksQuestions 1 2060 0 513)
     ≡ answer 3 0 0 ∷ answer 12 0 0 ∷ answer 12 0 0 ∷ answer 13 0 0 ∷ answer 0 0 0 ∷ []
 marks-samples = refl
 
--- 1 before 14; 14 for no frame, one, nine and 2^64 − 1 frames, before 15; 15 before 2; no bytes pass 15 and get 2; 2 of one frame's length, though both frames'
--- together would do; 3; 4 with its place before 6; 6; yes.
+-- 1 before 14; 14 for no frame, one, nine and 2^64 − 1 frames, before 15; 15 before 2; an empty area passes 15 and gets 2; 2 of one frame's length, though both
+-- frames' together would do; 3; 4 with its place before 6; 6; yes.
 pub weaving-samples : firstNo (weavingQuestions 6 0 [] 0)
     ∷ firstNo (weavingQuestions 1 0 (replicate 23 9) 0)
     ∷ firstNo (weavingQuestions 1 1 (replicate 23 9) 0)

@@ -1,10 +1,10 @@
-// The questions of 01, asked in order by every call: the answer is the first "no".
+// The questions of 01 and 02, asked in order by every call: the answer is the first "no".
 ghost use mathlib.Core.Path.{_≡_};
 ghost use Prim.Native.Nat.{_+_, _≤_};
 ghost use lib.Dec.{T as Passes};
 ghost use Rattle.field.specs.Symbols.{Symbols};
 ghost use Rattle.code.specs.Settings.{isSetting, settingOf};
-ghost use Rattle.question.specs.Questions.{answer, firstNo, mostBlocks, symbolsTo, frameQuestions, areaQuestions, decodingQuestions, encodingQuestions, displayQuestions, marksQuestions};
+ghost use Rattle.question.specs.Questions.{answer, firstNo, mostBlocks, symbolsTo, lengthQuestions, frameQuestions, areaQuestions, decodingQuestions, encodingQuestions, displayQuestions, marksQuestions};
 ghost use Rattle.question.specs.Questions.{wovenQuestions, weavingQuestions, wovenDecodingQuestions};
 
 // "T at most 512"
@@ -87,13 +87,11 @@ fn first_not_below(q: usize, bytes: &[u8]) -> usize
     search_not_below(q, bytes)
 }
 
-// Questions 1, 2 and 3 of a frame of this many symbols.
-pub fn frame_questions(number: u64, long: usize) -> Answer
-    ensures { λ r. ⌜ r ≡ firstNo (frameQuestions number long) ⌝ }
+// Questions 2 and 3 of a frame of this many symbols.
+fn length_questions(number: u64, long: usize) -> Answer
+    requires { ⌜ Passes (isSetting number) ⌝ }
+    ensures { λ r. ⌜ r ≡ firstNo (lengthQuestions (settingOf number) «long») ⌝ }
 {
-    if !code::is_setting(number) {
-        return no(1, 0);
-    }
     let p = code::setting_of(number);
     let n = p.n;
     let m = p.m;
@@ -107,6 +105,16 @@ pub fn frame_questions(number: u64, long: usize) -> Answer
         return no(3, 0);
     }
     yes()
+}
+
+// Questions 1, 2 and 3 of a frame of this many symbols.
+pub fn frame_questions(number: u64, long: usize) -> Answer
+    ensures { λ r. ⌜ r ≡ firstNo (frameQuestions number long) ⌝ }
+{
+    if !code::is_setting(number) {
+        return no(1, 0);
+    }
+    length_questions(number, long)
 }
 
 // 4, 5 and 6 of frames of this many information blocks, in areas with this much room for each.
@@ -227,7 +235,7 @@ pub fn marks_questions(
     yes()
 }
 
-// Of this many frames woven into this many symbols: 1, 14, 15, and 2 and 3 of one frame. Question 1 is asked first, and again with 2 and 3.
+// Of this many frames woven into this many symbols: 1, 14, 15, and 2 and 3 of one frame.
 fn woven_questions(number: u64, frames: u64, long: usize) -> Answer
     ensures { λ r. ⌜ r ≡ firstNo (wovenQuestions number frames «long») ⌝ }
 {
@@ -245,7 +253,7 @@ fn woven_questions(number: u64, frames: u64, long: usize) -> Answer
         return no(15, 0);
     }
     let one = long / count;
-    frame_questions(number, one)
+    length_questions(number, one)
 }
 
 // Weaving and unweaving: 1, 14, 15, 2, 3, 4, 6.
@@ -268,7 +276,7 @@ pub fn weaving_questions(number: u64, frames: u64, incoming: &[u8], room: usize)
     yes()
 }
 
-// Decoding of woven frames: 1, 14, 15, 2, 3, 4, and 5 and 6 for all frames: for each a share of the room.
+// Decoding of woven frames: 1, 14, 15, 2, 3, 4, and 5 and 6 of one frame in a D-th of the room, which is the same as for all D.
 pub fn woven_decoding_questions(
     number: u64,
     frames: u64,

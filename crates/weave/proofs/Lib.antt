@@ -1,2 +1,3 @@
 -- Lemmas on woven frames.
 pub mod Weaving
+pub mod Undoing

@@ -1,20 +1,20 @@
 -- Woven frames: where each symbol goes, that weaving and unweaving undo each other, the columns of rows of symbols, and the calls.
--- Holds: `whole-frames` (the size of a frame); `length-transposed`, `transposed-symbol`, `transposed-twice`; `length-woven`, `length-unwoven`,
--- `woven-place`, `undone`, `rewoven`; of a column `column-length`, `column-symbol`, `column-place`, `column-symbols`, `column-part` (it is a frame of the
+-- Holds: `whole-frames` (the size of a frame); `length-transposed`, `transposed-symbol`, `transposed-twice`, `transposed-symbols`; `length-woven`,
+-- `length-unwoven`, `woven-place`, `undone`, `rewoven`; of a column `column-length`, `column-symbol`, `column-symbols`, `column-part` (it is a frame of the
 -- unwoven area), `column-one`; of the loops over its symbols and over the columns `column-of-symbols`, `column-size`, `column-room`,
 -- `transposed-of-columns`; of the calls `Movable`, `movable`, `laid-refused`, `laid-moved`.
 use mathlib.Core.Path.{_≡_, sym, ap, _∙_, subst}
 use mathlib.Core.List.{List, _++_}
 use Prim.Native.Nat.{ℕ, _+_, _*_, _/_, _%_, _≤_, _<_}
-use native.Mathlib.Nat.{div-one, div-mul-le-self, mul-le-mul-right, mul-div-cancel-left}
+use native.Mathlib.Nat.{div-one, div-mul-le-self, mul-div-cancel-left}
 use native.Mathlib.Omega.{arith}
 use lib.Arith.{digits-div, digits-mod, digits-lt}
 use lib.ListN.{length, getD, take, drop}
 use lib.Seq.{length-take-le}
 use borrow.Author.Tests.{eq-eqb, ne-eqb}
 use Rattle.area.specs.Lists.{partAt}
-use Rattle.area.proofs.Lists.{length-tabulate, getD-tabulate, tabulated, equal-blocks}
-use Rattle.area.proofs.Parts.{length-part-at, part-at-symbol}
+use Rattle.area.proofs.Lists.{length-tabulate, getD-tabulate, tabulated, place-in-blocks, blocks-hold, equal-blocks}
+use Rattle.area.proofs.Parts.{parts-apart, length-part-at, part-at-symbol}
 use Rattle.field.specs.Symbols.{Symbols}
 use Rattle.question.specs.declared.Answer.{Answer}
 use Rattle.question.specs.Questions.{firstNo, weavingQuestions}
@@ -48,6 +48,18 @@ transposed-twice rows columns l long =
     let same-long : length (transposed columns rows once) ≡ rows * columns = omega (arith, length-transposed columns rows once) in
     equal-blocks rows columns (transposed columns rows once) l same-long long
     (λ f i hf hi. transposed-symbol columns rows once f i hf hi ∙ transposed-symbol rows columns l i f hi hf)
+
+-- What is taken of symbols are symbols.
+pub transposed-symbols : (q rows columns : ℕ) (l : List ℕ) → length l ≡ rows * columns → Symbols q l → Symbols q (transposed rows columns l)
+transposed-symbols q rows columns l long S =
+    record {
+      below = λ s h.
+          let within : s < columns * rows = omega (arith, length-transposed rows columns l) in
+          let place = place-in-blocks columns s rows (blocks-hold columns s rows within) within in
+          subst (λ (t : ℕ). getD (transposed rows columns l) t 0 < q) (place .2)
+          (subst (λ (t : ℕ). t < q) (sym (transposed-symbol rows columns l (s / rows) (s % rows) (place .0) (place .1)))
+          (S .below (s % rows * columns + s / rows) (omega (arith, long, digits-lt (place .1) (place .0)))));
+    }
 
 -- D frames of one length keep their number of symbols, woven and unwoven.
 module _ (D : ℕ) (l : List ℕ) (long : length l ≡ D * (length l / D)) where
@@ -88,7 +100,7 @@ module _ (D f : ℕ) (area : List ℕ) where
   column-symbol i h = getD-tabulate _ _ i 0 h
 
   -- .. which stands within the rows.
-  pub column-place : f < D → (i : ℕ) → i < length area / D → i * D + f < length area
+  column-place : f < D → (i : ℕ) → i < length area / D → i * D + f < length area
   column-place hf i h =
       let within : i * D + f < length area / D * D = digits-lt h hf in omega (arith, within, div-mul-le-self (length area) D)
 
@@ -104,7 +116,7 @@ module _ (D f : ℕ) (area : List ℕ) where
   pub column-part : f < D → columnOf D f area ≡ partAt (length area / D) f (unwoven D area)
   column-part hf =
       let size = length area / D in
-      let room : f * size + size ≤ length (unwoven D area) = omega (arith, mul-le-mul-right size hf, length-transposed size D area) in
+      let room : f * size + size ≤ length (unwoven D area) = omega (arith, parts-apart size D f hf, length-transposed size D area) in
       sym
       (tabulated (partAt size f (unwoven D area)) size (λ i. getD area (i * D + f) 0) (length-part-at size f (unwoven D area) room)
       (λ i h. part-at-symbol size f (unwoven D area) i h ∙ transposed-symbol size D area f i hf h))
@@ -132,7 +144,7 @@ column-size rows columns c l long h =
 -- Columns laid one after another in an area of as many symbols: the place of each, and all of them.
 module _ (rows columns : ℕ) (area : List ℕ) (same : length area ≡ rows * columns) where
   pub column-room : (c : ℕ) → c < columns → c * rows + rows ≤ length area
-  column-room c h = omega (arith, mul-le-mul-right rows h, same)
+  column-room c h = omega (arith, parts-apart rows columns c h, same)
 
   pub transposed-of-columns : (l : List ℕ) → length l ≡ rows * columns → ((c : ℕ) → c < columns → partAt rows c area ≡ columnOf columns c l)
       → area ≡ transposed rows columns l

@@ -1,15 +1,15 @@
 -- Frames woven against bursts (02, #104), on lists, and what the calls that weave and unweave promise.
 -- Holds: `transposed`; `woven`, `unwoven`; `WovenPlace`, where a symbol goes; `Undone`, `Rewoven`, that each is the exact undoing of the other; `Laid`, a call;
--- `weaving-samples`.
+-- `CallUndone`; `woven-samples`.
 use mathlib.Core.Path.{_≡_, refl}
 use mathlib.Core.List.{List, [], _∷_, _++_}
 use Prim.Native.Nat.{ℕ, _+_, _*_, _/_, _%_, _≤_, _<_}
 use lib.Dec.{eqb}
-use lib.ListN.{length, getD, drop}
+use lib.ListN.{length, getD, take, drop}
 use Rattle.algebra.specs.Ops.{pick}
 use Rattle.area.specs.Lists.{tabulate}
 use Rattle.question.specs.declared.Answer.{Answer}
-use Rattle.question.specs.Questions.{firstNo, weavingQuestions}
+use Rattle.question.specs.Questions.{answer, firstNo, weavingQuestions}
 
 -- Rows of `columns` symbols, one after another, taken column by column: symbol i of row f goes to i × rows + f.
 unfoldable pub transposed : ℕ → ℕ → List ℕ → List ℕ
@@ -41,11 +41,19 @@ pub record Laid (number D : ℕ) (incoming laid before : List ℕ) (r : Answer) 
   pub answered : r ≡ firstNo (weavingQuestions number D incoming (length before))
   pub area : after ≡ pick (eqb (r .number) 0) (laid ++ drop (length incoming) before) before
 
+-- The same of the calls: what a call laid by `lay`, given to one that lays by `back` with room enough, gets number 0 and comes back as it was
+-- (`weaving-undone`, `unweaving-undone`, proofs/Undoing).
+abbrev pub CallUndone : (ℕ → List ℕ → List ℕ) → (ℕ → List ℕ → List ℕ) → Type 0
+CallUndone lay back = (number D : ℕ) (incoming before after lent returned : List ℕ) (r s : Answer)
+    → Laid number D incoming (lay D incoming) before r after → r .number ≡ 0 → length incoming ≤ length lent
+    → Laid number D (take (length incoming) after) (back D (take (length incoming) after)) lent s returned
+    → (s ≡ answer 0 0 0) × (returned ≡ incoming ++ drop (length incoming) lent)
+
 -- Examples, computed: three frames of two symbols; two of three.
-pub weaving-samples : woven 3 (1 ∷ 2 ∷ 3 ∷ 4 ∷ 5 ∷ 6 ∷ [])
+pub woven-samples : woven 3 (1 ∷ 2 ∷ 3 ∷ 4 ∷ 5 ∷ 6 ∷ [])
     ∷ unwoven 3 (1 ∷ 3 ∷ 5 ∷ 2 ∷ 4 ∷ 6 ∷ [])
     ∷ woven 2 (1 ∷ 2 ∷ 3 ∷ 4 ∷ 5 ∷ 6 ∷ [])
     ∷ []
     ≡ (1 ∷ 3 ∷ 5 ∷ 2 ∷ 4 ∷ 6 ∷ []) ∷ (1 ∷ 2 ∷ 3 ∷ 4 ∷ 5 ∷ 6 ∷ []) ∷ (1 ∷ 4 ∷ 2 ∷ 5 ∷ 3 ∷ 6 ∷ []) ∷ []
 unfolding transposed tabulate
-weaving-samples = refl
+woven-samples = refl

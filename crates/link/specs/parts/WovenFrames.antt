@@ -1,8 +1,8 @@
--- What decoding each of some woven frames promises. Holds: `EachDecoded`.
+-- What decoding one woven frame after another promises. Holds: `FramesTo`, the frames before one of them; `EachDecoded`, all of them.
 use mathlib.Core.Path.{_≡_}
 use mathlib.Core.List.{List}
 use Prim.Native.Nat.{ℕ, _+_, _*_, _≤_, _<_}
-use lib.ListN.{length, getD, drop}
+use lib.ListN.{getD, drop}
 use Rattle.area.specs.Lists.{partAt}
 use Rattle.code.specs.declared.Setting.{Setting}
 use Rattle.question.specs.declared.Answer.{Answer}

@@ -7,8 +7,8 @@ use lib.Dec.{T as Passes}
 use lib.ListN.{drop}
 use borrow.Author.Tests.{eq-eqb, ne-eqb, le-leb, lt-leb, not-true}
 use Rattle.code.specs.Settings.{isSetting}
-use Rattle.question.specs.Questions.{Question, ask, mostFrames, wovenQuestions}
-use Rattle.question.proofs.Questions.{true-of, Left, left-all, left-yes, left-again, says-no, says-rest, setting-known}
+use Rattle.question.specs.Questions.{Question, mostFrames, wovenQuestions}
+use Rattle.question.proofs.Questions.{true-of, Left, left-all, left-yes, says-no, says-rest, setting-known}
 use Rattle.question.proofs.woven_questions.Statement.{statement}
 use Rattle.question.proofs.woven_questions.Tie as tie
 
@@ -50,10 +50,7 @@ fifteen : (c : tie.Else4) → After (c .before .before .before .before .before) 
 fifteen c = left-yes (fourteen (c .before)) (eq-eqb _ _ (c .if4 .left))
 
 returns-5 : tie.Need-returns-5
-returns-5 c =
-    let one = true-of _ (known (c .before .before .before .before)) in
-    says-rest (left-again (ask 1 (isSetting (c .before .before .before .before .before .before .args .number))) (fifteen (c .before)) one)
-    (c .frame-questions .ensures)
+returns-5 c = says-rest (fifteen (c .before)) (c .length-questions .ensures)
 
 pub woven-questions-spec : {M : Type 1} → statement M
 woven-questions-spec =
@@ -65,4 +62,4 @@ woven-questions-spec =
     (λ c. omega (arith, c .before .if2 .left))
     (λ c κs. tt) returns-4
     (λ c. omega (arith, c .before .before .if2 .left))
-    (λ c κs. tt) returns-5)
+    (λ c κs. known (c .before .before .before)) returns-5)

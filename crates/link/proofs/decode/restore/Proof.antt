@@ -1,10 +1,10 @@
 -- `link::decode::restore`: the first i places are restored.
-use mathlib.Core.Path.{_≡_, sym, subst, _∙_}
+use mathlib.Core.Path.{_≡_, sym, subst}
 use Prim.Native.Nat.{ℕ, _+_, _-_, _*_, _/_, _≤_, _<_}
 use native.Mathlib.Nat.{mul-le-mul-right}
 use native.Mathlib.Omega.{arith}
 use denote.Ref.{now}
-use lib.ListN.{length, getD}
+use lib.ListN.{length}
 use Rattle.weave.specs.parts.Columns.{columnOf}
 use Rattle.weave.proofs.Weaving.{whole-frames, column-symbol}
 use Rattle.link.specs.parts.Restoring.{Restored}

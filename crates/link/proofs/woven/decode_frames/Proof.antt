@@ -1,11 +1,11 @@
 -- `link::woven::decode_frames`: the frames before f were decoded.
 use mathlib.Core.Path.{_≡_, refl, sym, ap, subst, _∙_}
 use Prim.Native.Nat.{ℕ, _+_, _-_, _*_, _≤_, _<_}
-use native.Mathlib.Nat.{mul-le-mul, mul-le-mul-right}
+use native.Mathlib.Nat.{mul-le-mul}
 use native.Mathlib.Omega.{arith}
 use denote.Ref.{now}
 use lib.ListN.{length, length-set}
-use Rattle.area.proofs.Parts.{part-length, length-put}
+use Rattle.area.proofs.Parts.{parts-apart, part-length, length-put}
 use Rattle.code.specs.declared.Setting.{Setting}
 use Rattle.code.specs.Settings.{settingOf}
 use Rattle.question.specs.Questions.{mostFrames, mostSymbols, mostInformation}
@@ -17,7 +17,7 @@ use Rattle.link.proofs.woven.decode_frames.Tie as tie
 
 abbrev Inv-loop : tie.InvT-loop
 Inv-loop setting frames blocks woven message₀ transmission₀ n k m short long answers₀ f₀ message transmission answers f =
-    (f ≤ frames) × (length message ≡ length message₀) × (length transmission ≡ length transmission₀) × (length answers ≡ 8)
+    (f ≤ frames) × (length message ≡ length message₀) × (length transmission ≡ length transmission₀) × (length answers ≡ mostFrames)
     × FramesTo (settingOf setting) blocks frames f woven message₀ transmission₀ answers message transmission
 
 abbrev μ-loop : tie.MeasureT-loop
@@ -48,11 +48,7 @@ transmission-room c =
     subst (λ (p : Setting). entry-of c .args .frames * ((entry-of c .args .blocks + p .m) * p .n) ≤ length (now (entry-of c .args .transmission)))
     (sym (c .setting-of .ensures)) (entry-of c .pre .7)
 
--- Part f lies within D parts.
-inside : (D size f : ℕ) → f < D → f * size + size ≤ D * size
-inside D size f h = let next : f + 1 ≤ D = omega arith in omega (arith, mul-le-mul-right size next)
-
--- What a frame takes is a small number..
+-- What a frame takes is a small number, so that what fails, where a frame is lent too much, is that the area has it..
 short-small : (c : tie.After-setting-of Inv-loop μ-loop) → short c ≤ mostInformation
 short-small c =
     let entry = entry-of c in
@@ -78,7 +74,7 @@ mul-long : tie.Need-mul-long Inv-loop μ-loop
 mul-long c = omega (arith, long-small c)
 
 loop-holds : tie.Need-loop-holds Inv-loop μ-loop
-loop-holds c = (omega arith, refl, refl, refl, frames-none _ _ _ _ _ _ _ (no-answers 8 (c .yes .ensures)))
+loop-holds c = (omega arith, refl, refl, refl, frames-none _ _ _ _ _ _ _ (no-answers mostFrames (c .yes .ensures)))
 
 -- Part f of each area.
 abbrev setting-at : tie.In-loop Inv-loop μ-loop → tie.After-setting-of Inv-loop μ-loop
@@ -87,13 +83,13 @@ setting-at c = c .before .before .before
 message-part : (c : tie.In-loop Inv-loop μ-loop) → c .before .loop .f * short (setting-at c) + short (setting-at c) ≤ length (c .before .loop .message)
 message-part c =
     let s = setting-at c in
-    omega (arith, inside (entry-of s .args .frames) (short s) (c .before .loop .f) (c .loop-test .taken), message-room s, c .before .loop .inv .1)
+    omega (arith, parts-apart (short s) (entry-of s .args .frames) (c .before .loop .f) (c .loop-test .taken), message-room s, c .before .loop .inv .1)
 
 transmission-part : (c : tie.In-loop Inv-loop μ-loop)
     → c .before .loop .f * long (setting-at c) + long (setting-at c) ≤ length (c .before .loop .transmission)
 transmission-part c =
     let s = setting-at c in
-    omega (arith, inside (entry-of s .args .frames) (long s) (c .before .loop .f) (c .loop-test .taken), transmission-room s, c .before .loop .inv .2)
+    omega (arith, parts-apart (long s) (entry-of s .args .frames) (c .before .loop .f) (c .loop-test .taken), transmission-room s, c .before .loop .inv .2)
 
 -- .. and so is where its part begins.
 start-small : (c : tie.In-loop Inv-loop μ-loop) → c .before .loop .f * short (setting-at c) ≤ mostFrames * mostInformation
@@ -142,7 +138,7 @@ decode-frame-requires c κs =
 abbrev turn-of : tie.After-slice-known4 Inv-loop μ-loop → tie.In-loop Inv-loop μ-loop
 turn-of c = c .before .before .before .before .before .before .before
 
-few : (c : tie.After-slice-known4 Inv-loop μ-loop) → turn-of c .before .loop .f < 8
+few : (c : tie.After-slice-known4 Inv-loop μ-loop) → turn-of c .before .loop .f < mostFrames
 few c = omega (arith, turn-of c .loop-test .taken, entry-of (setting-at (turn-of c)) .pre .1)
 
 mul-answers : tie.Need-mul-answers Inv-loop μ-loop

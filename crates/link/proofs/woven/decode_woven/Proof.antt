@@ -7,7 +7,7 @@ use lib.ListN.{length}
 use borrow.Author.Needs.{needs}
 use Rattle.code.specs.declared.Setting.{Setting}
 use Rattle.code.specs.Settings.{settingOf}
-use Rattle.question.specs.Questions.{firstNo, blocksOf, wovenDecodingQuestions}
+use Rattle.question.specs.Questions.{firstNo, mostFrames, blocksOf, wovenDecodingQuestions}
 use Rattle.question.proofs.Questions.{FrameShape, frame-of-setting, WovenDecodingYes, woven-decoding-yes, number-of}
 use Rattle.link.specs.Woven.{refused}
 use Rattle.link.proofs.WovenFrames.{no-answers, woven-given, woven-decoded}
@@ -21,7 +21,7 @@ entry-of c = c .before .before .before .before .before .before
 returns : tie.Need-returns
 returns c =
     let asked = c .before .before .before .woven-decoding-questions .ensures in
-    refused (λ z. c .before .if1 .taken (ap (λ a. a .number) asked ∙ z)) asked (no-answers 8 (c .yes .ensures)) refl refl
+    refused (λ z. c .before .if1 .taken (ap (λ a. a .number) asked ∙ z)) asked (no-answers mostFrames (c .yes .ensures)) refl refl
 
 -- The questions before 7 got "yes".
 asked : (c : tie.Else1)
