@@ -1,4 +1,6 @@
 // Bytes and areas of them, whatever they mean: a byte as a size, an area cleared, its bytes that are not zero counted.
+#![tactic(auto)]
+
 ghost use Rattle.std.specs.Prelude.{◌≡◌, not, min, ◌≤◌, eqb, length, replicate};
 ghost use Rattle.algebra.specs.Ops.{pick};
 ghost use Rattle.area.specs.parts.Weights.{weight_of};

@@ -3,6 +3,8 @@
 // shows the spectrum of the error: these are the syndromes. The locator that annihilates what is known of it continues it by a recurrence, rightly if
 // the error is light; what the received block has besides is the code block's spectrum, and the information is read off it. Unless all
 // syndromes are zero, the block is rebuilt from the rows and compared, so a good answer rests on nothing else.
+#![tactic(auto)]
+
 pub mod information;
 mod locator;
 mod spectrum;
@@ -20,7 +22,7 @@ use code::Setting;
 use field::Products;
 
 // The locator's degree at most, and the point of the next value of the spectrum.
-#[derive(Drop)]
+#[derive(Clone, Copy)]
 struct LocatorStart {
     degree: usize,
     point: u8,

@@ -10,7 +10,7 @@ ghost use Rattle.block.specs.parts.LocatorAreas.{UnitSeries, Multiple, LocatorPa
 use field::Products;
 
 // How far the search for the locator has come: its degree at most, the place where that last changed, and what undoes the former locator's discrepancy there.
-#[derive(Drop)]
+#[derive(Clone, Copy)]
 pub struct LocatorState {
     pub degree: usize,
     pub place: usize,
@@ -75,9 +75,9 @@ fn exchange(
     requires { Good q × ProductsOf q products.now × (factor < q) × AllBelow q locator.old × AllBelow q former.old × (shift + count ≤ length locator.old) × (length former.old ≡ length locator.old) × (length spare.old ≡ length locator.old) }
     ensures { Multiple q factor shift count former.old locator.old locator.new × (former.new ≡ locator.old) }
 {
-    bytes::copy(locator, spare);
+    spare.copy_from_slice(locator);
     subtract_multiple(q, products, factor, shift, count, former, locator);
-    bytes::copy(spare, former);
+    former.copy_from_slice(spare);
 }
 
 // One place more: the locator of the series before place `next` becomes that up to it.

@@ -2,6 +2,8 @@
 // d_l, and with none where none does. Every block of setting 1; of settings 2 and 3 every block whose number is a multiple of a stride. In the others
 // hardly any block that could be gone through has a code block near it that is not zero.
 // Writes for each setting and level: how many blocks, how many of them near, in how many the two agree.
+#![tactic(auto)]
+
 ghost use Rattle.std.specs.Prelude.{◌≡◌, ◌≤◌, ◌<◌, T as Passes, length};
 ghost use Rattle.field.specs.parts.Operations.{Good};
 ghost use Rattle.field.specs.Symbols.{Symbols};
@@ -169,7 +171,7 @@ fn repaired(
 }
 
 // How many blocks have information near, and on how many the block step and enumeration agree.
-#[derive(Drop)]
+#[derive(Clone, Copy)]
 struct Tally {
     near: usize,
     agree: usize,

@@ -1,11 +1,13 @@
 // The code of document 01 in specs/, and what is true of it in proofs/; the settings at run time.
+#![tactic(auto)]
+
 ghost use Rattle.std.specs.Prelude.{◌≡◌, ◌≤◌, T as Passes};
 ghost use Rattle.code.specs.Code.{level_distance, distances_to};
 ghost use Rattle.code.specs.Settings.{setting, is_setting, setting_of};
 ghost use Rattle.code.specs.parts.Sound.{Sound};
 
 // A setting (the code's parameters): q elements, blocks of n = q - 1 symbols, information blocks of k, memory m.
-#[derive(Drop)]
+#[derive(Clone, Copy)]
 pub struct Setting {
     pub q: usize,
     pub n: usize,

@@ -7,7 +7,7 @@ ghost use Rattle.desk.specs.Turns.{answers_room, Room, Turned};
 ghost use Rattle.desk.specs.parts.Lines.{Within, PartKept, Behind, Stepped, LinesRead};
 
 // How far a buffer is read, how many characters of the unfinished line there are kept, and how much output waits.
-#[derive(Drop)]
+#[derive(Clone, Copy)]
 struct Progress {
     from: usize,
     held: usize,

@@ -1,4 +1,6 @@
 // The planning desk: reads lines from standard input to its end and writes one line for each (01, "Lines at the planning desk").
+#![tactic(auto)]
+
 mod lines;
 
 ghost use Rattle.std.specs.Prelude.{[]};

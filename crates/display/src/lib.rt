@@ -1,4 +1,6 @@
 // What is shown of a window: window j of a reception, as that part of the caller's own bytes, and where it differs from a transmission (module `mark`).
+#![tactic(auto)]
+
 pub mod mark;
 
 ghost use Rattle.std.specs.Prelude.{◌≡◌, length};
@@ -9,7 +11,7 @@ use question::Answer;
 
 // The differences in a window, one bit a symbol, the earliest lowest, and how many are set.
 #[repr(C)]
-#[derive(Drop)]
+#[derive(Clone, Copy)]
 pub struct Marks {
     pub answer: Answer,
     pub marks: u64,

@@ -1,6 +1,8 @@
 // The fields of 01 and 02 with q elements, q chosen at run time: five, eight or sixteen. A symbol is a `u8` below q.
 // Read-only in the source are a field's powers of α and their exponents. The outermost call makes the table of products and inverses from them, in its working
 // memory, and lends it down.
+#![tactic(auto)]
+
 ghost use Rattle.std.specs.Prelude.{◌<◌, ◌≤◌, length, drop};
 ghost use Rattle.algebra.specs.Ops.{sub};
 ghost use Rattle.algebra.specs.Polynomial as polynomial;

@@ -1,4 +1,6 @@
 // The functions that a C program calls (include/orderlink.h), thin over the proved library: the three of 01 here, those of 02 each in a module of its own.
+#![tactic(auto)]
+
 pub mod woven;
 
 ghost use Rattle.display.specs.Marks.{Marked};

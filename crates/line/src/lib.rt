@@ -1,4 +1,6 @@
 // One line at the planning desk: a line in, a line out.
+#![tactic(auto)]
+
 ghost use Rattle.std.specs.Prelude.{◌≡◌, true};
 ghost use Rattle.line.specs.Questions.{HoldsFrame};
 ghost use Rattle.line.specs.Answering.{output_line, message_in, Shown, line_areas, has_room, room_in, FrameLeft, Answered};

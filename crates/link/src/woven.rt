@@ -10,7 +10,7 @@ use question::Answer;
 
 // One common answer, to the questions before 7, and the frames' own answers in order; zeros in the places of frames that there are not, and after a refusal.
 #[repr(C)]
-#[derive(Drop)]
+#[derive(Clone, Copy)]
 pub struct WovenAnswer {
     pub answer: Answer,
     pub frame: [Answer; question::MOST_FRAMES],

@@ -3,6 +3,8 @@
 // A line in: the call's letter, the setting, and j or D (16 digits each), the lengths of three areas (4 digits each), with a space after each,
 // then the areas, two digits a byte, one after the other. All digits are hexadecimal.
 // A line out: number, place and count of the answer in decimal, then what the call returned and what it left in the areas; for a desk line, its answer.
+#![tactic(auto)]
+
 ghost use Rattle.std.specs.Prelude.{◌≡◌, ◌≤◌, ◌<◌, length};
 
 use libc::{STDIN_FILENO, STDOUT_FILENO};
@@ -267,7 +269,7 @@ fn call_on(
 }
 
 // What stands at the start of a line.
-#[derive(Drop)]
+#[derive(Clone, Copy)]
 struct Head {
     call: u8,
     number: u64,

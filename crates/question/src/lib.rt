@@ -1,4 +1,6 @@
 // The questions of 01 and 02, asked in order by every call: the answer is the first "no".
+#![tactic(auto)]
+
 ghost use Rattle.std.specs.Prelude.{◌≡◌, ◌+◌, ◌≤◌, T as Passes};
 ghost use Rattle.field.specs.Symbols.{Symbols};
 ghost use Rattle.code.specs.Settings.{is_setting, setting_of};
@@ -13,7 +15,7 @@ pub const MOST_FRAMES: usize = 8;
 
 // The answer of every call: the number and place of the first question answered "no", or 0 and 0, and the altered count.
 #[repr(C)]
-#[derive(Drop)]
+#[derive(Clone, Copy)]
 pub struct Answer {
     pub number: u32,
     pub altered: u32,

@@ -1,4 +1,6 @@
 // The generator of each setting as a nested table, and its rows laid out: made once in a library call and lent down.
+#![tactic(auto)]
+
 ghost use Rattle.std.specs.Prelude.{◌≡◌, ◌+◌, ◌≤◌, ◌<◌, T as Passes, length};
 ghost use Rattle.std.proofs.Math.Seq.{paste};
 ghost use Rattle.code.specs.Settings.{is_setting, setting_of};

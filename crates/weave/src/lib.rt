@@ -1,4 +1,6 @@
 // Frames woven against bursts (02, #104): symbol i of frame f of D goes to i × D + f.
+#![tactic(auto)]
+
 ghost use Rattle.std.specs.Prelude.{◌≡◌, ◌*◌, ◌<◌, length};
 ghost use Rattle.weave.specs.Weaving.{transposed, woven, unwoven, Laid};
 ghost use Rattle.weave.specs.parts.Columns.{column_of};

@@ -1,0 +1,5 @@
+-- `display::window_answer`: the display's questions.
+use Rattle.display.proofs.window_answer.Goals as goal
+
+pub returns : goal.returns
+returns c = c.display_questions.ensures

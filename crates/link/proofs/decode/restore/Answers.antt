@@ -1,0 +1,75 @@
+-- `link::decode::restore`: the first i places are restored.
+use mathlib.Core.Path.{◌≡◌, sym, subst}
+use Prim.Native.Nat.{ℕ, ◌+◌, ◌-◌, ◌*◌, ◌/◌, ◌≤◌, ◌<◌}
+use native.Mathlib.Nat.{mul-le-mul_right}
+use native.Mathlib.Omega.{arith}
+use lib.ListN.{length}
+use Rattle.weave.specs.parts.Columns.{column_of}
+use Rattle.weave.proofs.Weaving.{whole_frames, column_symbol}
+use Rattle.link.specs.parts.Restoring.{Restored}
+use Rattle.link.proofs.Decoding.{restored_none, restored_more}
+use Rattle.link.proofs.decode.restore.Goals as goal
+
+pub loop-i-init : goal.loop-i-init
+loop-i-init c = let a = c.args in (omega arith, restored_none a.q (column_of a.frames a.f a.woven.now) a.residual.now)
+
+pub overflow_mul-i : goal.overflow_mul-i
+overflow_mul-i c =
+    let row : c.loop-i.i * c.args.frames + c.args.frames ≤ length c.args.woven.now = let within : c.loop-i.i < length c.args.residual.now = omega (arith, c.loop-i.invariant.1.long) in
+    omega (arith, mul-le-mul_right c.args.frames within, c.requires.2) in
+    omega (arith, row)
+
+pub overflow_add-i : goal.overflow_add-i
+overflow_add-i c =
+    let row : c.loop-i.i * c.args.frames + c.args.frames ≤ length c.args.woven.now = let within : c.loop-i.i < length c.args.residual.now = omega (arith, c.loop-i.invariant.1.long) in
+    omega (arith, mul-le-mul_right c.args.frames within, c.requires.2) in
+    omega (arith, row, c.requires.1)
+
+pub bounds-woven-i : goal.bounds-woven-i
+bounds-woven-i c =
+    let row : c.loop-i.i * c.args.frames + c.args.frames ≤ length c.args.woven.now = let within : c.loop-i.i < length c.args.residual.now = omega (arith, c.loop-i.invariant.1.long) in
+    omega (arith, mul-le-mul_right c.args.frames within, c.requires.2) in
+    omega (arith, row, c.requires.1)
+
+pub bounds-residual-i : goal.bounds-residual-i
+bounds-residual-i c = omega (arith, c.loop-i.invariant.1.long)
+
+pub subtract-symbol-requires : goal.subtract-symbol-requires
+subtract-symbol-requires c =
+    let row : c.loop-i.i * c.args.frames + c.args.frames ≤ length c.args.woven.now = let within : c.loop-i.i < length c.args.residual.now = omega (arith, c.loop-i.invariant.1.long) in
+    omega (arith, mul-le-mul_right c.args.frames within, c.requires.2) in
+    let l = c.loop-i in
+    let least : l.i ≤ l.i = omega arith in (
+      c.requires.0,
+      c.requires.3.below (l.i * c.args.frames + c.args.f) (omega (arith, row, c.requires.1)),
+      subst (λ (t : ℕ). t < c.args.q) (sym (l.invariant.1.outside l.i least)) (c.requires.4.below l.i (omega (arith, l.invariant.1.long))),
+    )
+
+pub bounds-residual-i-in-loop-i : goal.bounds-residual-i-in-loop-i
+bounds-residual-i-in-loop-i c = omega (arith, c.loop-i.invariant.1.long)
+
+pub overflow_add-i-in-loop-i : goal.overflow_add-i-in-loop-i
+overflow_add-i-in-loop-i c = omega (arith, c.loop-i.invariant.1.long)
+
+pub loop-i-smaller : goal.loop-i-smaller
+loop-i-smaller c = omega (arith, c.loop-i.invariant.1.long)
+
+pub loop-i-preserved : goal.loop-i-preserved
+loop-i-preserved c =
+    let a = c.args in
+    let l = c.loop-i in
+    let some : 1 ≤ a.frames = omega (arith, c.requires.1) in
+    let size : length a.woven.now / a.frames ≡ length a.residual.now =
+    whole_frames a.frames (length a.residual.now) (length a.woven.now) some (omega (arith, c.requires.2)) in (
+      omega (arith, l.invariant.1.long),
+      restored_more a.q (column_of a.frames a.f a.woven.now) a.residual.now l.i l.residual c.subtract-symbol.result l.invariant.1
+          (omega (arith, l.invariant.1.long))
+          (rw (column_symbol a.frames a.f a.woven.now l.i (omega (arith, size, l.invariant.1.long))) c.subtract-symbol.ensures.same),
+    )
+
+pub returns : goal.returns
+returns c =
+    let a = c.args in
+    let done : c.loop-i.i ≡ length a.residual.now = omega (arith, c.loop-i.invariant.1.long) in
+    subst (λ (t : ℕ). Restored a.q t (column_of a.frames a.f a.woven.now) a.residual.now c.loop-i.residual) done
+    c.loop-i.invariant.1

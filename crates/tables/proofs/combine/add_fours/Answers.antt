@@ -1,0 +1,37 @@
+-- `tables::combine::add_fours`: the multiple was added to the first i symbols.
+use Prim.Native.Nat.{◌+◌, ◌-◌}
+use native.Mathlib.Omega.{arith}
+use Rattle.tables.proofs.RowsAdded.{added_none, added_up}
+use Rattle.tables.proofs.combine.add_fours.Goals as goal
+
+pub returns-then-q-ne5 : goal.returns-then-q-ne5
+returns-then-q-ne5 c =
+    let a = c.args in
+    (omega arith, added_none a.q a.v a.row.now 0 a.area.now c.requires.4)
+
+pub loop-area-init : goal.loop-area-init
+loop-area-init c =
+    let a = c.args in
+    (omega arith, added_none a.q a.v a.row.now 0 a.area.now c.requires.4)
+
+pub overflow_sub-area : goal.overflow_sub-area
+overflow_sub-area c = omega (arith, c.loop-area.invariant.0, c.loop-area.invariant.1.long)
+
+pub add_four-requires : goal.add_four-requires
+add_four-requires c =
+    let p = c.requires in
+    (p.0, p.1, p.2, p.3, c.loop-area.invariant.1.symbols, omega (arith, p.5, c.loop-area.invariant.1.long), omega (arith, c.loop-area.invariant.1.long))
+
+pub loop-area-preserved : goal.loop-area-preserved
+loop-area-preserved c =
+    let a = c.args in
+    let i = c.loop-area.i in (
+      omega (arith, c.loop-area.invariant.1.long),
+      added_up a.q a.v a.row.now 0 i i (i + 4) (i + 4) (omega arith) (omega arith) (omega arith) (omega arith) a.area.now _ _ c.loop-area.invariant.1
+          c.add_four.ensures,
+    )
+
+pub returns : goal.returns
+returns c = c.loop-area.invariant
+
+-- TODO place (after loop-area-preserved): c.loop-area.invariant.1.long
