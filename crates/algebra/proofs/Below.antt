@@ -5,7 +5,7 @@
 use mathlib.Core.Path.{◌≡◌, refl, sym, ap, subst, ◌∙◌}
 use mathlib.Core.HLevel.{Σ_prop_path}
 use mathlib.Core.Bool.{Bool, true, false}
-use Prim.Native.Nat.{ℕ, zero, suc, ◌<◌, ◌%◌}
+use Prim.Native.Nat.{ℕ, suc, ◌<◌, ◌%◌}
 use native.Mathlib.Nat.{mod-lt, mod-eq_of_lt}
 use native.Mathlib.Bridge.{le_prop}
 use native.Mathlib.Omega.{arith}

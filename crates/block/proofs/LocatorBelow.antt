@@ -3,7 +3,7 @@
 -- `tail_down`, `located_up`; the steps `start_below`, `kept_below`, `corrected_below`, `grown_below`;
 -- `series_vanishes` (what a locator of degree 0 annihilates).
 use mathlib.Core.Path.{◌≡◌, sym, ap, ap₂, subst, ◌∙◌}
-use Prim.Native.Nat.{ℕ, zero, suc, ◌+◌, ◌-◌, ◌≤◌, ◌<◌}
+use Prim.Native.Nat.{ℕ, suc, ◌+◌, ◌-◌, ◌≤◌, ◌<◌}
 use native.Mathlib.Omega.{arith}
 use Rattle.algebra.specs.Ops.{Ops, sub}
 use Rattle.algebra.specs.Sum.{sum}

@@ -13,8 +13,10 @@ ghost use Rattle.block.specs.parts.BlockAreas.{BlockAreas};
 
 use code::Setting;
 use field::Products;
-use libc::STDOUT_FILENO;
 use tables::LONGEST_BLOCK;
+
+// The descriptor of standard output.
+const STDOUT: i32 = 1;
 
 // A number's digits to the base q: its i-th block, or its i-th information.
 fn digits(q: usize, number: usize) -> [u8; LONGEST_BLOCK]
@@ -204,10 +206,10 @@ fn one(
 }
 
 fn print(number: usize, after: u8) {
-    io::print_decimal(STDOUT_FILENO, number as u64);
+    io::print_decimal(STDOUT, number as u64);
     let mut text = [0u8; 1];
     text[0] = after;
-    io::write_all(STDOUT_FILENO, &text);
+    io::write_all(STDOUT, &text);
 }
 
 // Every block below `end` whose number is a multiple of the stride.

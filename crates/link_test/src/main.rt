@@ -7,8 +7,12 @@
 
 ghost use Rattle.std.specs.Prelude.{◌≡◌, ◌≤◌, ◌<◌, length};
 
-use libc::{STDIN_FILENO, STDOUT_FILENO};
 use question::Answer;
+
+// The descriptors of standard input and output.
+const STDIN: i32 = 0;
+
+const STDOUT: i32 = 1;
 
 // The value of a digit, and 0 for any other byte.
 fn value(digit: u8) -> u8
@@ -81,19 +85,19 @@ fn show(bytes: &[u8], digits: &mut [u8]) {
         at += 2;
         i += 1;
     }
-    io::write_all(STDOUT_FILENO, &digits[..at]);
+    io::write_all(STDOUT, &digits[..at]);
 }
 
 fn show_number(number: u64) {
-    io::print_decimal(STDOUT_FILENO, number);
+    io::print_decimal(STDOUT, number);
 }
 
 fn space() {
-    io::write_all(STDOUT_FILENO, b" ");
+    io::write_all(STDOUT, b" ");
 }
 
 fn end_line() {
-    io::write_all(STDOUT_FILENO, b"\n");
+    io::write_all(STDOUT, b"\n");
 }
 
 fn show_answer(answer: Answer) {
@@ -204,7 +208,7 @@ fn answer_in(
     if output.len() < long {
         return;
     }
-    io::write_all(STDOUT_FILENO, &output[..long]);
+    io::write_all(STDOUT, &output[..long]);
     end_line();
 }
 
@@ -350,7 +354,7 @@ fn run(
     if digits.len() < size {
         return false;
     }
-    if io::read_full(STDIN_FILENO, &mut digits[..size]) != size {
+    if io::read_full(STDIN, &mut digits[..size]) != size {
         return false;
     }
     handed(
@@ -374,7 +378,7 @@ fn next(
     if start.len() != 51 {
         return false;
     }
-    if io::read_full(STDIN_FILENO, start) != 51 {
+    if io::read_full(STDIN, start) != 51 {
         return false;
     }
     let head = head_of(start);

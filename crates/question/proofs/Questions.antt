@@ -34,6 +34,7 @@ use Rattle.question.specs.Questions.{encoding_questions, display_questions, mark
 
 pub true_of : (t : Bool) → Passes t → t ≡ true
 true_of true h = refl
+true_of false h = elim h [ ]
 
 -- One question: "yes" asks the rest, "no" is the answer.
 pub first_yes : (x : Question) (rest : List Question) → x.holds ≡ true → first_no (x ∷ rest) ≡ first_no rest

@@ -1,6 +1,6 @@
 -- `code::distances_to`: the sum of the distances up to level i.
 use mathlib.Core.Path.{◌≡◌, ap₂, ◌∙◌}
-use Prim.Native.Nat.{◌+◌, ◌-◌}
+use Prim.Native.Nat.{◌+◌}
 use native.Mathlib.Omega.{arith}
 use Rattle.code.proofs.Settings.{sizes}
 use Rattle.code.proofs.Distances.{distances_none, distances_more}

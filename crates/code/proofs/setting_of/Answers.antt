@@ -8,32 +8,31 @@ use Rattle.code.specs.Settings.{settings, setting_of}
 use Rattle.code.proofs.Settings.{setting_range}
 use Rattle.code.proofs.setting_of.Goals as goal
 
+-- What is entry s of the list is the setting with number n, if s is n.
+entry : {n : ℕ} (s : ℕ) {p : Setting} → p ≡ setting_of s → s ≡ n → p ≡ setting_of n
+entry s same e = same ∙ ap setting_of e
+
 pub returns-then-number-lt2 : goal.returns-then-number-lt2
 returns-then-number-lt2 c =
     let range : (1 ≤ c.args.number) × (c.args.number ≤ length settings) = setting_range c.args.number c.requires in
-    let entry : (s : ℕ) {p : Setting} → p ≡ setting_of s → s ≡ c.args.number → p ≡ setting_of c.args.number = λ s same e. same ∙ ap setting_of e in
     entry 1 c.parameters.ensures (omega (arith, range))
 
 pub returns-then-number-lt3 : goal.returns-then-number-lt3
 returns-then-number-lt3 c =
     let range : (1 ≤ c.args.number) × (c.args.number ≤ length settings) = setting_range c.args.number c.requires in
-    let entry : (s : ℕ) {p : Setting} → p ≡ setting_of s → s ≡ c.args.number → p ≡ setting_of c.args.number = λ s same e. same ∙ ap setting_of e in
     entry 2 c.parameters-then-number-lt3.ensures (omega (arith, range))
 
 pub returns-then-number-lt4 : goal.returns-then-number-lt4
 returns-then-number-lt4 c =
     let range : (1 ≤ c.args.number) × (c.args.number ≤ length settings) = setting_range c.args.number c.requires in
-    let entry : (s : ℕ) {p : Setting} → p ≡ setting_of s → s ≡ c.args.number → p ≡ setting_of c.args.number = λ s same e. same ∙ ap setting_of e in
     entry 3 c.parameters-then-number-lt4.ensures (omega (arith, range))
 
 pub returns-then-number-lt5 : goal.returns-then-number-lt5
 returns-then-number-lt5 c =
     let range : (1 ≤ c.args.number) × (c.args.number ≤ length settings) = setting_range c.args.number c.requires in
-    let entry : (s : ℕ) {p : Setting} → p ≡ setting_of s → s ≡ c.args.number → p ≡ setting_of c.args.number = λ s same e. same ∙ ap setting_of e in
     entry 4 c.parameters-then-number-lt5.ensures (omega (arith, range))
 
 pub returns : goal.returns
 returns c =
     let range : (1 ≤ c.args.number) × (c.args.number ≤ length settings) = setting_range c.args.number c.requires in
-    let entry : (s : ℕ) {p : Setting} → p ≡ setting_of s → s ≡ c.args.number → p ≡ setting_of c.args.number = λ s same e. same ∙ ap setting_of e in
     entry 5 c.parameters-2.ensures (omega (arith, range))

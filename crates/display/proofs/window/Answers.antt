@@ -7,9 +7,6 @@ use Rattle.question.proofs.Questions.{WindowYes, display_yes}
 use Rattle.display.proofs.Display.{WindowWithin, window_yes, window_refused, window_shown}
 use Rattle.display.proofs.window.Goals as goal
 
-pub display_questions-answer-requires : goal.display_questions-answer-requires
-display_questions-answer-requires c = tt
-
 pub returns-then-answer-ne0 : goal.returns-then-answer-ne0
 returns-then-answer-ne0 c =
     let a = c.args in

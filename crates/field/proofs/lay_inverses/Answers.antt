@@ -1,6 +1,5 @@
 -- `field::lay_inverses` meets its contract. The loop's invariant: the first a places hold their inverses.
 use mathlib.Core.Path.{refl, ◌∙◌}
-use Prim.Native.Nat.{◌-◌}
 use native.Mathlib.Omega.{arith}
 use lib.ListN.{length-set}
 use Rattle.area.proofs.Lists.{stored}

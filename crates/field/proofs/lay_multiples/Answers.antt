@@ -1,6 +1,5 @@
 -- `field::lay_multiples` meets its contract. The loop's invariant: the first b places hold their products.
 use mathlib.Core.Path.{refl, ◌∙◌}
-use Prim.Native.Nat.{◌-◌}
 use native.Mathlib.Omega.{arith}
 use lib.ListN.{length-set}
 use Rattle.area.proofs.Lists.{stored}

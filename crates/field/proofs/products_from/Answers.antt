@@ -1,7 +1,7 @@
 -- `field::products_from` meets its contract. The loop's invariant: the first a rows hold their multiples.
 use mathlib.Core.Path.{◌≡◌, refl, sym, ◌∙◌, subst}
 use mathlib.Core.List.{List, []}
-use Prim.Native.Nat.{ℕ, ◌-◌, ◌<◌}
+use Prim.Native.Nat.{ℕ, ◌<◌}
 use native.Mathlib.Omega.{arith}
 use lib.ListN.{length, get_or, set, length-set}
 use lib.Seq.{get_or-set_same, get_or-set_other}
@@ -36,7 +36,7 @@ bounds-products-a c = omega (arith, good_listed _ c.requires.0)
 pub lay_multiples-requires : goal.lay_multiples-requires
 lay_multiples-requires c =
     let p = c.requires in
-    (p.0, p.1, c.loop-a-test.true, omega (arith, good_listed _ p.0, c.lay_multiples-arg-1.given.0.1))
+    (p.0, p.1, c.loop-a-test.true, omega (arith, good_listed _ p.0))
 
 pub loop-a-preserved : goal.loop-a-preserved
 loop-a-preserved c =
@@ -48,7 +48,7 @@ loop-a-preserved c =
     )
 
 pub lay_inverses-requires : goal.lay_inverses-requires
-lay_inverses-requires c = let p = c.requires in (p.0, p.1, omega (arith, good_listed _ p.0, c.lay_inverses-arg-1.given.0.1))
+lay_inverses-requires c = let p = c.requires in (p.0, p.1, omega (arith, good_listed _ p.0))
 
 pub returns : goal.returns
 returns c =

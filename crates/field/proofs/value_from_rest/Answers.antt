@@ -1,5 +1,5 @@
 -- `field::value_from_rest` meets its contract. The loop's invariant: the sum is the value of the coefficients from i on. The measure is i.
-use Prim.Native.Nat.{◌<◌}
+use Prim.Native.Nat.{◌-◌, ◌<◌}
 use lib.ListN.{length}
 use native.Mathlib.Omega.{arith}
 use borrow.Author.Rules.{rules}
@@ -14,7 +14,7 @@ bounds-c-i c = omega (arith, c.loop-i.invariant.0)
 
 pub add_product-sum-requires : goal.add_product-sum-requires
 add_product-sum-requires c =
-    let inside : c.i < length c.args.c.now = omega (arith, c.loop-i.invariant.0) in
+    let inside : c.loop-i.i - 1 < length c.args.c.now = omega (arith, c.loop-i.invariant.0) in
     let coefficient_below = c.requires.2.below _ inside in
     let sum_below = c.loop-i.invariant.1.below in
     search rules

@@ -2,7 +2,6 @@
 use mathlib.Core.Path.{◌≡◌, refl, sym, ap, ◌∙◌}
 use mathlib.Core.Bool.{true}
 use native.Mathlib.Omega.{arith}
-use borrow.Author.Tests.{not-true, not-false}
 use lib.ListN.{length}
 use Rattle.field.specs.Symbols.{Symbols}
 use Rattle.line.specs.Questions.{HoldsFrame}
@@ -12,19 +11,6 @@ use Rattle.line.proofs.answer_line.Goals as goal
 
 pub returns-then-asked-ne0 : goal.returns-then-asked-ne0
 returns-then-asked-ne0 c =
-    let holds : HoldsFrame c.args.line.now = ap (λ a. a.number) (sym c.first_questions-asked.ensures) ∙ c.if-asked-ne0.false in
-    let room : room_in c.args.line.now
-    (line_areas c.args.reception.now
-    c.args.message.now
-    c.args.transmission.now) ≡ true = sym c.has_room.ensures ∙ not-false _ c.if-not-has_room.false in
-    let answers : Answers c.args.line.now
-    (output_line c.args.line.now c.decode_line-answer.result
-    (message_in c.args.line.now c.decode_line-answer.new.message))
-    × (c.decode_line-answer.result.number ≡ 0 → Symbols 16 (message_in c.args.line.now c.decode_line-answer.new.message)) = let a = c.args in
-    let enough = room_is a.line.now (length a.reception.now) (length a.message.now) (length a.transmission.now)
-    room in
-    frame_answered a.line.now holds a.message.now a.transmission.now c.decode_line-answer.result _ _
-    enough.2 enough.1 c.decode_line-answer.ensures.decoded in
     let line = c.args.line.now in
     let asked = c.first_questions-asked in
     no_frame (λ z. c.if-asked-ne0.true (ap (λ a. a.number) asked.ensures ∙ z))
@@ -43,7 +29,7 @@ has_room-requires c =
 pub returns-then-not-has_room : goal.returns-then-not-has_room
 returns-then-not-has_room c =
     let holds : HoldsFrame c.args.line.now = ap (λ a. a.number) (sym c.first_questions-asked.ensures) ∙ c.if-asked-ne0.false in
-    no_room holds (sym c.has_room.ensures ∙ not-true _ c.if-not-has_room.true) refl refl refl
+    no_room holds (sym c.has_room.ensures ∙ c.if-not-has_room.true) refl refl refl
 
 pub decode_line-answer-requires : goal.decode_line-answer-requires
 decode_line-answer-requires c =
@@ -51,7 +37,7 @@ decode_line-answer-requires c =
     let room : room_in c.args.line.now
     (line_areas c.args.reception.now
     c.args.message.now
-    c.args.transmission.now) ≡ true = sym c.has_room.ensures ∙ not-false _ c.if-not-has_room.false in
+    c.args.transmission.now) ≡ true = sym c.has_room.ensures ∙ c.if-not-has_room.false in
     (holds, room)
 
 pub write_answer-requires : goal.write_answer-requires
@@ -60,7 +46,7 @@ write_answer-requires c =
     let room : room_in c.args.line.now
     (line_areas c.args.reception.now
     c.args.message.now
-    c.args.transmission.now) ≡ true = sym c.has_room.ensures ∙ not-false _ c.if-not-has_room.false in
+    c.args.transmission.now) ≡ true = sym c.has_room.ensures ∙ c.if-not-has_room.false in
     let answers : Answers c.args.line.now
     (output_line c.args.line.now c.decode_line-answer.result
     (message_in c.args.line.now c.decode_line-answer.new.message))
@@ -82,7 +68,7 @@ returns c =
     let room : room_in c.args.line.now
     (line_areas c.args.reception.now
     c.args.message.now
-    c.args.transmission.now) ≡ true = sym c.has_room.ensures ∙ not-false _ c.if-not-has_room.false in
+    c.args.transmission.now) ≡ true = sym c.has_room.ensures ∙ c.if-not-has_room.false in
     let answers : Answers c.args.line.now
     (output_line c.args.line.now c.decode_line-answer.result
     (message_in c.args.line.now c.decode_line-answer.new.message))

@@ -8,13 +8,10 @@ use Rattle.question.specs.Questions.{Question, blocks_of, frame_questions, area_
 use Rattle.question.proofs.Questions.{says_rest, first_says_no, after_asked, FrameYes, frame_yes, frame_of_setting, FrameShape}
 use Rattle.question.proofs.decoding_questions.Goals as goal
 
-pub frame_questions-frame-requires : goal.frame_questions-frame-requires
-frame_questions-frame-requires c = tt
-
 pub returns-then-frame-ne0 : goal.returns-then-frame-ne0
 returns-then-frame-ne0 c =
     let later : Setting → List Question = λ p. let a = c.args in
-    area_questions (setting_of a.number) (blocks_of p (length a.reception.now)) a.reception.now a.has_message_room a.has_transmission_room in
+    area_questions (setting_of a.number) (blocks_of p (length a.reception.now)) a.reception.now a.message_room a.transmission_room in
     first_says_no (frame_questions c.args.number (length c.args.reception.now)) (later (setting_of c.args.number)) c.frame_questions-frame.ensures c.if-frame-ne0.true
 
 pub setting_of-p-requires : goal.setting_of-p-requires
@@ -43,7 +40,7 @@ area_questions-requires c =
 pub returns : goal.returns
 returns c =
     let later : Setting → List Question = λ p. let a = c.args in
-    area_questions (setting_of a.number) (blocks_of p (length a.reception.now)) a.reception.now a.has_message_room a.has_transmission_room in
+    area_questions (setting_of a.number) (blocks_of p (length a.reception.now)) a.reception.now a.message_room a.transmission_room in
     says_rest
     (after_asked (frame_questions c.args.number (length c.args.reception.now)) c.args.number c.setting_of-p.result later tt
     c.frame_questions-frame.ensures c.if-frame-ne0.false c.setting_of-p.ensures)

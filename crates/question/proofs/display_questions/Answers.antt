@@ -7,9 +7,6 @@ use Rattle.question.proofs.Questions.{Left, left_yes, says_no, says_yes, first_s
 use Rattle.question.proofs.Questions.{frame_of_setting, FrameShape}
 use Rattle.question.proofs.display_questions.Goals as goal
 
-pub frame_questions-frame-requires : goal.frame_questions-frame-requires
-frame_questions-frame-requires c = tt
-
 pub returns-then-frame-ne0 : goal.returns-then-frame-ne0
 returns-then-frame-ne0 c =
     let a = c.args in
@@ -33,9 +30,6 @@ overflow_sub-blocks c =
     let frame : FrameShape c.setting_of-p.result c.args.long = frame_of_setting asked.frame c.setting_of-p.ensures in
     omega (arith, frame.blocks)
 
-pub no-requires : goal.no-requires
-no-requires c = tt
-
 pub returns-then-blocks-j : goal.returns-then-blocks-j
 returns-then-blocks-j c =
     let three : let a = c.args in
@@ -43,9 +37,6 @@ returns-then-blocks-j c =
     after_asked (frame_questions a.number a.long) a.number c.setting_of-p.result (display_later a.long a.j) tt
     c.frame_questions-frame.ensures c.if-frame-ne0.false c.setting_of-p.ensures in
     says_no three (le-ltb _ _ c.if-blocks-j.true) c.no.ensures
-
-pub yes-requires : goal.yes-requires
-yes-requires c = tt
 
 pub returns : goal.returns
 returns c =

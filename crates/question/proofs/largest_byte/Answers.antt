@@ -18,9 +18,6 @@ one_more bytes i most next before grown here a h = at (ℕ_discrete a i)
 pub loop-i-init : goal.loop-i-init
 loop-i-init c = (omega arith, λ a h. absurd (omega arith))
 
-pub larger-most-requires : goal.larger-most-requires
-larger-most-requires c = tt
-
 pub loop-i-preserved : goal.loop-i-preserved
 loop-i-preserved c =
     let l = c.loop-i in

@@ -20,9 +20,6 @@ nonzero_rem-long c =
     let sizes : Sizes c.setting_of-p.result = setting_sizes c.args.number c.setting_of-p.result c.requires c.setting_of-p.ensures in
     sizes.symbols
 
-pub no-requires : goal.no-requires
-no-requires c = tt
-
 pub returns-then-long-n-ne0 : goal.returns-then-long-n-ne0
 returns-then-long-n-ne0 c =
     let questions : Setting → List Question = λ p. length_questions p c.args.long in
@@ -39,9 +36,6 @@ pub overflow_mul-m : goal.overflow_mul-m
 overflow_mul-m c =
     let sizes : Sizes c.setting_of-p.result = setting_sizes c.args.number c.setting_of-p.result c.requires c.setting_of-p.ensures in
     omega (arith, window_small c.setting_of-p.result sizes)
-
-pub no-requires-then-long-m : goal.no-requires-then-long-m
-no-requires-then-long-m c = tt
 
 pub returns-then-long-m : goal.returns-then-long-m
 returns-then-long-m c =
@@ -63,9 +57,6 @@ overflow_sub-long c =
     (le-div_iff_mul-le sizes.symbols).1 c.if-long-m.false in
     omega arith
 
-pub no-requires-then-long-n-gt-MOST_BLOCKS : goal.no-requires-then-long-n-gt-MOST_BLOCKS
-no-requires-then-long-n-gt-MOST_BLOCKS c = tt
-
 pub returns-then-long-n-gt-MOST_BLOCKS : goal.returns-then-long-n-gt-MOST_BLOCKS
 returns-then-long-n-gt-MOST_BLOCKS c =
     let questions : Setting → List Question = λ p. length_questions p c.args.long in
@@ -73,9 +64,6 @@ returns-then-long-n-gt-MOST_BLOCKS c =
     let none : After 0 = setting_left c.args.number c.setting_of-p.result questions c.setting_of-p.ensures (left_all _) in
     let two : After 1 = left_yes none (simp (eq-eqb _ _ c.if-long-n-ne0.false, le-leb _ _ c.if-long-m.false)) in
     says_no two (lt-leb _ _ c.if-long-n-gt-MOST_BLOCKS.true) c.no-then-long-n-gt-MOST_BLOCKS.ensures
-
-pub yes-requires : goal.yes-requires
-yes-requires c = tt
 
 pub returns : goal.returns
 returns c =

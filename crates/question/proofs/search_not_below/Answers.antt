@@ -9,9 +9,6 @@ use Rattle.question.proofs.search_not_below.Goals as goal
 pub loop-i-init : goal.loop-i-init
 loop-i-init c = searched_none
 
-pub wide-requires : goal.wide-requires
-wide-requires c = tt
-
 pub returns-then-q-wide : goal.returns-then-q-wide
 returns-then-q-wide c =
     searched_stop c.loop-i.invariant c.loop-i-test.true (omega arith)

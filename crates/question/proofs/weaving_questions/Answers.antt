@@ -8,9 +8,6 @@ use Rattle.question.proofs.Questions.{number_of, Left, left_yes, says_no, says_y
 use Rattle.question.proofs.Questions.{weaving_later, WovenYes, woven_yes}
 use Rattle.question.proofs.weaving_questions.Goals as goal
 
-pub woven_questions-frame-requires : goal.woven_questions-frame-requires
-woven_questions-frame-requires c = tt
-
 pub returns-then-frame-ne0 : goal.returns-then-frame-ne0
 returns-then-frame-ne0 c =
     let a = c.args in
@@ -23,12 +20,6 @@ setting_of-p-requires c =
     WovenYes a.number a.frames (length a.incoming.now) = woven_yes _ _ _ (number_of c.woven_questions-frame.ensures c.if-frame-ne0.false) in
     asked.setting
 
-pub first_not_below-symbols-requires : goal.first_not_below-symbols-requires
-first_not_below-symbols-requires c = tt
-
-pub no-requires : goal.no-requires
-no-requires c = tt
-
 pub returns-then-symbols-incoming : goal.returns-then-symbols-incoming
 returns-then-symbols-incoming c =
     let After : ℕ → Type 0 = λ more. let a = c.args in
@@ -37,9 +28,6 @@ returns-then-symbols-incoming c =
     let three : After 0 = after_asked (woven_questions c.args.number c.args.frames (length c.args.incoming.now)) c.args.number c.setting_of-p.result (weaving_later c.args.incoming.now c.args.room) tt
     c.woven_questions-frame.ensures c.if-frame-ne0.false c.setting_of-p.ensures in
     symbols_no three c.first_not_below-symbols.ensures c.if-symbols-incoming.true c.no.ensures
-
-pub no-requires-then-room-incoming : goal.no-requires-then-room-incoming
-no-requires-then-room-incoming c = tt
 
 pub returns-then-room-incoming : goal.returns-then-room-incoming
 returns-then-room-incoming c =
@@ -50,9 +38,6 @@ returns-then-room-incoming c =
     c.woven_questions-frame.ensures c.if-frame-ne0.false c.setting_of-p.ensures in
     let four : After 1 = symbols_yes three c.first_not_below-symbols.ensures c.if-symbols-incoming.false in
     says_no four (lt-leb _ _ c.if-room-incoming.true) c.no-then-room-incoming.ensures
-
-pub yes-requires : goal.yes-requires
-yes-requires c = tt
 
 pub returns : goal.returns
 returns c =

@@ -8,13 +8,10 @@ use Rattle.question.proofs.Questions.{number_of, says_rest, first_says_no, first
 use Rattle.question.proofs.Questions.{frame_of_setting, WovenYes, woven_yes}
 use Rattle.question.proofs.woven_decoding_questions.Goals as goal
 
-pub woven_questions-frame-requires : goal.woven_questions-frame-requires
-woven_questions-frame-requires c = tt
-
 pub returns-then-frame-ne0 : goal.returns-then-frame-ne0
 returns-then-frame-ne0 c =
     first_says_no (woven_questions c.args.number c.args.frames (length c.args.reception.now)) (let a = c.args in
-    woven_decoding_later a.frames a.reception.now a.has_message_room a.has_transmission_room (setting_of a.number)) c.woven_questions-frame.ensures c.if-frame-ne0.true
+    woven_decoding_later a.frames a.reception.now a.message_room a.transmission_room (setting_of a.number)) c.woven_questions-frame.ensures c.if-frame-ne0.true
 
 pub setting_of-p-requires : goal.setting_of-p-requires
 setting_of-p-requires c =
@@ -71,7 +68,7 @@ returns c =
     let some : 1 ≤ c.args.frames = omega (arith, asked.least) in
     let a = c.args in
     says_rest
-    (shares_left a.frames a.number a.reception.now a.has_message_room a.has_transmission_room c.setting_of-p.result some c.setting_of-p.ensures
+    (shares_left a.frames a.number a.reception.now a.message_room a.transmission_room c.setting_of-p.result some c.setting_of-p.ensures
     (first_left (woven_questions c.args.number c.args.frames (length c.args.reception.now)) (let a = c.args in
-    woven_decoding_later a.frames a.reception.now a.has_message_room a.has_transmission_room (setting_of a.number)) c.woven_questions-frame.ensures tt c.if-frame-ne0.false))
+    woven_decoding_later a.frames a.reception.now a.message_room a.transmission_room (setting_of a.number)) c.woven_questions-frame.ensures tt c.if-frame-ne0.false))
     c.area_questions.ensures

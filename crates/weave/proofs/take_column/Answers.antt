@@ -46,5 +46,3 @@ returns c =
     let l = c.loop-i in
     column_of_symbols a.columns a.c a.rows.now l.out p.0 (p.1 ∙ ap (λ (t : ℕ). t * a.columns) (sym l.invariant.1))
     (λ i h. l.invariant.2 i (omega arith))
-
--- TODO place (after loop-i-preserved): c.loop-i.invariant.1

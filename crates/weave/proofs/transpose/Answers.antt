@@ -40,11 +40,3 @@ returns c =
     let long : length c.loop-c.out ≡ c.args.rows * c.args.columns = c.loop-c.invariant.1.long ∙ c.requires.1 in
     transposed_of_columns _ _ c.loop-c.out long c.args.incoming.now c.requires.0
     (λ g h. c.loop-c.invariant.1.parts g (omega arith))
-
--- TODO place (after loop-c-init): let long : length c.loop-c.out ≡ c.args.rows * c.args.columns = c.loop-c.invariant.1.long ∙ c.requires.1 in let room : c.loop-c.c * c.args.rows + c.args.rows ≤ length c.loop-c.out = column_room _ _ c.loop-c.out long _ c.loop-c-test.true in omega (arith, room)
-
--- TODO place (after loop-c-init): let long : length c.loop-c.out ≡ c.args.rows * c.args.columns = c.loop-c.invariant.1.long ∙ c.requires.1 in let room : c.loop-c.c * c.args.rows + c.args.rows ≤ length c.loop-c.out = column_room _ _ c.loop-c.out long _ c.loop-c-test.true in omega (arith, room)
-
--- TODO place (after loop-c-init): room
-
--- TODO place (after loop-c-preserved): c.loop-c.invariant.1.long

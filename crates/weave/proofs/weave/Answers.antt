@@ -1,5 +1,4 @@
 -- `weave::weave`: refused by the first "no", or the woven symbols in front of what the area held.
-use mathlib.Core.Path.{sym}
 use native.Mathlib.Omega.{arith}
 use Rattle.weave.specs.Weaving.{woven}
 use Rattle.weave.proofs.Weaving.{Movable, movable, laid_refused, laid_moved}
@@ -18,9 +17,3 @@ returns c =
     let a = c.args in
     laid_moved _ _ _ _ _ c.weaving_questions-answer.ensures (woven a.frames a.incoming.now) c.if-answer-ne0.false
     c.transpose.ensures
-
--- TODO place (after returns-then-answer-ne0): let known : Movable c.args.frames c.args.incoming.now c.args.out.now = movable c.args.setting _ _ _ _ c.weaving_questions-answer.ensures c.if-answer-ne0.false in known.some
-
--- TODO place (after returns-then-answer-ne0): let known : Movable c.args.frames c.args.incoming.now c.args.out.now = movable c.args.setting _ _ _ _ c.weaving_questions-answer.ensures c.if-answer-ne0.false in known.room
-
--- TODO place (after returns-then-answer-ne0): let known : Movable c.args.frames c.args.incoming.now c.args.out.now = movable c.args.setting _ _ _ _ c.weaving_questions-answer.ensures c.if-answer-ne0.false in sym known.front

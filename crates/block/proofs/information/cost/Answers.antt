@@ -1,5 +1,5 @@
 -- `block::information::cost` meets its contract. The loop's invariant: the cost is that of the first i symbols, which is no more than that of all.
-use Prim.Native.Nat.{ℕ, ◌+◌, ◌-◌, min}
+use Prim.Native.Nat.{ℕ, ◌+◌, min}
 use mathlib.Core.Path.{◌≡◌, sym, ap, ◌∙◌}
 use native.Mathlib.Omega.{arith}
 use Rattle.algebra.proofs.Weights.{total_none, total_part, total_same, total_more}

@@ -1,5 +1,5 @@
 -- `block::information::falling` meets its contract. The loop's invariant: the sum so far is that of e values.
-use Prim.Native.Nat.{◌-◌, ◌+◌}
+use Prim.Native.Nat.{◌+◌}
 use mathlib.Core.Path.{◌≡◌}
 use native.Mathlib.Omega.{arith}
 use Rattle.field.specs.parts.Sequences.{at}

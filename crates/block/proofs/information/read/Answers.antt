@@ -1,5 +1,5 @@
 -- `block::information::read` meets its contract. The loop's invariant is the promise for b blocks.
-use Prim.Native.Nat.{◌≤◌, ◌+◌, ◌-◌}
+use Prim.Native.Nat.{◌≤◌, ◌+◌}
 use mathlib.Core.Path.{◌≡◌, refl, sym, subst, ◌∙◌}
 use native.Mathlib.Nat.{mul-le-mul_right}
 use native.Mathlib.Omega.{arith}
@@ -35,7 +35,7 @@ read_block-requires c =
       c.requires.1,
       omega (arith, last, c.requires.2),
       l.invariant.2.below,
-      omega (arith, last, c.requires.3, l.invariant.1, c.clear.kept.0),
+      omega (arith, last, c.requires.3, l.invariant.1, c.clear.auto.area),
       c.inverse-back.ensures,
     )
 

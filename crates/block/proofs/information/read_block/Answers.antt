@@ -1,5 +1,4 @@
 -- `block::information::read_block` meets its contract. The loop's invariant is the promise for the last j symbols, and the point is (1/α)^j.
-use Prim.Native.Nat.{◌-◌}
 use mathlib.Core.Path.{◌≡◌, refl}
 use native.Mathlib.Omega.{arith}
 use lib.ListN.{length-set}

@@ -23,15 +23,14 @@ returns-then-discrepancy-eq0 c =
 
 pub subtract_multiple-requires : goal.subtract_multiple-requires
 subtract_multiple-requires c =
-    let room : c.args.next - c.args.state.place + (c.args.state.place - c.args.state.degree + 1) ≤ length c.args.series.now = omega (arith, c.requires.8.located.grown, c.requires.8.located.placed, c.requires.4) in
-    let inside = room in (
+    let room : c.args.next - c.args.state.place + (c.args.state.place - c.args.state.degree + 1) ≤ length c.args.series.now = omega (arith, c.requires.8.located.grown, c.requires.8.located.placed, c.requires.4) in (
       c.requires.0,
       c.requires.1,
       c.multiply-factor.ensures.below,
       c.requires.8.former_below,
-      omega (arith, inside, c.requires.6),
+      omega (arith, room, c.requires.6),
       c.requires.8.locator_below,
-      omega (arith, inside, c.requires.5),
+      omega (arith, room, c.requires.5),
     )
 
 pub returns-then-next-degree : goal.returns-then-next-degree
@@ -43,8 +42,7 @@ returns-then-next-degree c =
 
 pub exchange-requires : goal.exchange-requires
 exchange-requires c =
-    let room : c.args.next - c.args.state.place + (c.args.state.place - c.args.state.degree + 1) ≤ length c.args.series.now = omega (arith, c.requires.8.located.grown, c.requires.8.located.placed, c.requires.4) in
-    (
+    let room : c.args.next - c.args.state.place + (c.args.state.place - c.args.state.degree + 1) ≤ length c.args.series.now = omega (arith, c.requires.8.located.grown, c.requires.8.located.placed, c.requires.4) in (
       c.requires.0,
       c.requires.1,
       c.multiply-factor.ensures.below,

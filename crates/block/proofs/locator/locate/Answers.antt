@@ -35,9 +35,9 @@ loop-next-preserved c =
     let back : l.next + 1 - 1 ≡ l.next = omega arith in (
       omega arith,
       omega arith,
-      advance.kept.1.1.1.1.1.0 ∙ l.invariant.2,
-      advance.kept.1.1.1.1.1.1.0 ∙ l.invariant.3,
-      advance.kept.1.1.1.1.1.1.1.0 ∙ l.invariant.4,
+      advance.auto.locator ∙ l.invariant.2,
+      advance.auto.former ∙ l.invariant.3,
+      advance.auto.spare ∙ l.invariant.4,
       rw back advance.ensures,
     )
 

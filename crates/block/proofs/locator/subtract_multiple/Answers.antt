@@ -1,6 +1,6 @@
 -- `block::locator::subtract_multiple` meets its contract. The loop's invariant is the promise at count i.
 use mathlib.Core.Path.{◌≡◌, refl}
-use Prim.Native.Nat.{◌-◌, ◌+◌}
+use Prim.Native.Nat.{◌+◌}
 use native.Mathlib.Omega.{arith}
 use lib.ListN.{length-set}
 use Rattle.block.proofs.Multiples.{subtracted_none, subtracted_more}

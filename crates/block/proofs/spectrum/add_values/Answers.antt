@@ -1,5 +1,4 @@
 -- `block::spectrum::add_values` meets its contract. The loop's invariant: s values stand in the series, and the point is α^s.
-use Prim.Native.Nat.{◌-◌}
 use mathlib.Core.Path.{◌≡◌, refl}
 use native.Mathlib.Omega.{arith}
 use lib.ListN.{length-set}

@@ -1,5 +1,5 @@
 -- `block::spectrum::extend` meets its contract. The loop's invariant is the promise at count u.
-use Prim.Native.Nat.{◌-◌, ◌+◌}
+use Prim.Native.Nat.{◌+◌}
 use mathlib.Core.Path.{◌≡◌, refl}
 use native.Mathlib.Omega.{arith}
 use lib.ListN.{length-set}

@@ -16,16 +16,13 @@ loop-left-init c =
           (c.args.long + i))) none),
     )
 
-pub differ-mark-requires : goal.differ-mark-requires
-differ-mark-requires c = tt
-
 pub overflow_mul-set : goal.overflow_mul-set
 overflow_mul-set c =
     let more : (c.loop-left.set * 2 + c.differ-mark.result
-    ≡ bits (c.args.long - (c.loop-left.false - 1))
+    ≡ bits (c.args.long - (c.loop-left.left - 1))
     (λ i. test c.args.reception.now c.args.transmission.now c.args.from
-    (c.loop-left.false - 1 + i)))
-    × (c.loop-left.set * 2 + c.differ-mark.result < 2 ^ 64) = bits_more c.args.long c.loop-left.false
+    (c.loop-left.left - 1 + i)))
+    × (c.loop-left.set * 2 + c.differ-mark.result < 2 ^ 64) = bits_more c.args.long c.loop-left.left
     (test c.args.reception.now c.args.transmission.now c.args.from)
     c.loop-left.set c.differ-mark.result c.loop-left-test.true
     c.loop-left.invariant.0 c.requires.0 c.loop-left.invariant.1 c.differ-mark.ensures in
@@ -34,10 +31,10 @@ overflow_mul-set c =
 pub overflow_add-set : goal.overflow_add-set
 overflow_add-set c =
     let more : (c.loop-left.set * 2 + c.differ-mark.result
-    ≡ bits (c.args.long - (c.loop-left.false - 1))
+    ≡ bits (c.args.long - (c.loop-left.left - 1))
     (λ i. test c.args.reception.now c.args.transmission.now c.args.from
-    (c.loop-left.false - 1 + i)))
-    × (c.loop-left.set * 2 + c.differ-mark.result < 2 ^ 64) = bits_more c.args.long c.loop-left.false
+    (c.loop-left.left - 1 + i)))
+    × (c.loop-left.set * 2 + c.differ-mark.result < 2 ^ 64) = bits_more c.args.long c.loop-left.left
     (test c.args.reception.now c.args.transmission.now c.args.from)
     c.loop-left.set c.differ-mark.result c.loop-left-test.true
     c.loop-left.invariant.0 c.requires.0 c.loop-left.invariant.1 c.differ-mark.ensures in
@@ -46,10 +43,10 @@ overflow_add-set c =
 pub loop-left-preserved : goal.loop-left-preserved
 loop-left-preserved c =
     let more : (c.loop-left.set * 2 + c.differ-mark.result
-    ≡ bits (c.args.long - (c.loop-left.false - 1))
+    ≡ bits (c.args.long - (c.loop-left.left - 1))
     (λ i. test c.args.reception.now c.args.transmission.now c.args.from
-    (c.loop-left.false - 1 + i)))
-    × (c.loop-left.set * 2 + c.differ-mark.result < 2 ^ 64) = bits_more c.args.long c.loop-left.false
+    (c.loop-left.left - 1 + i)))
+    × (c.loop-left.set * 2 + c.differ-mark.result < 2 ^ 64) = bits_more c.args.long c.loop-left.left
     (test c.args.reception.now c.args.transmission.now c.args.from)
     c.loop-left.set c.differ-mark.result c.loop-left-test.true
     c.loop-left.invariant.0 c.requires.0 c.loop-left.invariant.1 c.differ-mark.ensures in
@@ -57,6 +54,6 @@ loop-left-preserved c =
 
 pub returns : goal.returns
 returns c =
-    let done : c.loop-left.false ≡ 0 = omega arith in
-    c.loop-left.invariant.1 ∙ bits_whole c.args.long c.loop-left.false
+    let done : c.loop-left.left ≡ 0 = omega arith in
+    c.loop-left.invariant.1 ∙ bits_whole c.args.long c.loop-left.left
     (test c.args.reception.now c.args.transmission.now c.args.from) done

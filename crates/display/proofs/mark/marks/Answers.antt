@@ -6,9 +6,6 @@ use Rattle.question.proofs.Questions.{WindowYes, marks_yes}
 use Rattle.display.proofs.Display.{WindowWithin, window_yes, marked_refused, marked_found}
 use Rattle.display.proofs.mark.marks.Goals as goal
 
-pub marks_questions-answer-requires : goal.marks_questions-answer-requires
-marks_questions-answer-requires c = tt
-
 pub returns-then-answer-ne0 : goal.returns-then-answer-ne0
 returns-then-answer-ne0 c =
     let a = c.args in

@@ -1,6 +1,6 @@
 -- `frame::guess::add_block`: the first `next` symbols were added.
 use mathlib.Core.Path.{refl}
-use Prim.Native.Nat.{◌+◌, ◌-◌, ◌<◌}
+use Prim.Native.Nat.{◌+◌, ◌<◌}
 use native.Mathlib.Omega.{arith}
 use Rattle.field.proofs.Symbols.{symbol_below}
 use Rattle.code.proofs.CodeBelow.{positive}

@@ -1,6 +1,6 @@
 -- `frame::guess::add_found`: block j is added, and then blocks after it are changed.
 use mathlib.Core.Path.{subst, ap, fun_ext}
-use Prim.Native.Nat.{ℕ, ◌+◌, ◌-◌, ◌≤◌}
+use Prim.Native.Nat.{ℕ, ◌+◌, ◌≤◌}
 use native.Mathlib.Nat.{mul-le-mul, mul-le-mul_right, zero-add}
 use native.Mathlib.Omega.{arith}
 use lib.ListN.{get_or}

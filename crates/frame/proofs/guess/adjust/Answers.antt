@@ -1,8 +1,7 @@
 -- `frame::guess::adjust`: one symbol of the message, and one window of the residual.
 use mathlib.Core.Path.{ap, ◌∙◌}
-use Prim.Native.Nat.{◌+◌, ◌*◌, ◌≤◌, ◌<◌}
+use Prim.Native.Nat.{◌+◌, ◌*◌}
 use native.Mathlib.Omega.{arith}
-use lib.ListN.{length}
 use Rattle.area.proofs.Parts.{part_length}
 use Rattle.field.specs.Fields.{ops_of}
 use Rattle.field.proofs.Symbols.{symbol_below, symbols_part}
@@ -14,42 +13,36 @@ use Rattle.frame.proofs.guess.adjust.Goals as goal
 
 pub overflow_mul-place : goal.overflow_mul-place
 overflow_mul-place c =
-    let inside : c.args.i * c.args.p.k + c.args.r < length c.args.message.now = let a = c.args in
-    symbol_room a.p a.blocks a.i a.r a.message.now a.residual.now c.requires.4 c.requires.1 c.requires.2 in
-    omega (arith, inside)
+    let a = c.args in
+    omega (arith, symbol_room a.p a.blocks a.i a.r a.message.now a.residual.now c.requires.4 c.requires.1 c.requires.2)
 
 pub overflow_add-place : goal.overflow_add-place
 overflow_add-place c =
-    let inside : c.args.i * c.args.p.k + c.args.r < length c.args.message.now = let a = c.args in
-    symbol_room a.p a.blocks a.i a.r a.message.now a.residual.now c.requires.4 c.requires.1 c.requires.2 in
-    omega (arith, inside)
+    let a = c.args in
+    omega (arith, symbol_room a.p a.blocks a.i a.r a.message.now a.residual.now c.requires.4 c.requires.1 c.requires.2)
 
 pub overflow_add-size : goal.overflow_add-size
 overflow_add-size c = omega (arith, (sizes c.args.p c.requires.0.sound).memory_most)
 
 pub overflow_mul-size : goal.overflow_mul-size
 overflow_mul-size c =
-    let room : c.args.i * c.args.p.n + window_length c.args.p ≤ length c.args.residual.now = let a = c.args in
-    window_room a.p a.blocks a.i a.message.now a.residual.now c.requires.4 c.requires.1 in
-    omega (arith, room)
+    let a = c.args in
+    omega (arith, window_room a.p a.blocks a.i a.message.now a.residual.now c.requires.4 c.requires.1)
 
 pub overflow_mul-start : goal.overflow_mul-start
 overflow_mul-start c =
-    let room : c.args.i * c.args.p.n + window_length c.args.p ≤ length c.args.residual.now = let a = c.args in
-    window_room a.p a.blocks a.i a.message.now a.residual.now c.requires.4 c.requires.1 in
-    omega (arith, room)
+    let a = c.args in
+    omega (arith, window_room a.p a.blocks a.i a.message.now a.residual.now c.requires.4 c.requires.1)
 
 pub overflow_add-end : goal.overflow_add-end
 overflow_add-end c =
-    let room : c.args.i * c.args.p.n + window_length c.args.p ≤ length c.args.residual.now = let a = c.args in
-    window_room a.p a.blocks a.i a.message.now a.residual.now c.requires.4 c.requires.1 in
-    omega (arith, room)
+    let a = c.args in
+    omega (arith, window_room a.p a.blocks a.i a.message.now a.residual.now c.requires.4 c.requires.1)
 
 pub bounds-message-place : goal.bounds-message-place
 bounds-message-place c =
-    let inside : c.args.i * c.args.p.k + c.args.r < length c.args.message.now = let a = c.args in
-    symbol_room a.p a.blocks a.i a.r a.message.now a.residual.now c.requires.4 c.requires.1 c.requires.2 in
-    inside
+    let a = c.args in
+    symbol_room a.p a.blocks a.i a.r a.message.now a.residual.now c.requires.4 c.requires.1 c.requires.2
 
 pub add-sum-requires : goal.add-sum-requires
 add-sum-requires c =
@@ -62,24 +55,21 @@ add-sum-requires c =
 
 pub bounds-message-place-2 : goal.bounds-message-place-2
 bounds-message-place-2 c =
-    let inside : c.args.i * c.args.p.k + c.args.r < length c.args.message.now = let a = c.args in
-    symbol_room a.p a.blocks a.i a.r a.message.now a.residual.now c.requires.4 c.requires.1 c.requires.2 in
-    inside
+    let a = c.args in
+    symbol_room a.p a.blocks a.i a.r a.message.now a.residual.now c.requires.4 c.requires.1 c.requires.2
 
 pub negate-less-requires : goal.negate-less-requires
 negate-less-requires c = (c.requires.0.sound.good, c.requires.3)
 
 pub slice_bounds-add_rows-end : goal.slice_bounds-add_rows-end
 slice_bounds-add_rows-end c =
-    let room : c.args.i * c.args.p.n + window_length c.args.p ≤ length c.args.residual.now = let a = c.args in
-    window_room a.p a.blocks a.i a.message.now a.residual.now c.requires.4 c.requires.1 in
-    room
+    let a = c.args in
+    window_room a.p a.blocks a.i a.message.now a.residual.now c.requires.4 c.requires.1
 
 pub add_rows-requires : goal.add_rows-requires
 add_rows-requires c =
-    let room : c.args.i * c.args.p.n + window_length c.args.p ≤ length c.args.residual.now = let a = c.args in
-    window_room a.p a.blocks a.i a.message.now a.residual.now c.requires.4 c.requires.1 in
-    let a = c.args in (
+    let a = c.args in
+    let room = window_room a.p a.blocks a.i a.message.now a.residual.now c.requires.4 c.requires.1 in (
       c.requires.0,
       c.requires.2,
       c.negate-less.ensures.below,

@@ -1,7 +1,6 @@
 -- `frame::guess::guess_from`: whatever is guessed, the residual stays that of the guess.
-use Prim.Native.Nat.{◌+◌, ◌-◌, ◌*◌, ◌≤◌, ◌<◌}
+use Prim.Native.Nat.{◌+◌, ◌*◌}
 use native.Mathlib.Omega.{arith}
-use lib.ListN.{length}
 use Rattle.field.proofs.Symbols.{symbol_below}
 use Rattle.code.proofs.CodeBelow.{positive}
 use Rattle.code.proofs.Settings.{sizes}
@@ -10,34 +9,40 @@ use Rattle.frame.proofs.guess.guess_from.Goals as goal
 
 pub overflow_mul-start : goal.overflow_mul-start
 overflow_mul-start c =
-    let room : c.args.i * c.args.p.n + c.args.p.n ≤ length c.args.residual.now = let a = c.args in
-    block_room a.p a.blocks a.i a.message.now a.residual.now c.requires.4 c.requires.3 in
-    omega (arith, room)
+    let a = c.args in
+    omega (arith, block_room a.p a.blocks a.i a.message.now a.residual.now c.requires.4 c.requires.3)
 
 pub overflow_add-start : goal.overflow_add-start
 overflow_add-start c =
-    let room : c.args.i * c.args.p.n + c.args.p.n ≤ length c.args.residual.now = let a = c.args in
-    block_room a.p a.blocks a.i a.message.now a.residual.now c.requires.4 c.requires.3 in
-    omega (arith, room, c.requires.2)
+    let a = c.args in
+    omega (arith, block_room a.p a.blocks a.i a.message.now a.residual.now c.requires.4 c.requires.3, c.requires.2)
 
 pub loop-turn-init : goal.loop-turn-init
 loop-turn-init c = (omega arith, revised_none c.requires.4)
 
 pub overflow_add-start-in-loop-turn : goal.overflow_add-start-in-loop-turn
 overflow_add-start-in-loop-turn c =
-    let inside : let a = c.args in
-    a.i * a.p.n + a.first + c.symbol_in_turn-r.result < length c.loop-turn.residual = let a = c.args in
+    let a = c.args in
     let l = c.loop-turn in
-    omega (arith, block_room a.p a.blocks a.i l.message l.residual l.invariant.1.areas c.requires.3, c.requires.2, c.symbol_in_turn-r.ensures) in
-    omega (arith, inside, c.requires.4, c.loop-turn.invariant.1.areas)
+    omega (
+      arith,
+      block_room a.p a.blocks a.i l.message l.residual l.invariant.1.areas c.requires.3,
+      c.requires.2,
+      c.symbol_in_turn-r.ensures,
+      c.requires.4,
+      l.invariant.1.areas,
+    )
 
 pub bounds-residual-start : goal.bounds-residual-start
 bounds-residual-start c =
-    let inside : let a = c.args in
-    a.i * a.p.n + a.first + c.symbol_in_turn-r.result < length c.loop-turn.residual = let a = c.args in
+    let a = c.args in
     let l = c.loop-turn in
-    omega (arith, block_room a.p a.blocks a.i l.message l.residual l.invariant.1.areas c.requires.3, c.requires.2, c.symbol_in_turn-r.ensures) in
-    inside
+    omega (
+      arith,
+      block_room a.p a.blocks a.i l.message l.residual l.invariant.1.areas c.requires.3,
+      c.requires.2,
+      c.symbol_in_turn-r.ensures,
+    )
 
 pub multiply-v-requires : goal.multiply-v-requires
 multiply-v-requires c =
@@ -63,5 +68,3 @@ loop-turn-preserved c =
 
 pub returns : goal.returns
 returns c = c.loop-turn.invariant.1
-
--- TODO place (after loop-turn-init): c.loop-turn-test.true

@@ -1,5 +1,4 @@
 -- `frame::guess::guess_window`: blocks are guessed one after the other.
-use Prim.Native.Nat.{◌-◌}
 use native.Mathlib.Omega.{arith}
 use Rattle.code.proofs.Settings.{sizes}
 use Rattle.frame.proofs.Guesses.{revised_none, revised_then, blocks_few}

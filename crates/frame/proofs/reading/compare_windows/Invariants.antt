@@ -7,11 +7,11 @@ use Rattle.code.specs.parts.Cost.{zero_cost}
 use Rattle.frame.proofs.reading.compare_windows.Given as goal
 
 -- What the window of this size from block j on costs against zeros.
-abbrev pub costAt : ℕ → ℕ → ℕ → List ℕ → ℕ → ℕ
-costAt q n size residual j = zero_cost q (take size (drop (j * n) residual))
+abbrev pub cost_at : ℕ → ℕ → ℕ → List ℕ → ℕ → ℕ
+cost_at q n size residual j = zero_cost q (take size (drop (j * n) residual))
 
 abbrev pub invariant-loop-j : goal.invariant-loop-j
-invariant-loop-j l = (l.j ≤ l.blocks) × (l.start ≡ l.j * l.n) × ((q i : ℕ) → i < l.j → costAt q l.n l.size l.residual i < l.bound)
+invariant-loop-j l = (l.j ≤ l.blocks) × (l.start ≡ l.j * l.n) × ((q i : ℕ) → i < l.j → cost_at q l.n l.size l.residual i < l.bound)
 
 abbrev pub decreases-loop-j : goal.decreases-loop-j
 decreases-loop-j l = l.blocks - l.j

@@ -1,5 +1,6 @@
 -- `frame::reading::read`: the windows in turn, then the last comparison.
 use mathlib.Core.Path.{ap, ◌∙◌}
+use mathlib.Core.Bool.{not}
 use Prim.Native.Nat.{ℕ}
 use lib.ListN.{replicate}
 use Rattle.frame.specs.parts.Frame.{none}
@@ -19,17 +20,17 @@ read_windows-requires c =
     )
 
 pub returns-then-not-read_windows : goal.returns-then-not-read_windows
-returns-then-not-read_windows c = none (stopped_none c.read_windows.ensures c.if-not-read_windows.true)
+returns-then-not-read_windows c = none (stopped_none c.read_windows.ensures (ap not c.if-not-read_windows.true))
 
 pub compare_windows-requires : goal.compare_windows-requires
 compare_windows-requires c =
     (
       c.requires.0.sound,
       c.distances_to-bound.ensures,
-      (advance_more c.read_windows.ensures c.if-not-read_windows.false).areas.residual_long,
+      (advance_more c.read_windows.ensures (ap not c.if-not-read_windows.false)).areas.residual_long,
     )
 
 pub returns : goal.returns
 returns c =
     frame_compared c.requires.0.sound c.requires.4 c.requires.3 c.requires.1
-    (advance_more c.read_windows.ensures c.if-not-read_windows.false) c.compare_windows.ensures
+    (advance_more c.read_windows.ensures (ap not c.if-not-read_windows.false)) c.compare_windows.ensures

@@ -1,17 +1,27 @@
 -- `frame::reading::read_windows`: the windows before j were read.
 use mathlib.Core.Path.{◌≡◌, refl, ap, subst, ◌∙◌}
-use mathlib.Core.Bool.{not}
-use Prim.Native.Nat.{ℕ, ◌+◌, ◌-◌, ◌*◌, ◌≤◌}
+use mathlib.Core.Bool.{Bool, not}
+use mathlib.Core.List.{List}
+use Prim.Native.Nat.{ℕ, ◌+◌, ◌*◌, ◌≤◌}
 use native.Mathlib.Nat.{mul-le-mul_left}
 use native.Mathlib.Omega.{arith}
-use lib.Dec.{ltb}
 use borrow.Author.Tests.{lt-ltb, le-ltb}
+use Rattle.field.specs.Symbols.{Symbols}
+use Rattle.code.specs.declared.Setting.{Setting}
+use Rattle.code.specs.parts.Sound.{Sound}
 use Rattle.tables.proofs.Places.{first_place}
 use Rattle.block.proofs.BlockAreas.{block_areas_kept}
-use Rattle.frame.specs.parts.Frame.{Settled, Advanced, advanced}
+use Rattle.frame.specs.parts.Frame.{Settled, Revised, Advanced, advanced, Turned}
 use Rattle.frame.proofs.Settled.{settled_revised}
 use Rattle.frame.proofs.Advance.{advance_more, advance_stopped}
 use Rattle.frame.proofs.reading.read_windows.Goals as goal
+
+-- Blocks of the window are guessed, and then its first block is made certain.
+turned : {p : Setting} {T : ℕ} {reception : List ℕ} {j : ℕ} {message residual guess rest message' residual' : List ℕ} {r : Bool}
+    → Sound p → Symbols p.q reception → Settled p T reception j message residual → Revised p T j message residual guess rest
+    → Turned p T j guess rest message' residual' r → Advanced p T reception (j + 1) message' residual' r
+turned {p} {T} {reception} {j} {message} {residual} S R P N turn =
+    turn.advances reception R (settled_revised p S T reception R j message residual P j _ _ (omega arith) N)
 
 pub bounds-rows-0 : goal.bounds-rows-0
 bounds-rows-0 c = (first_place c.args.p c.requires.0.sound c.args.rows.now c.requires.0.rows).0
@@ -50,15 +60,7 @@ settle-settled-requires c =
 
 pub returns-then-settled-eq0 : goal.returns-then-settled-eq0
 returns-then-settled-eq0 c =
-    let turn : Advanced c.args.p c.args.blocks
-    c.args.residual.now (c.loop-j.j + 1) c.settle-settled.new.message
-    c.settle-settled.new.residual (ltb 0 c.settle-settled.result) = let a = c.args in
-    let l = c.loop-j in
-    let guessed = c.guess_window in
-    let received = c.requires.2.areas.residual_symbols in
-    c.settle-settled.ensures.advances a.residual.now received
-    (settled_revised a.p c.requires.0.sound a.blocks a.residual.now received l.j l.message l.residual l.invariant.0 l.j _ _
-    (omega arith) guessed.ensures) in
+    let turn = turned c.requires.0.sound c.requires.2.areas.residual_symbols c.loop-j.invariant.0 c.guess_window.ensures c.settle-settled.ensures in
     let settled = c.settle-settled in
     advance_stopped turn (ap not (le-ltb 0 settled.result (omega (arith, c.if-settled-eq0.true))))
 
@@ -73,23 +75,15 @@ loop-j-smaller c = omega (arith, c.loop-j-test.true)
 
 pub loop-j-preserved : goal.loop-j-preserved
 loop-j-preserved c =
-    let turn : Advanced c.args.p c.args.blocks
-    c.args.residual.now (c.loop-j.j + 1) c.settle-settled.new.message
-    c.settle-settled.new.residual (ltb 0 c.settle-settled.result) = let a = c.args in
-    let l = c.loop-j in
-    let guessed = c.guess_window in
-    let received = c.requires.2.areas.residual_symbols in
-    c.settle-settled.ensures.advances a.residual.now received
-    (settled_revised a.p c.requires.0.sound a.blocks a.residual.now received l.j l.message l.residual l.invariant.0 l.j _ _
-    (omega arith) guessed.ensures) in
+    let turn = turned c.requires.0.sound c.requires.2.areas.residual_symbols c.loop-j.invariant.0 c.guess_window.ensures c.settle-settled.ensures in
     let l = c.loop-j in
     let settled = c.settle-settled in (
       advance_more turn (ap not (lt-ltb 0 settled.result (omega (arith, c.if-settled-eq0.false)))),
       omega (arith, c.loop-j-test.true),
-      settled.kept.1.1.1.1.1.1.1.1.0 ∙ l.invariant.2,
-      settled.kept.1.1.1.1.1.1.1.1.1.0 ∙ l.invariant.3,
-      settled.kept.1.1.1.1.1.1.1.1.1.1.0 ∙ l.invariant.4,
-      settled.kept.1.1.1.1.1.1.1.1.1.1.1.0 ∙ l.invariant.5,
+      settled.auto.series ∙ l.invariant.2,
+      settled.auto.locator ∙ l.invariant.3,
+      settled.auto.values ∙ l.invariant.4,
+      settled.auto.information ∙ l.invariant.5,
     )
 
 pub returns : goal.returns

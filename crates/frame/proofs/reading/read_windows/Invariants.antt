@@ -8,7 +8,8 @@ use Rattle.frame.proofs.reading.read_windows.Given as goal
 abbrev pub invariant-loop-j : goal.invariant-loop-j
 invariant-loop-j l =
     Settled l.p l.blocks l.initial.residual l.j l.message l.residual × (l.j ≤ l.blocks)
-    × (length l.series ≡ length l.initial.series) × (length l.locator ≡ length l.initial.locator) × (length l.values ≡ length l.initial.values) × (length l.information ≡ length l.initial.information)
+    × (length l.series ≡ length l.initial.series) × (length l.locator ≡ length l.initial.locator)
+    × (length l.values ≡ length l.initial.values) × (length l.information ≡ length l.initial.information)
 
 abbrev pub decreases-loop-j : goal.decreases-loop-j
 decreases-loop-j l = l.blocks - l.j

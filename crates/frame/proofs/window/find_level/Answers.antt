@@ -36,10 +36,10 @@ loop-blocks-preserved c =
       omega arith,
       levels_failed_next c.args.p c.requires.0.sound c.args.window.now _ (l.blocks - 1)
           tried.ensures c.if-try_level.false (subst (LevelsFailed c.args.p c.args.window.now) back l.invariant.1),
-      tried.kept.1.1.1.1.1.0 ∙ l.invariant.2,
-      tried.kept.1.1.1.1.1.1.0 ∙ l.invariant.3,
-      tried.kept.1.1.1.1.1.1.1.0 ∙ l.invariant.4,
-      tried.kept.1.1.1.1.1.1.1.1.0 ∙ l.invariant.5,
+      tried.auto.series ∙ l.invariant.2,
+      tried.auto.locator ∙ l.invariant.3,
+      tried.auto.values ∙ l.invariant.4,
+      tried.auto.information ∙ l.invariant.5,
     )
 
 pub returns : goal.returns

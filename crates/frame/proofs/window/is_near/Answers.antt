@@ -1,6 +1,6 @@
 -- `frame::window::is_near`: what blocks 0 .. s - 1 cost and what they leave of the bound make up the bound, and they leave some of it.
 use mathlib.Core.Path.{◌≡◌, refl, sym, ap, ◌∙◌}
-use Prim.Native.Nat.{ℕ, ◌+◌, ◌-◌, ◌≤◌, min}
+use Prim.Native.Nat.{ℕ, ◌+◌, ◌*◌, ◌≤◌, min}
 use native.Mathlib.Nat.{mul-le-mul_right}
 use native.Mathlib.Omega.{arith}
 use lib.ListN.{length}
@@ -14,54 +14,59 @@ use Rattle.code.proofs.Settings.{sizes}
 use Rattle.frame.proofs.RebuiltCost.{rebuilt_term, rebuilt_all, part_cost}
 use Rattle.frame.proofs.window.is_near.Goals as goal
 
+-- Block s lies within the window.
+inside : (s l m n start long : ℕ) → s ≤ l → l ≤ m → start ≡ s * n → long ≡ (m + 1) * n → start + n ≤ long
+inside s l m n start long low few e f =
+    let top : s + 1 ≤ m + 1 = omega arith in
+    omega (arith, mul-le-mul_right n top)
+
 pub loop-s-init : goal.loop-s-init
-loop-s-init c = (omega arith, omega arith, omega (arith, total_none (rebuilt_term c.args.p c.args.window.now (view c.args.p.k c.args.information.now))), omega arith)
+loop-s-init c =
+    let a = c.args in
+    (omega arith, omega arith, omega (arith, total_none (rebuilt_term a.p a.window.now (view a.p.k a.information.now))), omega arith)
 
 pub overflow_add-end : goal.overflow_add-end
 overflow_add-end c =
-    let inside : c.loop-s.start + c.args.p.n ≤ length c.args.window.now = let top : c.loop-s.s + 1 ≤ c.args.p.m + 1 = omega (arith, c.requires.3) in
-    omega (arith, mul-le-mul_right c.args.p.n top, c.requires.4) in
-    omega (arith, inside)
+    let a = c.args in
+    let l = c.loop-s in
+    omega (arith, inside l.s a.l a.p.m a.p.n l.start (length a.window.now) c.loop-s-test.true c.requires.3 l.invariant.1 c.requires.4)
 
 pub slice_bounds-cost-end : goal.slice_bounds-cost-end
 slice_bounds-cost-end c =
-    let inside : c.loop-s.start + c.args.p.n ≤ length c.args.window.now = let top : c.loop-s.s + 1 ≤ c.args.p.m + 1 = omega (arith, c.requires.3) in
-    omega (arith, mul-le-mul_right c.args.p.n top, c.requires.4) in
-    inside
+    let a = c.args in
+    let l = c.loop-s in
+    inside l.s a.l a.p.m a.p.n l.start (length a.window.now) c.loop-s-test.true c.requires.3 l.invariant.1 c.requires.4
 
 pub cost-cost-requires : goal.cost-cost-requires
 cost-cost-requires c =
-    let inside : c.loop-s.start + c.args.p.n ≤ length c.args.window.now = let top : c.loop-s.s + 1 ≤ c.args.p.m + 1 = omega (arith, c.requires.3) in
-    omega (arith, mul-le-mul_right c.args.p.n top, c.requires.4) in
-    let rows : c.loop-s.s + 1 ≤ c.args.l + 1 = omega arith in (
+    let a = c.args in
+    let l = c.loop-s in
+    let rows : l.s + 1 ≤ a.l + 1 = omega arith in (
       c.requires.0,
       c.requires.1,
-      omega (arith, mul-le-mul_right c.args.p.k rows, c.requires.2),
+      omega (arith, mul-le-mul_right a.p.k rows, c.requires.2),
       omega (arith, c.requires.3),
-      part_length c.args.p.n c.loop-s.start c.args.window.now inside,
+      part_length a.p.n l.start a.window.now
+          (inside l.s a.l a.p.m a.p.n l.start (length a.window.now) c.loop-s-test.true c.requires.3 l.invariant.1 c.requires.4),
     )
 
 pub returns-then-left-cost : goal.returns-then-left-cost
 returns-then-left-cost c =
-    let all_cost : total (c.args.l + 1) (rebuilt_term c.args.p c.args.window.now (view c.args.p.k c.args.information.now)) ≡ window_cost c.args.p c.args.window.now c.args.l (view c.args.p.k c.args.information.now) = rebuilt_all c.args.p c.args.window.now (view c.args.p.k c.args.information.now) c.args.l in
-    let counted : min c.loop-s.false c.cost-cost.result
-    ≡ min c.loop-s.false ((rebuilt_term c.args.p c.args.window.now (view c.args.p.k c.args.information.now)) c.loop-s.s) = let a = c.args in
-    let l = c.loop-s in
-    c.cost-cost.ensures
-    ∙ ap (min l.false) (part_cost a.p l.s l.start l.s a.window.now (view a.p.k a.information.now) l.invariant.1) in
-    let next : total c.loop-s.s (rebuilt_term c.args.p c.args.window.now (view c.args.p.k c.args.information.now)) + (rebuilt_term c.args.p c.args.window.now (view c.args.p.k c.args.information.now)) c.loop-s.s
-    ≡ total (c.loop-s.s + 1) (rebuilt_term c.args.p c.args.window.now (view c.args.p.k c.args.information.now)) = total_more (rebuilt_term c.args.p c.args.window.now (view c.args.p.k c.args.information.now)) c.loop-s.s ((rebuilt_term c.args.p c.args.window.now (view c.args.p.k c.args.information.now)) c.loop-s.s) refl in
     let a = c.args in
     let l = c.loop-s in
-    sym (le-ltb (window_cost a.p a.window.now a.l (view a.p.k a.information.now)) a.bound
+    let y = view a.p.k a.information.now in
+    let term = rebuilt_term a.p a.window.now y in
+    let counted : min l.left c.cost-cost.result ≡ min l.left (term l.s) =
+    c.cost-cost.ensures ∙ ap (min l.left) (part_cost a.p l.s l.start l.s a.window.now y l.invariant.1) in
+    sym (le-ltb (window_cost a.p a.window.now a.l y) a.bound
     (omega (
       arith,
       c.if-left-cost.true,
       l.invariant.2,
       counted,
-      next,
-      total_part (rebuilt_term c.args.p c.args.window.now (view c.args.p.k c.args.information.now)) (l.s + 1) (a.l + 1) (omega arith),
-      all_cost,
+      total_more term l.s (term l.s) refl,
+      total_part term (l.s + 1) (a.l + 1) (omega arith),
+      rebuilt_all a.p a.window.now y a.l,
     )))
 
 pub overflow_add-s : goal.overflow_add-s
@@ -69,25 +74,29 @@ overflow_add-s c = omega (arith, c.requires.3, (sizes c.args.p c.requires.0.soun
 
 pub loop-s-preserved : goal.loop-s-preserved
 loop-s-preserved c =
-    let counted : min c.loop-s.false c.cost-cost.result
-    ≡ min c.loop-s.false ((rebuilt_term c.args.p c.args.window.now (view c.args.p.k c.args.information.now)) c.loop-s.s) = let a = c.args in
+    let a = c.args in
     let l = c.loop-s in
-    c.cost-cost.ensures
-    ∙ ap (min l.false) (part_cost a.p l.s l.start l.s a.window.now (view a.p.k a.information.now) l.invariant.1) in
-    let next : total c.loop-s.s (rebuilt_term c.args.p c.args.window.now (view c.args.p.k c.args.information.now)) + (rebuilt_term c.args.p c.args.window.now (view c.args.p.k c.args.information.now)) c.loop-s.s
-    ≡ total (c.loop-s.s + 1) (rebuilt_term c.args.p c.args.window.now (view c.args.p.k c.args.information.now)) = total_more (rebuilt_term c.args.p c.args.window.now (view c.args.p.k c.args.information.now)) c.loop-s.s ((rebuilt_term c.args.p c.args.window.now (view c.args.p.k c.args.information.now)) c.loop-s.s) refl in
-    let l = c.loop-s in (
+    let y = view a.p.k a.information.now in
+    let term = rebuilt_term a.p a.window.now y in
+    let counted : min l.left c.cost-cost.result ≡ min l.left (term l.s) =
+    c.cost-cost.ensures ∙ ap (min l.left) (part_cost a.p l.s l.start l.s a.window.now y l.invariant.1) in (
       omega arith,
       omega (arith, l.invariant.1),
-      omega (arith, c.if-left-cost.false, l.invariant.2, counted, next),
+      omega (arith, c.if-left-cost.false, l.invariant.2, counted, total_more term l.s (term l.s) refl),
       omega (arith, c.if-left-cost.false),
     )
 
 pub returns : goal.returns
 returns c =
-    let all_cost : total (c.args.l + 1) (rebuilt_term c.args.p c.args.window.now (view c.args.p.k c.args.information.now)) ≡ window_cost c.args.p c.args.window.now c.args.l (view c.args.p.k c.args.information.now) = rebuilt_all c.args.p c.args.window.now (view c.args.p.k c.args.information.now) c.args.l in
     let a = c.args in
     let l = c.loop-s in
+    let y = view a.p.k a.information.now in
     let done : l.s ≡ a.l + 1 = omega arith in
-    sym (lt-ltb (window_cost a.p a.window.now a.l (view a.p.k a.information.now)) a.bound
-    (omega (arith, l.invariant.2, l.invariant.3, ap (λ (t : ℕ). total t (rebuilt_term c.args.p c.args.window.now (view c.args.p.k c.args.information.now))) done, all_cost)))
+    sym (lt-ltb (window_cost a.p a.window.now a.l y) a.bound
+    (omega (
+      arith,
+      l.invariant.2,
+      l.invariant.3,
+      ap (λ (t : ℕ). total t (rebuilt_term a.p a.window.now y)) done,
+      rebuilt_all a.p a.window.now y a.l,
+    )))

@@ -7,7 +7,9 @@ use Rattle.frame.proofs.RebuiltCost.{rebuilt_term}
 use Rattle.frame.proofs.window.is_near.Given as goal
 
 abbrev pub invariant-loop-s : goal.invariant-loop-s
-invariant-loop-s l = (l.s ≤ l.l + 1) × (l.start ≡ l.s * l.p.n) × (total l.s (rebuilt_term l.p l.window (view l.p.k l.information)) + l.left ≡ l.bound) × (min 1 l.s ≤ l.left)
+invariant-loop-s l =
+    (l.s ≤ l.l + 1) × (l.start ≡ l.s * l.p.n)
+    × (total l.s (rebuilt_term l.p l.window (view l.p.k l.information)) + l.left ≡ l.bound) × (min 1 l.s ≤ l.left)
 
 abbrev pub decreases-loop-s : goal.decreases-loop-s
 decreases-loop-s l = l.l + 1 - l.s

@@ -16,4 +16,4 @@ overflow_mul-result c =
 pub returns : goal.returns
 returns c =
     let symbols = c.args.symbols.now in
-    ap (λ (t : ℕ). 2 * t) c.weight.ensures ∙ cost_count q (length symbols) (at symbols) (λ _. 0)
+    λ q. ap (λ (t : ℕ). 2 * t) c.weight.ensures ∙ cost_count q (length symbols) (at symbols) (λ _. 0)

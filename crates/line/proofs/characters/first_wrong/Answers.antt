@@ -1,5 +1,4 @@
 -- `line::characters::first_wrong`: the characters before i are digits.
-use Prim.Native.Nat.{◌-◌}
 use native.Mathlib.Omega.{arith}
 use Rattle.question.proofs.Questions.{searched_none, searched_more, searched_stop, searched_all}
 use Rattle.line.proofs.characters.first_wrong.Goals as goal

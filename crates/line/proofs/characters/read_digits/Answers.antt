@@ -1,5 +1,4 @@
 -- `line::characters::read_digits`: the first i characters are read.
-use Prim.Native.Nat.{◌-◌}
 use native.Mathlib.Omega.{arith}
 use Rattle.line.proofs.Digits.{map_filled_none, map_filled_more, map_filled_all}
 use Rattle.line.proofs.characters.read_digits.Goals as goal
@@ -12,5 +11,3 @@ loop-i-preserved c = map_filled_more c.loop-i.invariant c.loop-i-test.true c.dig
 
 pub returns : goal.returns
 returns c = map_filled_all c.loop-i.invariant (omega arith)
-
--- TODO place (after loop-i-init): tt

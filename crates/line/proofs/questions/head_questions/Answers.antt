@@ -1,8 +1,9 @@
 -- `line::questions::head_questions` asks 1, 3 and 10 in order.
-use mathlib.Core.Path.{◌≡◌, refl, sym, ◌∙◌}
+use mathlib.Core.Path.{◌≡◌, refl, sym, ap, ◌∙◌}
+use mathlib.Core.Bool.{not}
 use Prim.Native.Nat.{ℕ, ◌-◌}
 use native.Mathlib.Omega.{arith}
-use borrow.Author.Tests.{le-leb, lt-leb, eq-eqb, ne_eqb, not-true}
+use borrow.Author.Tests.{le-leb, lt-leb, eq-eqb, ne_eqb}
 use lib.Dec.{T as Passes}
 use lib.ListN.{length, drop}
 use Rattle.code.specs.declared.Setting.{Setting}
@@ -13,36 +14,24 @@ use Rattle.line.specs.Questions.{blocks_in, head_questions}
 use Rattle.line.proofs.Asked.{head_later, head_of_lem, after_setting}
 use Rattle.line.proofs.questions.head_questions.Goals as goal
 
-pub is_setting-requires : goal.is_setting-requires
-is_setting-requires c = tt
-
-pub no-requires : goal.no-requires
-no-requires c = tt
-
 pub returns-then-not-is_setting : goal.returns-then-not-is_setting
 returns-then-not-is_setting c =
     let line = c.args.line.now in
     says_no (head_of_lem line c.setting_in-number.result (blocks_in line) c.setting_in-number.ensures refl)
-    (sym c.is_setting.ensures ∙ not-true _ c.if-not-is_setting.true) c.no.ensures
-
-pub no-requires-then-blocks-gt-MOST_BLOCKS : goal.no-requires-then-blocks-gt-MOST_BLOCKS
-no-requires-then-blocks-gt-MOST_BLOCKS c = tt
+    (sym c.is_setting.ensures ∙ c.if-not-is_setting.true) c.no.ensures
 
 pub returns-then-blocks-gt-MOST_BLOCKS : goal.returns-then-blocks-gt-MOST_BLOCKS
 returns-then-blocks-gt-MOST_BLOCKS c =
-    let known : Passes (is_setting c.setting_in-number.result) = setting_known c.setting_in-number.result c.is_setting.ensures c.if-not-is_setting.false in
+    let known : Passes (is_setting c.setting_in-number.result) = setting_known c.setting_in-number.result c.is_setting.ensures (ap not c.if-not-is_setting.false) in
     let After : ℕ → Type 0 = λ more. let line = c.args.line.now in
     (p : Setting) → p ≡ setting_of c.setting_in-number.result → Left (head_questions line) (drop more (head_later c.blocks_in-blocks.result (length line - 4) p)) in
     let one : After 0 = λ p e. after_setting c.args.line.now c.setting_in-number.result c.blocks_in-blocks.result p
     c.setting_in-number.ensures c.blocks_in-blocks.ensures known e in
     says_no (one _ refl) (lt-leb _ _ c.if-blocks-gt-MOST_BLOCKS.true) c.no-then-blocks-gt-MOST_BLOCKS.ensures
 
-pub no-requires-then-blocks-lt1 : goal.no-requires-then-blocks-lt1
-no-requires-then-blocks-lt1 c = tt
-
 pub returns-then-blocks-lt1 : goal.returns-then-blocks-lt1
 returns-then-blocks-lt1 c =
-    let known : Passes (is_setting c.setting_in-number.result) = setting_known c.setting_in-number.result c.is_setting.ensures c.if-not-is_setting.false in
+    let known : Passes (is_setting c.setting_in-number.result) = setting_known c.setting_in-number.result c.is_setting.ensures (ap not c.if-not-is_setting.false) in
     let After : ℕ → Type 0 = λ more. let line = c.args.line.now in
     (p : Setting) → p ≡ setting_of c.setting_in-number.result → Left (head_questions line) (drop more (head_later c.blocks_in-blocks.result (length line - 4) p)) in
     let one : After 0 = λ p e. after_setting c.args.line.now c.setting_in-number.result c.blocks_in-blocks.result p
@@ -52,27 +41,24 @@ returns-then-blocks-lt1 c =
 
 pub setting_of-p-requires : goal.setting_of-p-requires
 setting_of-p-requires c =
-    let known : Passes (is_setting c.setting_in-number.result) = setting_known c.setting_in-number.result c.is_setting.ensures c.if-not-is_setting.false in
+    let known : Passes (is_setting c.setting_in-number.result) = setting_known c.setting_in-number.result c.is_setting.ensures (ap not c.if-not-is_setting.false) in
     known
 
 pub overflow_add-blocks : goal.overflow_add-blocks
 overflow_add-blocks c =
-    let known : Passes (is_setting c.setting_in-number.result) = setting_known c.setting_in-number.result c.is_setting.ensures c.if-not-is_setting.false in
+    let known : Passes (is_setting c.setting_in-number.result) = setting_known c.setting_in-number.result c.is_setting.ensures (ap not c.if-not-is_setting.false) in
     let sizes : Sizes c.setting_of-p.result = setting_sizes c.setting_in-number.result c.setting_of-p.result known c.setting_of-p.ensures in
     omega (arith, c.if-blocks-gt-MOST_BLOCKS.false, sizes.memory_most)
 
 pub overflow_mul-blocks : goal.overflow_mul-blocks
 overflow_mul-blocks c =
-    let known : Passes (is_setting c.setting_in-number.result) = setting_known c.setting_in-number.result c.is_setting.ensures c.if-not-is_setting.false in
+    let known : Passes (is_setting c.setting_in-number.result) = setting_known c.setting_in-number.result c.is_setting.ensures (ap not c.if-not-is_setting.false) in
     let few = c.if-blocks-gt-MOST_BLOCKS.false in
     omega (arith, transmission_most c.setting_in-number.result c.setting_of-p.result _ known c.setting_of-p.ensures few)
 
-pub no-requires-then-line-blocks : goal.no-requires-then-line-blocks
-no-requires-then-line-blocks c = tt
-
 pub returns-then-line-blocks : goal.returns-then-line-blocks
 returns-then-line-blocks c =
-    let known : Passes (is_setting c.setting_in-number.result) = setting_known c.setting_in-number.result c.is_setting.ensures c.if-not-is_setting.false in
+    let known : Passes (is_setting c.setting_in-number.result) = setting_known c.setting_in-number.result c.is_setting.ensures (ap not c.if-not-is_setting.false) in
     let After : ℕ → Type 0 = λ more. let line = c.args.line.now in
     (p : Setting) → p ≡ setting_of c.setting_in-number.result → Left (head_questions line) (drop more (head_later c.blocks_in-blocks.result (length line - 4) p)) in
     let one : After 0 = λ p e. after_setting c.args.line.now c.setting_in-number.result c.blocks_in-blocks.result p
@@ -81,12 +67,9 @@ returns-then-line-blocks c =
     says_no (three c.setting_of-p.result c.setting_of-p.ensures)
     (simp (le-leb _ _ c.if-blocks-lt1.false, ne_eqb _ _ c.if-line-blocks.true)) c.no-then-line-blocks.ensures
 
-pub yes-requires : goal.yes-requires
-yes-requires c = tt
-
 pub returns : goal.returns
 returns c =
-    let known : Passes (is_setting c.setting_in-number.result) = setting_known c.setting_in-number.result c.is_setting.ensures c.if-not-is_setting.false in
+    let known : Passes (is_setting c.setting_in-number.result) = setting_known c.setting_in-number.result c.is_setting.ensures (ap not c.if-not-is_setting.false) in
     let After : ℕ → Type 0 = λ more. let line = c.args.line.now in
     (p : Setting) → p ≡ setting_of c.setting_in-number.result → Left (head_questions line) (drop more (head_later c.blocks_in-blocks.result (length line - 4) p)) in
     let one : After 0 = λ p e. after_setting c.args.line.now c.setting_in-number.result c.blocks_in-blocks.result p

@@ -15,14 +15,12 @@ loop-i-preserved c =
     (
       simp length-set (omega arith),
       length-set c.loop-i.area (c.loop-i.i - 1) c.last_digit-character.result ∙ c.loop-i.invariant.1,
-      hex_back c.loop-i.i c.loop-i.false c.last_digit-character.result (hex (length c.args.area.now) c.args.number) c.loop-i.area
+      hex_back c.loop-i.i c.loop-i.left c.last_digit-character.result (hex (length c.args.area.now) c.args.number) c.loop-i.area
           c.loop-i-test.true c.loop-i.invariant.0 c.last_digit-character.ensures c.loop-i.invariant.2,
     )
 
 pub returns : goal.returns
 returns c =
     let none : c.loop-i.i ≡ 0 = omega arith in
-    hex_all c.loop-i.i c.loop-i.false (hex (length c.args.area.now) c.args.number) c.loop-i.area none
+    hex_all c.loop-i.i c.loop-i.left (hex (length c.args.area.now) c.args.number) c.loop-i.area none
     c.loop-i.invariant.2
-
--- TODO place (after loop-i-init): tt

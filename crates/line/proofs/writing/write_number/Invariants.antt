@@ -1,7 +1,7 @@
 -- `line::writing::write_number`: the digits from place i on are written, and `left` is what the others hold.
 use mathlib.Core.Path.{◌≡◌}
 use mathlib.Core.List.{◌++◌}
-use Prim.Native.Nat.{◌-◌, ◌≤◌}
+use Prim.Native.Nat.{◌≤◌}
 use lib.ListN.{length, drop}
 use Rattle.line.specs.Characters.{hex}
 use Rattle.line.proofs.writing.write_number.Given as goal

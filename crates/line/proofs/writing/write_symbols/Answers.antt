@@ -1,5 +1,4 @@
 -- `line::writing::write_symbols`: the first i symbols are written.
-use Prim.Native.Nat.{◌-◌}
 use native.Mathlib.Omega.{arith}
 use Rattle.line.proofs.Digits.{map_filled_none, map_filled_more, map_filled_all}
 use Rattle.line.proofs.writing.write_symbols.Goals as goal

@@ -1,5 +1,5 @@
 -- `tables::combine::add_fours`: the multiple was added to the first i symbols.
-use Prim.Native.Nat.{◌+◌, ◌-◌}
+use Prim.Native.Nat.{◌+◌}
 use native.Mathlib.Omega.{arith}
 use Rattle.tables.proofs.RowsAdded.{added_none, added_up}
 use Rattle.tables.proofs.combine.add_fours.Goals as goal
@@ -33,5 +33,3 @@ loop-area-preserved c =
 
 pub returns : goal.returns
 returns c = c.loop-area.invariant
-
--- TODO place (after loop-area-preserved): c.loop-area.invariant.1.long

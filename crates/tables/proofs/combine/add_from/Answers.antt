@@ -20,7 +20,7 @@ add_place-requires c =
 pub loop-left-preserved : goal.loop-left-preserved
 loop-left-preserved c =
     let a = c.args in
-    let left = c.loop-left.false in (
+    let left = c.loop-left.left in (
       omega arith,
       omega arith,
       added_down a.q a.v a.row.now (left - 1) (left - 1 + 1) left (length a.area.now) (length a.area.now) (omega arith) (omega arith)
@@ -31,7 +31,5 @@ pub returns : goal.returns
 returns c =
     let a = c.args in
     let l = c.loop-left in
-    let done : l.false ≡ a.from = omega arith in
+    let done : l.left ≡ a.from = omega arith in
     subst (λ (t : ℕ). MultipleAdded a.q a.v t (length a.area.now) a.row.now a.area.now l.area) done l.invariant.2
-
--- TODO place (after loop-left-preserved): c.loop-left.invariant.2.long

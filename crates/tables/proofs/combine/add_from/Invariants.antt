@@ -1,5 +1,5 @@
 -- `tables::combine::add_from`: the multiple was added to the symbols from `left` on.
-use Prim.Native.Nat.{◌-◌, ◌≤◌}
+use Prim.Native.Nat.{◌≤◌}
 use lib.ListN.{length}
 use Rattle.tables.specs.parts.RowsAdded.{MultipleAdded}
 use Rattle.tables.proofs.combine.add_from.Given as goal

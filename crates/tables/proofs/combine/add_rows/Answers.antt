@@ -1,8 +1,7 @@
 -- `tables::combine::add_rows`: row r of G_0, .., G_m is that part of the rows, and as long as the window.
 use mathlib.Core.Path.{sym, ◌∙◌}
-use Prim.Native.Nat.{◌+◌, ◌*◌, ◌≤◌}
+use Prim.Native.Nat.{◌*◌}
 use native.Mathlib.Omega.{arith}
-use lib.ListN.{length}
 use Rattle.area.proofs.Parts.{part_length}
 use Rattle.code.specs.Windows.{window_length}
 use Rattle.code.proofs.Settings.{sizes}
@@ -14,17 +13,17 @@ overflow_add-size c = omega (arith, (sizes c.args.p c.requires.0.sound).memory_m
 
 pub overflow_mul-start : goal.overflow_mul-start
 overflow_mul-start c =
-    let room : c.args.r * window_length c.args.p + window_length c.args.p ≤ length c.args.rows.now = let a = c.args in window_row_room a.p c.requires.0.sound a.rows.now c.requires.0.rows a.r c.requires.1 in
+    let room = window_row_room c.args.p c.requires.0.sound c.args.rows.now c.requires.0.rows c.args.r c.requires.1 in
     omega (arith, room)
 
 pub overflow_add-end : goal.overflow_add-end
 overflow_add-end c =
-    let room : c.args.r * window_length c.args.p + window_length c.args.p ≤ length c.args.rows.now = let a = c.args in window_row_room a.p c.requires.0.sound a.rows.now c.requires.0.rows a.r c.requires.1 in
+    let room = window_row_room c.args.p c.requires.0.sound c.args.rows.now c.requires.0.rows c.args.r c.requires.1 in
     omega (arith, room)
 
 pub add_multiple-requires : goal.add_multiple-requires
 add_multiple-requires c =
-    let room : c.args.r * window_length c.args.p + window_length c.args.p ≤ length c.args.rows.now = let a = c.args in window_row_room a.p c.requires.0.sound a.rows.now c.requires.0.rows a.r c.requires.1 in
+    let room = window_row_room c.args.p c.requires.0.sound c.args.rows.now c.requires.0.rows c.args.r c.requires.1 in
     let a = c.args in
     let p = c.requires in (
       p.0.sound.good,
@@ -40,5 +39,3 @@ returns c =
     let a = c.args in
     let p = c.requires in
     rows_added a.p p.0.sound a.rows.now p.0.rows a.r p.1 a.v a.window.now _ p.3 c.add_multiple.ensures
-
--- TODO place (after overflow_add-end): let room : c.args.r * window_length c.args.p + window_length c.args.p ≤ length c.args.rows.now = let a = c.args in window_row_room a.p c.requires.0.sound a.rows.now c.requires.0.rows a.r c.requires.1 in room

@@ -1,6 +1,6 @@
 -- `tables::combine::combination`: the loop makes the sum over j of x_(l-j) × G_j.
 use mathlib.Core.Path.{◌≡◌, ap, ◌∙◌}
-use Prim.Native.Nat.{◌+◌, ◌-◌, ◌*◌, ◌≤◌}
+use Prim.Native.Nat.{ℕ, ◌+◌, ◌-◌, ◌*◌, ◌≤◌}
 use native.Mathlib.Nat.{mul-le-mul_right}
 use native.Mathlib.Omega.{arith}
 use lib.ListN.{length}
@@ -9,21 +9,23 @@ use Rattle.code.proofs.Settings.{sizes}
 use Rattle.tables.proofs.Places.{combination_sum, combination_sum_all}
 use Rattle.tables.proofs.combine.combination.Goals as goal
 
+-- Block l - j ends within the information.
+block_within : (k l j room : ℕ) → (l + 1) * k ≤ room → (l - j + 1) * k ≤ room
+block_within k l j room h =
+    let top : l - j + 1 ≤ l + 1 = omega arith in
+    omega (arith, mul-le-mul_right k top)
+
 pub loop-j-init : goal.loop-j-init
 loop-j-init c = (omega arith, sum_none _ _ c.requires.0.sound.good)
 
 pub overflow_mul-l : goal.overflow_mul-l
 overflow_mul-l c =
-    let within : (c.args.l - c.loop-j.j + 1) * c.args.p.k ≤ length
-    c.args.information.now = let top : c.args.l - c.loop-j.j + 1 ≤ c.args.l + 1 = omega arith in
-    omega (arith, mul-le-mul_right c.args.p.k top, c.requires.2) in
+    let within = block_within c.args.p.k c.args.l c.loop-j.j (length c.args.information.now) c.requires.2 in
     omega (arith, within)
 
 pub times_g-part-requires : goal.times_g-part-requires
 times_g-part-requires c =
-    let within : (c.args.l - c.loop-j.j + 1) * c.args.p.k ≤ length
-    c.args.information.now = let top : c.args.l - c.loop-j.j + 1 ≤ c.args.l + 1 = omega arith in
-    omega (arith, mul-le-mul_right c.args.p.k top, c.requires.2) in
+    let within = block_within c.args.p.k c.args.l c.loop-j.j (length c.args.information.now) c.requires.2 in
     (c.requires.0, c.requires.1, omega (arith, within), omega (arith, c.requires.3), c.requires.4)
 
 pub add-sum-requires : goal.add-sum-requires

@@ -1,12 +1,12 @@
 -- `tables::combine::times_g`: the loop makes the sum over the rows of G_j.
 use mathlib.Core.Path.{◌≡◌, refl, ap, ◌∙◌}
-use Prim.Native.Nat.{◌+◌, ◌-◌}
+use Prim.Native.Nat.{◌+◌}
 use native.Mathlib.Omega.{arith}
 use Rattle.field.proofs.Symbols.{symbol_below}
 use Rattle.field.proofs.LoopSums.{sum_none, sum_more}
 use Rattle.code.proofs.Settings.{sizes}
 use Rattle.code.proofs.CodeBelow.{positive}
-use Rattle.tables.proofs.Places.{Place, place_of, product_sum, product_sum_all}
+use Rattle.tables.proofs.Places.{place_of, product_sum, product_sum_all}
 use Rattle.tables.proofs.combine.times_g.Goals as goal
 
 pub overflow_add-powers : goal.overflow_add-powers
@@ -17,44 +17,32 @@ loop-r-init c = (omega arith, sum_none _ _ c.requires.0.sound.good)
 
 pub overflow_mul-r : goal.overflow_mul-r
 overflow_mul-r c =
-    let placed : Place c.args.p c.args.rows.now
-    c.args.j c.loop-r.r c.args.i = place_of c.args.p c.requires.0.sound c.args.rows.now c.requires.0.rows c.args.j c.loop-r.r
-    c.args.i c.requires.3 c.loop-r-test.true c.requires.4 in
+    let placed = place_of c.args.p c.requires.0.sound c.args.rows.now c.requires.0.rows c.args.j c.loop-r.r c.args.i c.requires.3 c.loop-r-test.true c.requires.4 in
     omega (arith, placed.group)
 
 pub overflow_add-r : goal.overflow_add-r
 overflow_add-r c =
-    let placed : Place c.args.p c.args.rows.now
-    c.args.j c.loop-r.r c.args.i = place_of c.args.p c.requires.0.sound c.args.rows.now c.requires.0.rows c.args.j c.loop-r.r
-    c.args.i c.requires.3 c.loop-r-test.true c.requires.4 in
+    let placed = place_of c.args.p c.requires.0.sound c.args.rows.now c.requires.0.rows c.args.j c.loop-r.r c.args.i c.requires.3 c.loop-r-test.true c.requires.4 in
     omega (arith, placed.row)
 
 pub overflow_mul-r-in-loop-r : goal.overflow_mul-r-in-loop-r
 overflow_mul-r-in-loop-r c =
-    let placed : Place c.args.p c.args.rows.now
-    c.args.j c.loop-r.r c.args.i = place_of c.args.p c.requires.0.sound c.args.rows.now c.requires.0.rows c.args.j c.loop-r.r
-    c.args.i c.requires.3 c.loop-r-test.true c.requires.4 in
+    let placed = place_of c.args.p c.requires.0.sound c.args.rows.now c.requires.0.rows c.args.j c.loop-r.r c.args.i c.requires.3 c.loop-r-test.true c.requires.4 in
     omega (arith, placed.start)
 
 pub overflow_add-r-in-loop-r : goal.overflow_add-r-in-loop-r
 overflow_add-r-in-loop-r c =
-    let placed : Place c.args.p c.args.rows.now
-    c.args.j c.loop-r.r c.args.i = place_of c.args.p c.requires.0.sound c.args.rows.now c.requires.0.rows c.args.j c.loop-r.r
-    c.args.i c.requires.3 c.loop-r-test.true c.requires.4 in
+    let placed = place_of c.args.p c.requires.0.sound c.args.rows.now c.requires.0.rows c.args.j c.loop-r.r c.args.i c.requires.3 c.loop-r-test.true c.requires.4 in
     omega (arith, placed.place)
 
 pub bounds-rows-r : goal.bounds-rows-r
 bounds-rows-r c =
-    let placed : Place c.args.p c.args.rows.now
-    c.args.j c.loop-r.r c.args.i = place_of c.args.p c.requires.0.sound c.args.rows.now c.requires.0.rows c.args.j c.loop-r.r
-    c.args.i c.requires.3 c.loop-r-test.true c.requires.4 in
+    let placed = place_of c.args.p c.requires.0.sound c.args.rows.now c.requires.0.rows c.args.j c.loop-r.r c.args.i c.requires.3 c.loop-r-test.true c.requires.4 in
     placed.place
 
 pub add_product-sum-requires : goal.add_product-sum-requires
 add_product-sum-requires c =
-    let placed : Place c.args.p c.args.rows.now
-    c.args.j c.loop-r.r c.args.i = place_of c.args.p c.requires.0.sound c.args.rows.now c.requires.0.rows c.args.j c.loop-r.r
-    c.args.i c.requires.3 c.loop-r-test.true c.requires.4 in
+    let placed = place_of c.args.p c.requires.0.sound c.args.rows.now c.requires.0.rows c.args.j c.loop-r.r c.args.i c.requires.3 c.loop-r-test.true c.requires.4 in
     let positive-q = positive c.args.p c.requires.0.sound in (
       c.requires.0.sound.good,
       c.requires.0.products,

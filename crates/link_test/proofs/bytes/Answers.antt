@@ -1,0 +1,18 @@
+-- `link_test::bytes`: both places stay within their slices.
+use Prim.Native.Nat.{◌-◌}
+use native.Mathlib.Omega.{arith}
+use lib.ListN.{length-set}
+use Rattle.link_test.proofs.bytes.Goals as goal
+
+pub loop-i-preserved : goal.loop-i-preserved
+loop-i-preserved c = simp length-set (omega arith)
+
+-- TODO place (after the start): tt
+
+-- TODO place (after the start): tt
+
+-- TODO place (after the start): tt
+
+-- TODO place (after the start): tt
+
+-- TODO place (after loop-i-preserved): tt
