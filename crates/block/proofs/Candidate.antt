@@ -2,7 +2,7 @@
 -- α of order n and (l+1)k ≤ n; r = n - (l+1)k is the number of zeros of the level-l code.
 -- Holds: `degree_of_near`, `values_of_near`, `information_of_near`.
 use mathlib.Core.Path.{◌≡◌, sym, ap, ap₂, ◌∙◌}
-use Prim.Native.Nat.{ℕ, zero, suc, ◌+◌, ◌-◌, ◌*◌, ◌≤◌, ◌<◌}
+use Prim.Native.Nat.{ℕ, suc, ◌+◌, ◌-◌, ◌*◌, ◌≤◌, ◌<◌}
 use native.Mathlib.Nat.{mul-le-mul_right}
 use native.Mathlib.Omega.{arith}
 use Rattle.algebra.specs.Ops.{sub}

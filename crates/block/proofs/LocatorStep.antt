@@ -2,7 +2,7 @@
 -- Holds: `located_start`; the three outcomes at a place: `located_kept`, `located_corrected`, `located_grown`; `convolution_short`, `convolution_tail`;
 -- `located_ext`.
 use mathlib.Core.Path.{◌≡◌, refl, sym, ap, ap₂, ◌∙◌}
-use Prim.Native.Nat.{ℕ, zero, suc, ◌+◌, ◌-◌, ◌≤◌, ◌<◌}
+use Prim.Native.Nat.{ℕ, suc, ◌+◌, ◌-◌, ◌≤◌, ◌<◌}
 use native.Mathlib.Nat.{add-suc as nat_add_suc}
 use native.Mathlib.Numerals.{add-one}
 use native.Mathlib.Omega.{arith}

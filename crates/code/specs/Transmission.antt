@@ -1,6 +1,6 @@
 -- The transmission of a message (01, "The transmission"; transmission: the codeword, message: the information word).
 -- Holds: `earlier`, information block s - j; `sent_symbol`, symbol i of sent block s.
-use Rattle.std.specs.Prelude.{ℕ, zero, suc, ◌-◌, leb}
+use Rattle.std.specs.Prelude.{ℕ, suc, ◌-◌, leb}
 use Rattle.algebra.specs.Ops.{Ops, pick}
 use Rattle.algebra.specs.Sum.{sum}
 use Rattle.code.specs.Code.{Code}

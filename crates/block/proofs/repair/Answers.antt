@@ -18,14 +18,13 @@ pub returns-then-distance-start : goal.returns-then-distance-start
 returns-then-distance-start c = step_long c.requires.0.sound c.requires.3 c.requires.1 c.requires.2 c.begin-start.ensures (omega arith)
 
 pub read_candidate-requires : goal.read_candidate-requires
-read_candidate-requires c =
-    (
-      c.requires.0,
-      c.requires.2,
-      c.requires.3,
-      block_areas_kept c.requires.4 c.begin-start.auto.series c.begin-start.auto.locator c.begin-start.auto.former c.begin-start.auto.spare,
-      c.begin-start.ensures,
-    )
+read_candidate-requires c = (
+  c.requires.0,
+  c.requires.2,
+  c.requires.3,
+  block_areas_kept c.requires.4 c.begin-start.auto.series c.begin-start.auto.locator c.begin-start.auto.former c.begin-start.auto.spare,
+  c.begin-start.ensures,
+)
 
 pub returns-then-start-eq0 : goal.returns-then-start-eq0
 returns-then-start-eq0 c =

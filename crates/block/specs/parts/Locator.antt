@@ -2,7 +2,7 @@
 -- A series c with c_0 = 1 holds the known part of a spectrum from c_1 on. The locator σ of degree at most L annihilates it as far as it is known:
 -- coefficient j of the product σ × c is zero for L < j ≤ s. The former locator is the one before the degree last changed, at place p.
 -- Holds: `convolution`, `tail`, `Located`, `Subtracted`, `Extended`.
-use Rattle.std.specs.Prelude.{◌≡◌, ℕ, zero, suc, ◌+◌, ◌-◌, ◌≤◌, ◌<◌}
+use Rattle.std.specs.Prelude.{◌≡◌, ℕ, suc, ◌+◌, ◌-◌, ◌≤◌, ◌<◌}
 use Rattle.algebra.specs.Ops.{Ops, sub}
 use Rattle.algebra.specs.Sum.{sum}
 

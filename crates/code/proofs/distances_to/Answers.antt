@@ -10,12 +10,11 @@ pub level_distance-sum-requires : goal.level_distance-sum-requires
 level_distance-sum-requires c = (c.requires.0, omega arith)
 
 pub loop-i-init : goal.loop-i-init
-loop-i-init c =
-    (
-      omega arith,
-      omega (arith, c.level_distance-sum.ensures, (sizes c.args.p c.requires.0).symbols_most),
-      c.level_distance-sum.ensures ∙ distances_none c.args.p.n c.args.p.k,
-    )
+loop-i-init c = (
+  omega arith,
+  omega (arith, c.level_distance-sum.ensures, (sizes c.args.p c.requires.0).symbols_most),
+  c.level_distance-sum.ensures ∙ distances_none c.args.p.n c.args.p.k,
+)
 
 pub overflow_add-i : goal.overflow_add-i
 overflow_add-i c = omega (arith, (sizes c.args.p c.requires.0).memory_most, c.requires.1)

@@ -1,6 +1,5 @@
 -- `question::search_not_below`: the symbols before i are below q.
 use mathlib.Core.Path.{ap, ◌∙◌}
-use Prim.Native.Nat.{◌-◌}
 use native.Mathlib.Omega.{arith}
 use Rattle.question.specs.Questions.{symbols_to}
 use Rattle.question.proofs.Questions.{searched_none, searched_more, searched_stop, searched_all, map_same}

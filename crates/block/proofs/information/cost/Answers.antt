@@ -3,7 +3,6 @@ use Prim.Native.Nat.{ℕ, ◌+◌, min}
 use mathlib.Core.Path.{◌≡◌, sym, ap, ◌∙◌}
 use native.Mathlib.Omega.{arith}
 use Rattle.algebra.proofs.Weights.{total_none, total_part, total_same, total_more}
-use Rattle.field.specs.parts.Sequences.{at}
 use Rattle.field.proofs.Symbols.{all_symbols}
 use Rattle.code.specs.parts.Cost.{block_cost}
 use Rattle.code.proofs.Settings.{sizes}

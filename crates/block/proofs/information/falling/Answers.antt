@@ -2,7 +2,6 @@
 use Prim.Native.Nat.{◌+◌}
 use mathlib.Core.Path.{◌≡◌}
 use native.Mathlib.Omega.{arith}
-use Rattle.field.specs.parts.Sequences.{at}
 use Rattle.block.proofs.InformationRead.{falling_none, falling_more}
 use Rattle.block.proofs.information.falling.Goals as goal
 

@@ -13,13 +13,12 @@ pub inverse-back-requires : goal.inverse-back-requires
 inverse-back-requires c = let ready = c.requires.0 in (ready.sound.good, ready.products, alpha_below _ ready.sound.good)
 
 pub loop-b-init : goal.loop-b-init
-loop-b-init c =
-    (
-      omega arith,
-      refl,
-      subst (InformationRead c.args.p 0 c.args.values.now) (sym c.clear.ensures)
-          (read_none _ c.requires.0.sound _ c.requires.1 (length c.args.information.now)),
-    )
+loop-b-init c = (
+  omega arith,
+  refl,
+  subst (InformationRead c.args.p 0 c.args.values.now) (sym c.clear.ensures)
+      (read_none _ c.requires.0.sound _ c.requires.1 (length c.args.information.now)),
+)
 
 pub overflow_mul-b : goal.overflow_mul-b
 overflow_mul-b c =

@@ -3,7 +3,6 @@ use mathlib.Core.Path.{◌≡◌, refl}
 use Prim.Native.Nat.{◌-◌, ◌+◌}
 use native.Mathlib.Omega.{arith}
 use borrow.Author.Rules.{rules}
-use Rattle.field.specs.parts.Sequences.{at}
 use Rattle.field.proofs.LoopSums.{sum_none, sum_more}
 use Rattle.block.specs.parts.Locator.{tail}
 use Rattle.block.proofs.locator.tail.Goals as goal

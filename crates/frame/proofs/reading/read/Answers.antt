@@ -23,12 +23,11 @@ pub returns-then-not-read_windows : goal.returns-then-not-read_windows
 returns-then-not-read_windows c = none (stopped_none c.read_windows.ensures (ap not c.if-not-read_windows.true))
 
 pub compare_windows-requires : goal.compare_windows-requires
-compare_windows-requires c =
-    (
-      c.requires.0.sound,
-      c.distances_to-bound.ensures,
-      (advance_more c.read_windows.ensures (ap not c.if-not-read_windows.false)).areas.residual_long,
-    )
+compare_windows-requires c = (
+  c.requires.0.sound,
+  c.distances_to-bound.ensures,
+  (advance_more c.read_windows.ensures (ap not c.if-not-read_windows.false)).areas.residual_long,
+)
 
 pub returns : goal.returns
 returns c =

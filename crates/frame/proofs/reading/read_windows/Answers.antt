@@ -27,24 +27,22 @@ pub bounds-rows-0 : goal.bounds-rows-0
 bounds-rows-0 c = (first_place c.args.p c.requires.0.sound c.args.rows.now c.requires.0.rows).0
 
 pub inverse-scale-requires : goal.inverse-scale-requires
-inverse-scale-requires c =
-    (
-      c.requires.0.sound.good,
-      c.requires.0.products,
-      (first_place c.args.p c.requires.0.sound c.args.rows.now c.requires.0.rows).1,
-    )
+inverse-scale-requires c = (
+  c.requires.0.sound.good,
+  c.requires.0.products,
+  (first_place c.args.p c.requires.0.sound c.args.rows.now c.requires.0.rows).1,
+)
 
 pub loop-j-init : goal.loop-j-init
 loop-j-init c = (c.requires.2, omega arith, refl, refl, refl, refl)
 
 pub guess_window-requires : goal.guess_window-requires
-guess_window-requires c =
-    (
-      c.requires.0,
-      c.inverse-scale.ensures.below,
-      c.loop-j-test.true,
-      c.loop-j.invariant.0.areas,
-    )
+guess_window-requires c = (
+  c.requires.0,
+  c.inverse-scale.ensures.below,
+  c.loop-j-test.true,
+  c.loop-j.invariant.0.areas,
+)
 
 pub settle-settled-requires : goal.settle-settled-requires
 settle-settled-requires c =
