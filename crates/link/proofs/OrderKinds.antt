@@ -322,7 +322,7 @@ order_kept decoding o t = at (eqb o.number 0) refl (and_right place kind (and_ri
 -- A list that passes is kept.
 pub each_kept : (l : List Order) → Passes (orders_test l) → (o : Order) → Memᴰ o l → OrderKept o
 unfolding orders_test
-each_kept [] t o h = absurd (Memᴰ.not_nil h)
+each_kept [] t o h = absurd (Memᴰ.not-nil h)
 each_kept (x ∷ rest) t o h = at (Memᴰ.cases_cons h) (each_kept rest (and_right (test_of x.call x) (orders_test rest) t) o)
   where
     at : (o ≡ x) ⊎ Memᴰ o rest → (Memᴰ o rest → OrderKept o) → OrderKept o

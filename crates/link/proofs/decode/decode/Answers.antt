@@ -6,9 +6,9 @@ use lib.ListN.{length, take}
 use lib.Seq.{length-take-le}
 use Rattle.field.specs.Symbols.{Symbols}
 use Rattle.code.specs.declared.Setting.{Setting}
-use Rattle.question.specs.Questions.{first_no, blocks_of, decoding_questions}
-use Rattle.question.proofs.Questions.{decoding_yes}
-use Rattle.link.proofs.Decoding.{Receiving, receiving, decoded_refused, decoded_asked}
+use Rattle.question.specs.Questions.{blocks_of}
+use Rattle.question.proofs.Questions.{decoding_yes, number_of}
+use Rattle.link.proofs.Decoding.{receiving, decoded_refused, decoded_asked}
 use Rattle.link.proofs.decode.decode.Goals as goal
 
 pub returns-then-answer-ne0 : goal.returns-then-answer-ne0
@@ -19,101 +19,87 @@ returns-then-answer-ne0 c =
 
 pub setting_of-p-requires : goal.setting_of-p-requires
 setting_of-p-requires c =
-    let asked : (first_no (decoding_questions c.args.setting c.args.reception.now
-    (length c.args.message.now) (length c.args.transmission.now))).number ≡ 0 = ap (λ a. a.number) (sym c.decoding_questions-answer.ensures) ∙ c.if-answer-ne0.false in
     let a = c.args in
+    let asked = number_of c.decoding_questions-answer.ensures c.if-answer-ne0.false in
     (decoding_yes a.setting a.reception.now (length a.message.now) (length a.transmission.now) asked).setting
 
 pub nonzero_div-blocks : goal.nonzero_div-blocks
 nonzero_div-blocks c =
-    let asked : (first_no (decoding_questions c.args.setting c.args.reception.now
-    (length c.args.message.now) (length c.args.transmission.now))).number ≡ 0 = ap (λ a. a.number) (sym c.decoding_questions-answer.ensures) ∙ c.if-answer-ne0.false in
-    let known : Receiving c.setting_of-p.result c.args.reception.now
-    (length c.args.message.now) (length c.args.transmission.now) = let a = c.args in
-    receiving a.setting a.reception.now a.message.now a.transmission.now c.setting_of-p.result c.setting_of-p.ensures asked in
+    let a = c.args in
+    let known =
+        receiving a.setting a.reception.now a.message.now a.transmission.now c.setting_of-p.result c.setting_of-p.ensures
+        (number_of c.decoding_questions-answer.ensures c.if-answer-ne0.false) in
     known.sizes.symbols
 
 pub overflow_sub-blocks : goal.overflow_sub-blocks
 overflow_sub-blocks c =
-    let asked : (first_no (decoding_questions c.args.setting c.args.reception.now
-    (length c.args.message.now) (length c.args.transmission.now))).number ≡ 0 = ap (λ a. a.number) (sym c.decoding_questions-answer.ensures) ∙ c.if-answer-ne0.false in
-    let known : Receiving c.setting_of-p.result c.args.reception.now
-    (length c.args.message.now) (length c.args.transmission.now) = let a = c.args in
-    receiving a.setting a.reception.now a.message.now a.transmission.now c.setting_of-p.result c.setting_of-p.ensures asked in
+    let a = c.args in
+    let known =
+        receiving a.setting a.reception.now a.message.now a.transmission.now c.setting_of-p.result c.setting_of-p.ensures
+        (number_of c.decoding_questions-answer.ensures c.if-answer-ne0.false) in
     omega (arith, known.blocks)
 
 pub overflow_mul-short : goal.overflow_mul-short
 overflow_mul-short c =
-    let asked : (first_no (decoding_questions c.args.setting c.args.reception.now
-    (length c.args.message.now) (length c.args.transmission.now))).number ≡ 0 = ap (λ a. a.number) (sym c.decoding_questions-answer.ensures) ∙ c.if-answer-ne0.false in
-    let known : Receiving c.setting_of-p.result c.args.reception.now
-    (length c.args.message.now) (length c.args.transmission.now) = let a = c.args in
-    receiving a.setting a.reception.now a.message.now a.transmission.now c.setting_of-p.result c.setting_of-p.ensures asked in
+    let a = c.args in
+    let known =
+        receiving a.setting a.reception.now a.message.now a.transmission.now c.setting_of-p.result c.setting_of-p.ensures
+        (number_of c.decoding_questions-answer.ensures c.if-answer-ne0.false) in
     omega (arith, known.has_message_room)
 
 pub overflow_add-long : goal.overflow_add-long
 overflow_add-long c =
-    let asked : (first_no (decoding_questions c.args.setting c.args.reception.now
-    (length c.args.message.now) (length c.args.transmission.now))).number ≡ 0 = ap (λ a. a.number) (sym c.decoding_questions-answer.ensures) ∙ c.if-answer-ne0.false in
-    let known : Receiving c.setting_of-p.result c.args.reception.now
-    (length c.args.message.now) (length c.args.transmission.now) = let a = c.args in
-    receiving a.setting a.reception.now a.message.now a.transmission.now c.setting_of-p.result c.setting_of-p.ensures asked in
+    let a = c.args in
+    let known =
+        receiving a.setting a.reception.now a.message.now a.transmission.now c.setting_of-p.result c.setting_of-p.ensures
+        (number_of c.decoding_questions-answer.ensures c.if-answer-ne0.false) in
     omega (arith, known.most, known.sizes.memory_most)
 
 pub overflow_mul-long : goal.overflow_mul-long
 overflow_mul-long c =
-    let asked : (first_no (decoding_questions c.args.setting c.args.reception.now
-    (length c.args.message.now) (length c.args.transmission.now))).number ≡ 0 = ap (λ a. a.number) (sym c.decoding_questions-answer.ensures) ∙ c.if-answer-ne0.false in
-    let known : Receiving c.setting_of-p.result c.args.reception.now
-    (length c.args.message.now) (length c.args.transmission.now) = let a = c.args in
-    receiving a.setting a.reception.now a.message.now a.transmission.now c.setting_of-p.result c.setting_of-p.ensures asked in
+    let a = c.args in
+    let known =
+        receiving a.setting a.reception.now a.message.now a.transmission.now c.setting_of-p.result c.setting_of-p.ensures
+        (number_of c.decoding_questions-answer.ensures c.if-answer-ne0.false) in
     omega (arith, known.has_transmission_room)
 
 pub slice_bounds-decode_frame-end : goal.slice_bounds-decode_frame-end
 slice_bounds-decode_frame-end c =
-    let asked : (first_no (decoding_questions c.args.setting c.args.reception.now
-    (length c.args.message.now) (length c.args.transmission.now))).number ≡ 0 = ap (λ a. a.number) (sym c.decoding_questions-answer.ensures) ∙ c.if-answer-ne0.false in
-    let known : Receiving c.setting_of-p.result c.args.reception.now
-    (length c.args.message.now) (length c.args.transmission.now) = let a = c.args in
-    receiving a.setting a.reception.now a.message.now a.transmission.now c.setting_of-p.result c.setting_of-p.ensures asked in
+    let a = c.args in
+    let known =
+        receiving a.setting a.reception.now a.message.now a.transmission.now c.setting_of-p.result c.setting_of-p.ensures
+        (number_of c.decoding_questions-answer.ensures c.if-answer-ne0.false) in
     known.has_message_room
 
 pub slice_bounds-decode_frame-end-2 : goal.slice_bounds-decode_frame-end-2
 slice_bounds-decode_frame-end-2 c =
-    let asked : (first_no (decoding_questions c.args.setting c.args.reception.now
-    (length c.args.message.now) (length c.args.transmission.now))).number ≡ 0 = ap (λ a. a.number) (sym c.decoding_questions-answer.ensures) ∙ c.if-answer-ne0.false in
-    let known : Receiving c.setting_of-p.result c.args.reception.now
-    (length c.args.message.now) (length c.args.transmission.now) = let a = c.args in
-    receiving a.setting a.reception.now a.message.now a.transmission.now c.setting_of-p.result c.setting_of-p.ensures asked in
+    let a = c.args in
+    let known =
+        receiving a.setting a.reception.now a.message.now a.transmission.now c.setting_of-p.result c.setting_of-p.ensures
+        (number_of c.decoding_questions-answer.ensures c.if-answer-ne0.false) in
     sym (length-take-le _ _ known.has_message_room)
 
 pub slice_bounds-decode_frame-end-3 : goal.slice_bounds-decode_frame-end-3
 slice_bounds-decode_frame-end-3 c =
-    let asked : (first_no (decoding_questions c.args.setting c.args.reception.now
-    (length c.args.message.now) (length c.args.transmission.now))).number ≡ 0 = ap (λ a. a.number) (sym c.decoding_questions-answer.ensures) ∙ c.if-answer-ne0.false in
-    let known : Receiving c.setting_of-p.result c.args.reception.now
-    (length c.args.message.now) (length c.args.transmission.now) = let a = c.args in
-    receiving a.setting a.reception.now a.message.now a.transmission.now c.setting_of-p.result c.setting_of-p.ensures asked in
+    let a = c.args in
+    let known =
+        receiving a.setting a.reception.now a.message.now a.transmission.now c.setting_of-p.result c.setting_of-p.ensures
+        (number_of c.decoding_questions-answer.ensures c.if-answer-ne0.false) in
     known.has_transmission_room
 
 pub slice_bounds-decode_frame-end-4 : goal.slice_bounds-decode_frame-end-4
 slice_bounds-decode_frame-end-4 c =
-    let asked : (first_no (decoding_questions c.args.setting c.args.reception.now
-    (length c.args.message.now) (length c.args.transmission.now))).number ≡ 0 = ap (λ a. a.number) (sym c.decoding_questions-answer.ensures) ∙ c.if-answer-ne0.false in
-    let known : Receiving c.setting_of-p.result c.args.reception.now
-    (length c.args.message.now) (length c.args.transmission.now) = let a = c.args in
-    receiving a.setting a.reception.now a.message.now a.transmission.now c.setting_of-p.result c.setting_of-p.ensures asked in
+    let a = c.args in
+    let known =
+        receiving a.setting a.reception.now a.message.now a.transmission.now c.setting_of-p.result c.setting_of-p.ensures
+        (number_of c.decoding_questions-answer.ensures c.if-answer-ne0.false) in
     sym (length-take-le _ _ known.has_transmission_room)
 
 pub decode_frame-requires : goal.decode_frame-requires
 decode_frame-requires c =
-    let asked : (first_no (decoding_questions c.args.setting c.args.reception.now
-    (length c.args.message.now) (length c.args.transmission.now))).number ≡ 0 = ap (λ a. a.number) (sym c.decoding_questions-answer.ensures) ∙ c.if-answer-ne0.false in
-    let known : Receiving c.setting_of-p.result c.args.reception.now
-    (length c.args.message.now) (length c.args.transmission.now) = let a = c.args in
-    receiving a.setting a.reception.now a.message.now a.transmission.now c.setting_of-p.result c.setting_of-p.ensures asked in
     let a = c.args in
-    let k = known in
+    let asked = number_of c.decoding_questions-answer.ensures c.if-answer-ne0.false in
+    let k = receiving a.setting a.reception.now a.message.now a.transmission.now c.setting_of-p.result c.setting_of-p.ensures asked in
     let p = c.setting_of-p.result in
     let e = c.setting_of-p.ensures in
     let T = blocks_of p (length a.reception.now) in
@@ -130,8 +116,6 @@ decode_frame-requires c =
 
 pub returns : goal.returns
 returns c =
-    let asked : (first_no (decoding_questions c.args.setting c.args.reception.now
-    (length c.args.message.now) (length c.args.transmission.now))).number ≡ 0 = ap (λ a. a.number) (sym c.decoding_questions-answer.ensures) ∙ c.if-answer-ne0.false in
     let a = c.args in
-    decoded_asked a.setting a.reception.now a.message.now a.transmission.now c.setting_of-p.result
-    c.setting_of-p.ensures asked c.decode_frame.ensures
+    decoded_asked a.setting a.reception.now a.message.now a.transmission.now c.setting_of-p.result c.setting_of-p.ensures
+    (number_of c.decoding_questions-answer.ensures c.if-answer-ne0.false) c.decode_frame.ensures

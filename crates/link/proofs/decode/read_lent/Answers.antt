@@ -1,5 +1,6 @@
 -- `link::decode::read_lent`: the frame is read; then its residual weighed, or zeros.
 use mathlib.Core.Path.{ap, ◌∙◌}
+use mathlib.Core.Bool.{not}
 use Prim.Native.Nat.{ℕ, ◌*◌}
 use native.Mathlib.Omega.{arith}
 use lib.ListN.{replicate}
@@ -12,12 +13,12 @@ use Rattle.link.proofs.decode.read_lent.Goals as goal
 
 pub returns-then-not-read : goal.returns-then-not-read
 returns-then-not-read c =
-    answered_none c.read.ensures c.if-not-read.true c.no.ensures
-    (c.clear.ensures ∙ ap (λ (t : ℕ). replicate t 0) (c.read.kept.1.1.1.1.0 ∙ c.requires.3))
-    (c.clear-then-not-read.ensures ∙ ap (λ (t : ℕ). replicate t 0) (c.read.kept.1.1.1.1.1.0 ∙ c.requires.4))
+    answered_none c.read.ensures (ap not c.if-not-read.true) c.no.ensures
+    (c.clear.ensures ∙ ap (λ (t : ℕ). replicate t 0) (c.read.auto.message ∙ c.requires.3))
+    (c.clear-then-not-read.ensures ∙ ap (λ (t : ℕ). replicate t 0) (c.read.auto.residual ∙ c.requires.4))
 
 pub altered_count-altered-requires : goal.altered_count-altered-requires
-altered_count-altered-requires c = omega (arith, c.read.kept.1.1.1.1.1.0, c.requires.4)
+altered_count-altered-requires c = omega (arith, c.read.auto.residual, c.requires.4)
 
 pub overflow_cast-result : goal.overflow_cast-result
 overflow_cast-result c =
@@ -30,4 +31,4 @@ overflow_cast-result c =
     )
 
 pub returns : goal.returns
-returns c = answered_read c.read.ensures c.if-not-read.false c.altered_count-altered.ensures
+returns c = answered_read c.read.ensures (ap not c.if-not-read.false) c.altered_count-altered.ensures

@@ -1,17 +1,32 @@
 -- `link::encode::encode`: refused by the first "no", or the transmission in front of what the area held.
-use mathlib.Core.Path.{sym, ap, subst, ◌∙◌}
-use Prim.Native.Nat.{◌+◌, ◌*◌, ◌/◌, ◌≤◌}
+use mathlib.Core.Path.{◌≡◌, sym, subst}
+use Prim.Native.Nat.{ℕ, ◌+◌, ◌*◌, ◌/◌, ◌≤◌}
 use native.Mathlib.Omega.{arith}
+use mathlib.Core.List.{List}
 use lib.ListN.{length}
 use lib.Seq.{length-take-le}
 use Rattle.code.specs.declared.Setting.{Setting}
+use Rattle.code.specs.Settings.{setting_of}
 use Rattle.code.specs.Windows.{Message}
 use Rattle.code.proofs.Settings.{sizes_of}
 use Rattle.tables.proofs.Lending.{narrow_of}
 use Rattle.question.specs.Questions.{most_blocks}
-use Rattle.question.proofs.Questions.{EncodingYes, encoding_yes}
+use Rattle.question.proofs.Questions.{EncodingYes, encoding_yes, number_of}
 use Rattle.link.proofs.Encoding.{encoded_refused, encoded_sent}
 use Rattle.link.proofs.encode.encode.Goals as goal
+
+-- Of the setting in hand, once every question got "yes".
+module _ (number : ℕ) (message : List ℕ) (area : ℕ) (known : EncodingYes number message area) (p : Setting) (e : p ≡ setting_of number) where
+  information : 1 ≤ p.k
+  information = subst (λ (p : Setting). 1 ≤ p.k) (sym e) (sizes_of number known.setting).information
+
+  few : length message / p.k + p.m ≤ most_blocks + 255
+  few =
+      subst (λ (p : Setting). length message / p.k + p.m ≤ most_blocks + 255) (sym e)
+      (omega (arith, known.most, (sizes_of number known.setting).memory_most))
+
+  room : (length message / p.k + p.m) * p.n ≤ area
+  room = subst (λ (p : Setting). (length message / p.k + p.m) * p.n ≤ area) (sym e) known.room
 
 pub returns-then-answer-ne0 : goal.returns-then-answer-ne0
 returns-then-answer-ne0 c =
@@ -20,73 +35,58 @@ returns-then-answer-ne0 c =
 
 pub setting_of-p-requires : goal.setting_of-p-requires
 setting_of-p-requires c =
-    let known : EncodingYes c.args.setting c.args.message.now
-    (length c.args.transmission.now) = encoding_yes c.args.setting c.args.message.now (length c.args.transmission.now)
-    (ap (λ a. a.number) (sym c.encoding_questions-answer.ensures) ∙ c.if-answer-ne0.false) in
+    let a = c.args in
+    let known =
+        encoding_yes a.setting a.message.now (length a.transmission.now) (number_of c.encoding_questions-answer.ensures c.if-answer-ne0.false) in
     known.setting
 
 pub nonzero_div-blocks : goal.nonzero_div-blocks
 nonzero_div-blocks c =
-    let known : EncodingYes c.args.setting c.args.message.now
-    (length c.args.transmission.now) = encoding_yes c.args.setting c.args.message.now (length c.args.transmission.now)
-    (ap (λ a. a.number) (sym c.encoding_questions-answer.ensures) ∙ c.if-answer-ne0.false) in
-    let information : 1 ≤ c.setting_of-p.result.k = subst (λ (p : Setting). 1 ≤ p.k) (sym c.setting_of-p.ensures)
-    (sizes_of c.args.setting known.setting).information in
-    information
+    let a = c.args in
+    let known =
+        encoding_yes a.setting a.message.now (length a.transmission.now) (number_of c.encoding_questions-answer.ensures c.if-answer-ne0.false) in
+    information a.setting a.message.now (length a.transmission.now) known c.setting_of-p.result c.setting_of-p.ensures
 
 pub overflow_add-long : goal.overflow_add-long
 overflow_add-long c =
-    let known : EncodingYes c.args.setting c.args.message.now
-    (length c.args.transmission.now) = encoding_yes c.args.setting c.args.message.now (length c.args.transmission.now)
-    (ap (λ a. a.number) (sym c.encoding_questions-answer.ensures) ∙ c.if-answer-ne0.false) in
-    let few : length (
-    c).args.message.now / c.setting_of-p.result.k + c.setting_of-p.result.m ≤ most_blocks + 255 = subst (λ (p : Setting). length c.args.message.now / p.k + p.m ≤ most_blocks + 255) (sym c.setting_of-p.ensures)
-    (omega (arith, known.most, (sizes_of c.args.setting known.setting).memory_most)) in
-    omega (arith, few)
+    let a = c.args in
+    let known =
+        encoding_yes a.setting a.message.now (length a.transmission.now) (number_of c.encoding_questions-answer.ensures c.if-answer-ne0.false) in
+    omega (arith, few a.setting a.message.now (length a.transmission.now) known c.setting_of-p.result c.setting_of-p.ensures)
 
 pub overflow_mul-long : goal.overflow_mul-long
 overflow_mul-long c =
-    let known : EncodingYes c.args.setting c.args.message.now
-    (length c.args.transmission.now) = encoding_yes c.args.setting c.args.message.now (length c.args.transmission.now)
-    (ap (λ a. a.number) (sym c.encoding_questions-answer.ensures) ∙ c.if-answer-ne0.false) in
-    let room : (length (
-    c).args.message.now / c.setting_of-p.result.k + c.setting_of-p.result.m) * c.setting_of-p.result.n ≤ length
-    c.args.transmission.now = subst (λ (p : Setting). (length c.args.message.now / p.k + p.m) * p.n ≤ length
-    c.args.transmission.now) (sym c.setting_of-p.ensures) known.room in
-    omega (arith, room)
+    let a = c.args in
+    let known =
+        encoding_yes a.setting a.message.now (length a.transmission.now) (number_of c.encoding_questions-answer.ensures c.if-answer-ne0.false) in
+    omega (arith, room a.setting a.message.now (length a.transmission.now) known c.setting_of-p.result c.setting_of-p.ensures)
 
 pub slice_bounds-encode_frame-end : goal.slice_bounds-encode_frame-end
 slice_bounds-encode_frame-end c =
-    let known : EncodingYes c.args.setting c.args.message.now
-    (length c.args.transmission.now) = encoding_yes c.args.setting c.args.message.now (length c.args.transmission.now)
-    (ap (λ a. a.number) (sym c.encoding_questions-answer.ensures) ∙ c.if-answer-ne0.false) in
-    let room : (length (
-    c).args.message.now / c.setting_of-p.result.k + c.setting_of-p.result.m) * c.setting_of-p.result.n ≤ length
-    c.args.transmission.now = subst (λ (p : Setting). (length c.args.message.now / p.k + p.m) * p.n ≤ length
-    c.args.transmission.now) (sym c.setting_of-p.ensures) known.room in
-    omega (arith, room)
+    let a = c.args in
+    let known =
+        encoding_yes a.setting a.message.now (length a.transmission.now) (number_of c.encoding_questions-answer.ensures c.if-answer-ne0.false) in
+    room a.setting a.message.now (length a.transmission.now) known c.setting_of-p.result c.setting_of-p.ensures
 
 pub slice_bounds-encode_frame-end-2 : goal.slice_bounds-encode_frame-end-2
-slice_bounds-encode_frame-end-2 c = sym (length-take-le _ _ (slice_bounds-encode_frame-end c))
+slice_bounds-encode_frame-end-2 c =
+    let a = c.args in
+    let known =
+        encoding_yes a.setting a.message.now (length a.transmission.now) (number_of c.encoding_questions-answer.ensures c.if-answer-ne0.false) in
+    sym (length-take-le _ _ (room a.setting a.message.now (length a.transmission.now) known c.setting_of-p.result c.setting_of-p.ensures))
 
 pub encode_frame-requires : goal.encode_frame-requires
 encode_frame-requires c =
-    let known : EncodingYes c.args.setting c.args.message.now
-    (length c.args.transmission.now) = encoding_yes c.args.setting c.args.message.now (length c.args.transmission.now)
-    (ap (λ a. a.number) (sym c.encoding_questions-answer.ensures) ∙ c.if-answer-ne0.false) in
-    let room : (length (
-    c).args.message.now / c.setting_of-p.result.k + c.setting_of-p.result.m) * c.setting_of-p.result.n ≤ length
-    c.args.transmission.now = subst (λ (p : Setting). (length c.args.message.now / p.k + p.m) * p.n ≤ length
-    c.args.transmission.now) (sym c.setting_of-p.ensures) known.room in
     let a = c.args in
-    let yes = known in
+    let known =
+        encoding_yes a.setting a.message.now (length a.transmission.now) (number_of c.encoding_questions-answer.ensures c.if-answer-ne0.false) in
     let is = c.setting_of-p.ensures in (
-      yes.setting,
+      known.setting,
       is,
-      narrow_of a.setting c.setting_of-p.result yes.setting is,
-      subst (λ (p : Setting). Message p (length a.message.now / p.k) a.message.now) (sym is) yes.message_of,
-      subst (λ (p : Setting). length a.message.now / p.k ≤ most_blocks) (sym is) yes.most,
-      length-take-le _ _ room,
+      narrow_of a.setting c.setting_of-p.result known.setting is,
+      subst (λ (p : Setting). Message p (length a.message.now / p.k) a.message.now) (sym is) known.message_of,
+      subst (λ (p : Setting). length a.message.now / p.k ≤ most_blocks) (sym is) known.most,
+      length-take-le _ _ (room a.setting a.message.now (length a.transmission.now) known c.setting_of-p.result is),
     )
 
 pub returns : goal.returns

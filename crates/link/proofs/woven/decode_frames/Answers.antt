@@ -1,4 +1,5 @@
 -- `link::woven::decode_frames`: the frames before f were decoded.
+use mathlib.Core.List.{List}
 use mathlib.Core.Path.{◌≡◌, refl, sym, ap, subst, ◌∙◌}
 use Prim.Native.Nat.{ℕ, ◌+◌, ◌-◌, ◌*◌, ◌≤◌, ◌<◌}
 use native.Mathlib.Nat.{mul-le-mul}
@@ -7,18 +8,31 @@ use lib.ListN.{length, length-set}
 use Rattle.area.proofs.Parts.{parts_apart, part_length, length_put}
 use Rattle.code.specs.declared.Setting.{Setting}
 use Rattle.code.specs.Settings.{setting_of}
-use Rattle.question.specs.Questions.{most_frames, most_symbols, most_information}
+use Rattle.question.specs.Questions.{most_frames}
 use Rattle.question.proofs.Questions.{setting_sizes, message_most, transmission_most}
 use Rattle.link.specs.parts.WovenFrames.{FramesTo}
 use Rattle.link.proofs.WovenFrames.{no_answers, frames_none, frames_more}
 use Rattle.link.proofs.woven.decode_frames.Goals as goal
+
+-- Part f of each area lies within it, by the sizes of the setting in hand.
+module _ (p s : Setting) (blocks frames f : ℕ) (lent now : List ℕ) (e : p ≡ s) (l : f < frames) where
+  short_part_in : frames * (blocks * s.k) ≤ length lent → length now ≡ length lent → f * (blocks * p.k) + blocks * p.k ≤ length now
+  short_part_in room same =
+      let all = subst (λ (p : Setting). frames * (blocks * p.k) ≤ length lent) (sym e) room in
+      omega (arith, parts_apart (blocks * p.k) frames f l, all, same)
+
+  long_part_in : frames * ((blocks + s.m) * s.n) ≤ length lent → length now ≡ length lent
+      → f * ((blocks + p.m) * p.n) + (blocks + p.m) * p.n ≤ length now
+  long_part_in room same =
+      let all = subst (λ (p : Setting). frames * ((blocks + p.m) * p.n) ≤ length lent) (sym e) room in
+      omega (arith, parts_apart ((blocks + p.m) * p.n) frames f l, all, same)
 
 pub setting_of-p-requires : goal.setting_of-p-requires
 setting_of-p-requires c = c.requires.0
 
 pub overflow_mul-short : goal.overflow_mul-short
 overflow_mul-short c =
-    let short_small : (c.args.blocks * c.setting_of-p.result.k) ≤ most_information = message_most c.args.setting c.setting_of-p.result c.args.blocks c.requires.0 c.setting_of-p.ensures c.requires.3 in
+    let short_small = message_most c.args.setting c.setting_of-p.result c.args.blocks c.requires.0 c.setting_of-p.ensures c.requires.3 in
     omega (arith, short_small)
 
 pub overflow_add-long : goal.overflow_add-long
@@ -26,7 +40,7 @@ overflow_add-long c = omega (arith, c.requires.3, (setting_sizes c.args.setting 
 
 pub overflow_mul-long : goal.overflow_mul-long
 overflow_mul-long c =
-    let long_small : ((c.args.blocks + c.setting_of-p.result.m) * c.setting_of-p.result.n) ≤ most_symbols = transmission_most c.args.setting c.setting_of-p.result c.args.blocks c.requires.0 c.setting_of-p.ensures c.requires.3 in
+    let long_small = transmission_most c.args.setting c.setting_of-p.result c.args.blocks c.requires.0 c.setting_of-p.ensures c.requires.3 in
     omega (arith, long_small)
 
 pub loop-f-init : goal.loop-f-init
@@ -34,66 +48,68 @@ loop-f-init c = (omega arith, refl, refl, refl, frames_none _ _ _ _ _ _ _ (no_an
 
 pub overflow_mul-message_start : goal.overflow_mul-message_start
 overflow_mul-message_start c =
-    let short_small : (c.args.blocks * c.setting_of-p.result.k) ≤ most_information = message_most c.args.setting c.setting_of-p.result c.args.blocks c.requires.0 c.setting_of-p.ensures c.requires.3 in
-    let start_small : c.loop-f.f * (c.args.blocks * c.setting_of-p.result.k) ≤ most_frames * most_information = let some : c.loop-f.f ≤ most_frames = omega (arith, c.loop-f-test.true, c.requires.1) in
-    mul-le-mul some short_small in
+    let short_small = message_most c.args.setting c.setting_of-p.result c.args.blocks c.requires.0 c.setting_of-p.ensures c.requires.3 in
+    let some : c.loop-f.f ≤ most_frames = omega (arith, c.loop-f-test.true, c.requires.1) in
+    let start_small = mul-le-mul some short_small in
     omega (arith, start_small)
 
 pub overflow_add-message_end : goal.overflow_add-message_end
 overflow_add-message_end c =
-    let short_small : (c.args.blocks * c.setting_of-p.result.k) ≤ most_information = message_most c.args.setting c.setting_of-p.result c.args.blocks c.requires.0 c.setting_of-p.ensures c.requires.3 in
-    let long_small : ((c.args.blocks + c.setting_of-p.result.m) * c.setting_of-p.result.n) ≤ most_symbols = transmission_most c.args.setting c.setting_of-p.result c.args.blocks c.requires.0 c.setting_of-p.ensures c.requires.3 in
-    let start_small : c.loop-f.f * (c.args.blocks * c.setting_of-p.result.k) ≤ most_frames * most_information = let some : c.loop-f.f ≤ most_frames = omega (arith, c.loop-f-test.true, c.requires.1) in
-    mul-le-mul some short_small in
+    let short_small = message_most c.args.setting c.setting_of-p.result c.args.blocks c.requires.0 c.setting_of-p.ensures c.requires.3 in
+    let long_small = transmission_most c.args.setting c.setting_of-p.result c.args.blocks c.requires.0 c.setting_of-p.ensures c.requires.3 in
+    let some : c.loop-f.f ≤ most_frames = omega (arith, c.loop-f-test.true, c.requires.1) in
+    let start_small = mul-le-mul some short_small in
     omega (arith, start_small, short_small, long_small)
 
 pub overflow_mul-start : goal.overflow_mul-start
 overflow_mul-start c =
-    let has_transmission_room : c.args.frames * ((c.args.blocks + c.setting_of-p.result.m) * c.setting_of-p.result.n) ≤ length c.args.transmission.now = subst (λ (p : Setting). c.args.frames * ((c.args.blocks + p.m) * p.n) ≤ length c.args.transmission.now)
-    (sym c.setting_of-p.ensures) c.requires.7 in
-    let transmission_part : c.loop-f.f * ((c.args.blocks + c.setting_of-p.result.m) * c.setting_of-p.result.n) + ((c.args.blocks + c.setting_of-p.result.m) * c.setting_of-p.result.n) ≤ length c.loop-f.transmission = omega (arith, parts_apart ((c.args.blocks + c.setting_of-p.result.m) * c.setting_of-p.result.n) c.args.frames c.loop-f.f c.loop-f-test.true, has_transmission_room, c.loop-f.invariant.2) in
+    let transmission_part =
+        long_part_in c.setting_of-p.result (setting_of c.args.setting) c.args.blocks c.args.frames c.loop-f.f c.args.transmission.now c.loop-f.transmission
+        c.setting_of-p.ensures c.loop-f-test.true c.requires.7 c.loop-f.invariant.2 in
     omega (arith, transmission_part)
 
 pub overflow_add-end : goal.overflow_add-end
 overflow_add-end c =
-    let has_transmission_room : c.args.frames * ((c.args.blocks + c.setting_of-p.result.m) * c.setting_of-p.result.n) ≤ length c.args.transmission.now = subst (λ (p : Setting). c.args.frames * ((c.args.blocks + p.m) * p.n) ≤ length c.args.transmission.now)
-    (sym c.setting_of-p.ensures) c.requires.7 in
-    let transmission_part : c.loop-f.f * ((c.args.blocks + c.setting_of-p.result.m) * c.setting_of-p.result.n) + ((c.args.blocks + c.setting_of-p.result.m) * c.setting_of-p.result.n) ≤ length c.loop-f.transmission = omega (arith, parts_apart ((c.args.blocks + c.setting_of-p.result.m) * c.setting_of-p.result.n) c.args.frames c.loop-f.f c.loop-f-test.true, has_transmission_room, c.loop-f.invariant.2) in
+    let transmission_part =
+        long_part_in c.setting_of-p.result (setting_of c.args.setting) c.args.blocks c.args.frames c.loop-f.f c.args.transmission.now c.loop-f.transmission
+        c.setting_of-p.ensures c.loop-f-test.true c.requires.7 c.loop-f.invariant.2 in
     omega (arith, transmission_part)
 
 pub slice_bounds-decode_frame-end : goal.slice_bounds-decode_frame-end
 slice_bounds-decode_frame-end c =
-    let has_message_room : c.args.frames * (c.args.blocks * c.setting_of-p.result.k) ≤ length c.args.message.now = subst (λ (p : Setting). c.args.frames * (c.args.blocks * p.k) ≤ length c.args.message.now)
-    (sym c.setting_of-p.ensures) c.requires.6 in
-    let message_part : c.loop-f.f * (c.args.blocks * c.setting_of-p.result.k) + (c.args.blocks * c.setting_of-p.result.k) ≤ length c.loop-f.message = omega (arith, parts_apart (c.args.blocks * c.setting_of-p.result.k) c.args.frames c.loop-f.f c.loop-f-test.true, has_message_room, c.loop-f.invariant.1) in
+    let message_part =
+        short_part_in c.setting_of-p.result (setting_of c.args.setting) c.args.blocks c.args.frames c.loop-f.f c.args.message.now c.loop-f.message
+        c.setting_of-p.ensures c.loop-f-test.true c.requires.6 c.loop-f.invariant.1 in
     omega (arith, message_part)
 
 pub slice_bounds-decode_frame-end-in-loop-f : goal.slice_bounds-decode_frame-end-in-loop-f
 slice_bounds-decode_frame-end-in-loop-f c =
-    let has_transmission_room : c.args.frames * ((c.args.blocks + c.setting_of-p.result.m) * c.setting_of-p.result.n) ≤ length c.args.transmission.now = subst (λ (p : Setting). c.args.frames * ((c.args.blocks + p.m) * p.n) ≤ length c.args.transmission.now)
-    (sym c.setting_of-p.ensures) c.requires.7 in
-    let transmission_part : c.loop-f.f * ((c.args.blocks + c.setting_of-p.result.m) * c.setting_of-p.result.n) + ((c.args.blocks + c.setting_of-p.result.m) * c.setting_of-p.result.n) ≤ length c.loop-f.transmission = omega (arith, parts_apart ((c.args.blocks + c.setting_of-p.result.m) * c.setting_of-p.result.n) c.args.frames c.loop-f.f c.loop-f-test.true, has_transmission_room, c.loop-f.invariant.2) in
+    let transmission_part =
+        long_part_in c.setting_of-p.result (setting_of c.args.setting) c.args.blocks c.args.frames c.loop-f.f c.args.transmission.now c.loop-f.transmission
+        c.setting_of-p.ensures c.loop-f-test.true c.requires.7 c.loop-f.invariant.2 in
     omega (arith, transmission_part)
 
 pub decode_frame-answer-requires : goal.decode_frame-answer-requires
 decode_frame-answer-requires c =
-    let has_message_room : c.args.frames * (c.args.blocks * c.setting_of-p.result.k) ≤ length c.args.message.now = subst (λ (p : Setting). c.args.frames * (c.args.blocks * p.k) ≤ length c.args.message.now)
-    (sym c.setting_of-p.ensures) c.requires.6 in
-    let has_transmission_room : c.args.frames * ((c.args.blocks + c.setting_of-p.result.m) * c.setting_of-p.result.n) ≤ length c.args.transmission.now = subst (λ (p : Setting). c.args.frames * ((c.args.blocks + p.m) * p.n) ≤ length c.args.transmission.now)
-    (sym c.setting_of-p.ensures) c.requires.7 in
-    let message_part : c.loop-f.f * (c.args.blocks * c.setting_of-p.result.k) + (c.args.blocks * c.setting_of-p.result.k) ≤ length c.loop-f.message = omega (arith, parts_apart (c.args.blocks * c.setting_of-p.result.k) c.args.frames c.loop-f.f c.loop-f-test.true, has_message_room, c.loop-f.invariant.1) in
-    let transmission_part : c.loop-f.f * ((c.args.blocks + c.setting_of-p.result.m) * c.setting_of-p.result.n) + ((c.args.blocks + c.setting_of-p.result.m) * c.setting_of-p.result.n) ≤ length c.loop-f.transmission = omega (arith, parts_apart ((c.args.blocks + c.setting_of-p.result.m) * c.setting_of-p.result.n) c.args.frames c.loop-f.f c.loop-f-test.true, has_transmission_room, c.loop-f.invariant.2) in
+    let message_part =
+        short_part_in c.setting_of-p.result (setting_of c.args.setting) c.args.blocks c.args.frames c.loop-f.f c.args.message.now c.loop-f.message
+        c.setting_of-p.ensures c.loop-f-test.true c.requires.6 c.loop-f.invariant.1 in
+    let transmission_part =
+        long_part_in c.setting_of-p.result (setting_of c.args.setting) c.args.blocks c.args.frames c.loop-f.f c.args.transmission.now c.loop-f.transmission
+        c.setting_of-p.ensures c.loop-f-test.true c.requires.7 c.loop-f.invariant.2 in
     let a = c.args in
+    let short = a.blocks * c.setting_of-p.result.k in
+    let long = (a.blocks + c.setting_of-p.result.m) * c.setting_of-p.result.n in
     let l = c.loop-f in
     let by_number = ap (λ (p : Setting). (a.blocks + p.m) * p.n) c.setting_of-p.ensures in
-    let long_part = part_length ((c.args.blocks + c.setting_of-p.result.m) * c.setting_of-p.result.n) (l.f * ((c.args.blocks + c.setting_of-p.result.m) * c.setting_of-p.result.n)) l.transmission transmission_part ∙ by_number in (
+    let long_part = part_length long (l.f * long) l.transmission transmission_part ∙ by_number in (
       c.requires.0,
       omega (arith, c.loop-f-test.true),
       c.requires.2,
       c.requires.3,
       c.requires.4 ∙ ap (λ (t : ℕ). t * a.frames) (sym long_part),
       c.requires.5,
-      part_length (c.args.blocks * c.setting_of-p.result.k) (l.f * (c.args.blocks * c.setting_of-p.result.k)) l.message message_part ∙ ap (λ (p : Setting). a.blocks * p.k) c.setting_of-p.ensures,
+      part_length short (l.f * short) l.message message_part ∙ ap (λ (p : Setting). a.blocks * p.k) c.setting_of-p.ensures,
       long_part,
     )
 
@@ -117,25 +133,27 @@ loop-f-smaller c = omega (arith, c.loop-f-test.true)
 
 pub loop-f-preserved : goal.loop-f-preserved
 loop-f-preserved c =
-    let has_message_room : c.args.frames * (c.args.blocks * c.setting_of-p.result.k) ≤ length c.args.message.now = subst (λ (p : Setting). c.args.frames * (c.args.blocks * p.k) ≤ length c.args.message.now)
-    (sym c.setting_of-p.ensures) c.requires.6 in
-    let has_transmission_room : c.args.frames * ((c.args.blocks + c.setting_of-p.result.m) * c.setting_of-p.result.n) ≤ length c.args.transmission.now = subst (λ (p : Setting). c.args.frames * ((c.args.blocks + p.m) * p.n) ≤ length c.args.transmission.now)
-    (sym c.setting_of-p.ensures) c.requires.7 in
-    let message_part : c.loop-f.f * (c.args.blocks * c.setting_of-p.result.k) + (c.args.blocks * c.setting_of-p.result.k) ≤ length c.loop-f.message = omega (arith, parts_apart (c.args.blocks * c.setting_of-p.result.k) c.args.frames c.loop-f.f c.loop-f-test.true, has_message_room, c.loop-f.invariant.1) in
-    let transmission_part : c.loop-f.f * ((c.args.blocks + c.setting_of-p.result.m) * c.setting_of-p.result.n) + ((c.args.blocks + c.setting_of-p.result.m) * c.setting_of-p.result.n) ≤ length c.loop-f.transmission = omega (arith, parts_apart ((c.args.blocks + c.setting_of-p.result.m) * c.setting_of-p.result.n) c.args.frames c.loop-f.f c.loop-f-test.true, has_transmission_room, c.loop-f.invariant.2) in
+    let message_part =
+        short_part_in c.setting_of-p.result (setting_of c.args.setting) c.args.blocks c.args.frames c.loop-f.f c.args.message.now c.loop-f.message
+        c.setting_of-p.ensures c.loop-f-test.true c.requires.6 c.loop-f.invariant.1 in
+    let transmission_part =
+        long_part_in c.setting_of-p.result (setting_of c.args.setting) c.args.blocks c.args.frames c.loop-f.f c.args.transmission.now c.loop-f.transmission
+        c.setting_of-p.ensures c.loop-f-test.true c.requires.7 c.loop-f.invariant.2 in
     let few : c.loop-f.f < most_frames = omega (arith, c.loop-f-test.true, c.requires.1) in
     let a = c.args in
+    let short = a.blocks * c.setting_of-p.result.k in
+    let long = (a.blocks + c.setting_of-p.result.m) * c.setting_of-p.result.n in
     let l = c.loop-f in
     let decoded = c.decode_frame-answer in
     let message = decoded.new.message in
     let transmission = decoded.new.transmission in
-    let short_part = decoded.auto.message ∙ part_length (c.args.blocks * c.setting_of-p.result.k) (l.f * (c.args.blocks * c.setting_of-p.result.k)) l.message message_part in
-    let long_part = decoded.auto.transmission ∙ part_length ((c.args.blocks + c.setting_of-p.result.m) * c.setting_of-p.result.n) (l.f * ((c.args.blocks + c.setting_of-p.result.m) * c.setting_of-p.result.n)) l.transmission transmission_part in (
+    let short_part = decoded.auto.message ∙ part_length short (l.f * short) l.message message_part in
+    let long_part = decoded.auto.transmission ∙ part_length long (l.f * long) l.transmission transmission_part in (
       omega (arith, c.loop-f-test.true),
-      length_put (c.args.blocks * c.setting_of-p.result.k) l.f l.message message message_part short_part ∙ l.invariant.1,
-      length_put ((c.args.blocks + c.setting_of-p.result.m) * c.setting_of-p.result.n) l.f l.transmission transmission transmission_part long_part ∙ l.invariant.2,
+      length_put short l.f l.message message message_part short_part ∙ l.invariant.1,
+      length_put long l.f l.transmission transmission transmission_part long_part ∙ l.invariant.2,
       length-set l.answers l.f decoded.result ∙ l.invariant.3,
-      frames_more (setting_of a.setting) a.blocks a.frames a.woven.now a.message.now a.transmission.now (c.args.blocks * c.setting_of-p.result.k) ((c.args.blocks + c.setting_of-p.result.m) * c.setting_of-p.result.n) l.f
+      frames_more (setting_of a.setting) a.blocks a.frames a.woven.now a.message.now a.transmission.now short long l.f
           l.answers l.message l.transmission message transmission decoded.result (ap (λ (p : Setting). a.blocks * p.k) c.setting_of-p.ensures)
           (ap (λ (p : Setting). (a.blocks + p.m) * p.n) c.setting_of-p.ensures) (omega (arith, few, l.invariant.3))
           message_part short_part transmission_part long_part l.invariant.4 decoded.ensures,
@@ -152,7 +170,3 @@ returns c =
           subst (λ (t : ℕ). FramesTo (setting_of a.setting) a.blocks a.frames t a.woven.now a.message.now a.transmission.now l.answers
           l.message l.transmission) done l.invariant.4;
     }
-
--- TODO place (after overflow_mul-long): tt
-
--- TODO place (after loop-f-preserved): tt
