@@ -1,5 +1,4 @@
 -- `block_test::digits` meets its contract. The loop's invariant: the array keeps its length and holds symbols.
-use Prim.Native.Nat.{◌-◌}
 use native.Mathlib.Nat.{mod-lt}
 use native.Mathlib.Omega.{arith}
 use lib.ListN.{length-set}

@@ -1,5 +1,4 @@
 -- `block_test::near` is safe and ends.
-use Prim.Native.Nat.{◌-◌}
 use native.Mathlib.Omega.{arith}
 use Rattle.code.proofs.Settings.{sizes, level_fits}
 use Rattle.block_test.proofs.near.Goals as goal

@@ -1,5 +1,4 @@
 -- `block_test::search_near` is safe and ends.
-use Prim.Native.Nat.{◌-◌}
 use native.Mathlib.Omega.{arith}
 use Rattle.block_test.proofs.search_near.Goals as goal
 

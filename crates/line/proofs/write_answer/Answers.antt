@@ -35,13 +35,12 @@ slice_bounds-write_success-end c =
 pub write_success-requires : goal.write_success-requires
 write_success-requires c =
     let long : length (take c.message_length-short.result
-    c.args.message.now) ≡ c.message_length-short.result = length-take-le _ _ (omega (arith, c.message_length-short.ensures.0, c.requires.1.room)) in
-    (
-  subst (λ (t : ℕ). Symbols 16 (take t c.args.message.now))
-      (sym c.message_length-short.ensures.0)
-      (c.requires.1.symbols c.if-answer-ne0.false),
-  omega (arith, long, c.message_length-short.ensures.1),
-)
+    c.args.message.now) ≡ c.message_length-short.result = length-take-le _ _ (omega (arith, c.message_length-short.ensures.0, c.requires.1.room)) in (
+      subst (λ (t : ℕ). Symbols 16 (take t c.args.message.now))
+          (sym c.message_length-short.ensures.0)
+          (c.requires.1.symbols c.if-answer-ne0.false),
+      omega (arith, long, c.message_length-short.ensures.1),
+    )
 
 pub returns : goal.returns
 returns c =

@@ -1,5 +1,4 @@
 -- `link_test::bytes`: both places stay within their slices.
-use Prim.Native.Nat.{◌-◌}
 use native.Mathlib.Omega.{arith}
 use lib.ListN.{length-set}
 use Rattle.link_test.proofs.bytes.Goals as goal

@@ -1,5 +1,4 @@
 -- `link_test::show_frames`: f is at most 8.
-use Prim.Native.Nat.{◌-◌}
 use Rattle.link_test.proofs.show_frames.Goals as goal
 
 pub space-requires : goal.space-requires

@@ -1,5 +1,4 @@
 -- `link_test::word`: the index stays within the digits.
-use Prim.Native.Nat.{◌-◌}
 use native.Mathlib.Omega.{arith}
 use Rattle.link_test.proofs.word.Goals as goal
 

@@ -41,9 +41,8 @@ returns c =
     let is_setting : Passes (is_setting c.setting_in-number.result) = subst (λ (t : ℕ). Passes (is_setting t)) (sym c.setting_in-number.ensures) known.setting in
     let few : c.blocks_in-blocks.result * c.setting_of-p.result.k ≤ most_information = message_most c.setting_in-number.result c.setting_of-p.result c.blocks_in-blocks.result is_setting
     c.setting_of-p.ensures
-    (omega (arith, c.blocks_in-blocks.ensures, known.most)) in
-    (
-  ap₂ (λ (t : ℕ) (p : Setting). t * p.k) c.blocks_in-blocks.ensures
-      (c.setting_of-p.ensures ∙ ap setting_of c.setting_in-number.ensures),
-  few,
-)
+    (omega (arith, c.blocks_in-blocks.ensures, known.most)) in (
+      ap₂ (λ (t : ℕ) (p : Setting). t * p.k) c.blocks_in-blocks.ensures
+          (c.setting_of-p.ensures ∙ ap setting_of c.setting_in-number.ensures),
+      few,
+    )

@@ -11,13 +11,12 @@ pub loop-i-init : goal.loop-i-init
 loop-i-init c = (omega arith, omega arith, hex_start c.args.number c.args.area.now)
 
 pub loop-i-preserved : goal.loop-i-preserved
-loop-i-preserved c =
-    (
-      simp length-set (omega arith),
-      length-set c.loop-i.area (c.loop-i.i - 1) c.last_digit-character.result ∙ c.loop-i.invariant.1,
-      hex_back c.loop-i.i c.loop-i.left c.last_digit-character.result (hex (length c.args.area.now) c.args.number) c.loop-i.area
-          c.loop-i-test.true c.loop-i.invariant.0 c.last_digit-character.ensures c.loop-i.invariant.2,
-    )
+loop-i-preserved c = (
+  simp length-set (omega arith),
+  length-set c.loop-i.area (c.loop-i.i - 1) c.last_digit-character.result ∙ c.loop-i.invariant.1,
+  hex_back c.loop-i.i c.loop-i.left c.last_digit-character.result (hex (length c.args.area.now) c.args.number) c.loop-i.area
+      c.loop-i-test.true c.loop-i.invariant.0 c.last_digit-character.ensures c.loop-i.invariant.2,
+)
 
 pub returns : goal.returns
 returns c =

@@ -27,72 +27,72 @@ pub nonzero_div-blocks : goal.nonzero_div-blocks
 nonzero_div-blocks c =
     let a = c.args in
     let known =
-        receiving a.setting a.reception.now a.message.now a.transmission.now c.setting_of-p.result c.setting_of-p.ensures
-        (number_of c.decoding_questions-answer.ensures c.if-answer-ne0.false) in
+    receiving a.setting a.reception.now a.message.now a.transmission.now c.setting_of-p.result c.setting_of-p.ensures
+    (number_of c.decoding_questions-answer.ensures c.if-answer-ne0.false) in
     known.sizes.symbols
 
 pub overflow_sub-blocks : goal.overflow_sub-blocks
 overflow_sub-blocks c =
     let a = c.args in
     let known =
-        receiving a.setting a.reception.now a.message.now a.transmission.now c.setting_of-p.result c.setting_of-p.ensures
-        (number_of c.decoding_questions-answer.ensures c.if-answer-ne0.false) in
+    receiving a.setting a.reception.now a.message.now a.transmission.now c.setting_of-p.result c.setting_of-p.ensures
+    (number_of c.decoding_questions-answer.ensures c.if-answer-ne0.false) in
     omega (arith, known.blocks)
 
 pub overflow_mul-short : goal.overflow_mul-short
 overflow_mul-short c =
     let a = c.args in
     let known =
-        receiving a.setting a.reception.now a.message.now a.transmission.now c.setting_of-p.result c.setting_of-p.ensures
-        (number_of c.decoding_questions-answer.ensures c.if-answer-ne0.false) in
+    receiving a.setting a.reception.now a.message.now a.transmission.now c.setting_of-p.result c.setting_of-p.ensures
+    (number_of c.decoding_questions-answer.ensures c.if-answer-ne0.false) in
     omega (arith, known.has_message_room)
 
 pub overflow_add-long : goal.overflow_add-long
 overflow_add-long c =
     let a = c.args in
     let known =
-        receiving a.setting a.reception.now a.message.now a.transmission.now c.setting_of-p.result c.setting_of-p.ensures
-        (number_of c.decoding_questions-answer.ensures c.if-answer-ne0.false) in
+    receiving a.setting a.reception.now a.message.now a.transmission.now c.setting_of-p.result c.setting_of-p.ensures
+    (number_of c.decoding_questions-answer.ensures c.if-answer-ne0.false) in
     omega (arith, known.most, known.sizes.memory_most)
 
 pub overflow_mul-long : goal.overflow_mul-long
 overflow_mul-long c =
     let a = c.args in
     let known =
-        receiving a.setting a.reception.now a.message.now a.transmission.now c.setting_of-p.result c.setting_of-p.ensures
-        (number_of c.decoding_questions-answer.ensures c.if-answer-ne0.false) in
+    receiving a.setting a.reception.now a.message.now a.transmission.now c.setting_of-p.result c.setting_of-p.ensures
+    (number_of c.decoding_questions-answer.ensures c.if-answer-ne0.false) in
     omega (arith, known.has_transmission_room)
 
 pub slice_bounds-decode_frame-end : goal.slice_bounds-decode_frame-end
 slice_bounds-decode_frame-end c =
     let a = c.args in
     let known =
-        receiving a.setting a.reception.now a.message.now a.transmission.now c.setting_of-p.result c.setting_of-p.ensures
-        (number_of c.decoding_questions-answer.ensures c.if-answer-ne0.false) in
+    receiving a.setting a.reception.now a.message.now a.transmission.now c.setting_of-p.result c.setting_of-p.ensures
+    (number_of c.decoding_questions-answer.ensures c.if-answer-ne0.false) in
     known.has_message_room
 
 pub slice_bounds-decode_frame-end-2 : goal.slice_bounds-decode_frame-end-2
 slice_bounds-decode_frame-end-2 c =
     let a = c.args in
     let known =
-        receiving a.setting a.reception.now a.message.now a.transmission.now c.setting_of-p.result c.setting_of-p.ensures
-        (number_of c.decoding_questions-answer.ensures c.if-answer-ne0.false) in
+    receiving a.setting a.reception.now a.message.now a.transmission.now c.setting_of-p.result c.setting_of-p.ensures
+    (number_of c.decoding_questions-answer.ensures c.if-answer-ne0.false) in
     sym (length-take-le _ _ known.has_message_room)
 
 pub slice_bounds-decode_frame-end-3 : goal.slice_bounds-decode_frame-end-3
 slice_bounds-decode_frame-end-3 c =
     let a = c.args in
     let known =
-        receiving a.setting a.reception.now a.message.now a.transmission.now c.setting_of-p.result c.setting_of-p.ensures
-        (number_of c.decoding_questions-answer.ensures c.if-answer-ne0.false) in
+    receiving a.setting a.reception.now a.message.now a.transmission.now c.setting_of-p.result c.setting_of-p.ensures
+    (number_of c.decoding_questions-answer.ensures c.if-answer-ne0.false) in
     known.has_transmission_room
 
 pub slice_bounds-decode_frame-end-4 : goal.slice_bounds-decode_frame-end-4
 slice_bounds-decode_frame-end-4 c =
     let a = c.args in
     let known =
-        receiving a.setting a.reception.now a.message.now a.transmission.now c.setting_of-p.result c.setting_of-p.ensures
-        (number_of c.decoding_questions-answer.ensures c.if-answer-ne0.false) in
+    receiving a.setting a.reception.now a.message.now a.transmission.now c.setting_of-p.result c.setting_of-p.ensures
+    (number_of c.decoding_questions-answer.ensures c.if-answer-ne0.false) in
     sym (length-take-le _ _ known.has_transmission_room)
 
 pub decode_frame-requires : goal.decode_frame-requires

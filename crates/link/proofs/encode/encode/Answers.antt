@@ -37,49 +37,49 @@ pub setting_of-p-requires : goal.setting_of-p-requires
 setting_of-p-requires c =
     let a = c.args in
     let known =
-        encoding_yes a.setting a.message.now (length a.transmission.now) (number_of c.encoding_questions-answer.ensures c.if-answer-ne0.false) in
+    encoding_yes a.setting a.message.now (length a.transmission.now) (number_of c.encoding_questions-answer.ensures c.if-answer-ne0.false) in
     known.setting
 
 pub nonzero_div-blocks : goal.nonzero_div-blocks
 nonzero_div-blocks c =
     let a = c.args in
     let known =
-        encoding_yes a.setting a.message.now (length a.transmission.now) (number_of c.encoding_questions-answer.ensures c.if-answer-ne0.false) in
+    encoding_yes a.setting a.message.now (length a.transmission.now) (number_of c.encoding_questions-answer.ensures c.if-answer-ne0.false) in
     information a.setting a.message.now (length a.transmission.now) known c.setting_of-p.result c.setting_of-p.ensures
 
 pub overflow_add-long : goal.overflow_add-long
 overflow_add-long c =
     let a = c.args in
     let known =
-        encoding_yes a.setting a.message.now (length a.transmission.now) (number_of c.encoding_questions-answer.ensures c.if-answer-ne0.false) in
+    encoding_yes a.setting a.message.now (length a.transmission.now) (number_of c.encoding_questions-answer.ensures c.if-answer-ne0.false) in
     omega (arith, few a.setting a.message.now (length a.transmission.now) known c.setting_of-p.result c.setting_of-p.ensures)
 
 pub overflow_mul-long : goal.overflow_mul-long
 overflow_mul-long c =
     let a = c.args in
     let known =
-        encoding_yes a.setting a.message.now (length a.transmission.now) (number_of c.encoding_questions-answer.ensures c.if-answer-ne0.false) in
+    encoding_yes a.setting a.message.now (length a.transmission.now) (number_of c.encoding_questions-answer.ensures c.if-answer-ne0.false) in
     omega (arith, room a.setting a.message.now (length a.transmission.now) known c.setting_of-p.result c.setting_of-p.ensures)
 
 pub slice_bounds-encode_frame-end : goal.slice_bounds-encode_frame-end
 slice_bounds-encode_frame-end c =
     let a = c.args in
     let known =
-        encoding_yes a.setting a.message.now (length a.transmission.now) (number_of c.encoding_questions-answer.ensures c.if-answer-ne0.false) in
+    encoding_yes a.setting a.message.now (length a.transmission.now) (number_of c.encoding_questions-answer.ensures c.if-answer-ne0.false) in
     room a.setting a.message.now (length a.transmission.now) known c.setting_of-p.result c.setting_of-p.ensures
 
 pub slice_bounds-encode_frame-end-2 : goal.slice_bounds-encode_frame-end-2
 slice_bounds-encode_frame-end-2 c =
     let a = c.args in
     let known =
-        encoding_yes a.setting a.message.now (length a.transmission.now) (number_of c.encoding_questions-answer.ensures c.if-answer-ne0.false) in
+    encoding_yes a.setting a.message.now (length a.transmission.now) (number_of c.encoding_questions-answer.ensures c.if-answer-ne0.false) in
     sym (length-take-le _ _ (room a.setting a.message.now (length a.transmission.now) known c.setting_of-p.result c.setting_of-p.ensures))
 
 pub encode_frame-requires : goal.encode_frame-requires
 encode_frame-requires c =
     let a = c.args in
     let known =
-        encoding_yes a.setting a.message.now (length a.transmission.now) (number_of c.encoding_questions-answer.ensures c.if-answer-ne0.false) in
+    encoding_yes a.setting a.message.now (length a.transmission.now) (number_of c.encoding_questions-answer.ensures c.if-answer-ne0.false) in
     let is = c.setting_of-p.ensures in (
       known.setting,
       is,

@@ -1,7 +1,7 @@
 -- `link::woven::decode_frames`: the frames before f were decoded.
 use mathlib.Core.List.{List}
 use mathlib.Core.Path.{◌≡◌, refl, sym, ap, subst, ◌∙◌}
-use Prim.Native.Nat.{ℕ, ◌+◌, ◌-◌, ◌*◌, ◌≤◌, ◌<◌}
+use Prim.Native.Nat.{ℕ, ◌+◌, ◌*◌, ◌≤◌, ◌<◌}
 use native.Mathlib.Nat.{mul-le-mul}
 use native.Mathlib.Omega.{arith}
 use lib.ListN.{length, length-set}
@@ -64,39 +64,39 @@ overflow_add-message_end c =
 pub overflow_mul-start : goal.overflow_mul-start
 overflow_mul-start c =
     let transmission_part =
-        long_part_in c.setting_of-p.result (setting_of c.args.setting) c.args.blocks c.args.frames c.loop-f.f c.args.transmission.now c.loop-f.transmission
-        c.setting_of-p.ensures c.loop-f-test.true c.requires.7 c.loop-f.invariant.2 in
+    long_part_in c.setting_of-p.result (setting_of c.args.setting) c.args.blocks c.args.frames c.loop-f.f c.args.transmission.now c.loop-f.transmission
+    c.setting_of-p.ensures c.loop-f-test.true c.requires.7 c.loop-f.invariant.2 in
     omega (arith, transmission_part)
 
 pub overflow_add-end : goal.overflow_add-end
 overflow_add-end c =
     let transmission_part =
-        long_part_in c.setting_of-p.result (setting_of c.args.setting) c.args.blocks c.args.frames c.loop-f.f c.args.transmission.now c.loop-f.transmission
-        c.setting_of-p.ensures c.loop-f-test.true c.requires.7 c.loop-f.invariant.2 in
+    long_part_in c.setting_of-p.result (setting_of c.args.setting) c.args.blocks c.args.frames c.loop-f.f c.args.transmission.now c.loop-f.transmission
+    c.setting_of-p.ensures c.loop-f-test.true c.requires.7 c.loop-f.invariant.2 in
     omega (arith, transmission_part)
 
 pub slice_bounds-decode_frame-end : goal.slice_bounds-decode_frame-end
 slice_bounds-decode_frame-end c =
     let message_part =
-        short_part_in c.setting_of-p.result (setting_of c.args.setting) c.args.blocks c.args.frames c.loop-f.f c.args.message.now c.loop-f.message
-        c.setting_of-p.ensures c.loop-f-test.true c.requires.6 c.loop-f.invariant.1 in
+    short_part_in c.setting_of-p.result (setting_of c.args.setting) c.args.blocks c.args.frames c.loop-f.f c.args.message.now c.loop-f.message
+    c.setting_of-p.ensures c.loop-f-test.true c.requires.6 c.loop-f.invariant.1 in
     omega (arith, message_part)
 
 pub slice_bounds-decode_frame-end-in-loop-f : goal.slice_bounds-decode_frame-end-in-loop-f
 slice_bounds-decode_frame-end-in-loop-f c =
     let transmission_part =
-        long_part_in c.setting_of-p.result (setting_of c.args.setting) c.args.blocks c.args.frames c.loop-f.f c.args.transmission.now c.loop-f.transmission
-        c.setting_of-p.ensures c.loop-f-test.true c.requires.7 c.loop-f.invariant.2 in
+    long_part_in c.setting_of-p.result (setting_of c.args.setting) c.args.blocks c.args.frames c.loop-f.f c.args.transmission.now c.loop-f.transmission
+    c.setting_of-p.ensures c.loop-f-test.true c.requires.7 c.loop-f.invariant.2 in
     omega (arith, transmission_part)
 
 pub decode_frame-answer-requires : goal.decode_frame-answer-requires
 decode_frame-answer-requires c =
     let message_part =
-        short_part_in c.setting_of-p.result (setting_of c.args.setting) c.args.blocks c.args.frames c.loop-f.f c.args.message.now c.loop-f.message
-        c.setting_of-p.ensures c.loop-f-test.true c.requires.6 c.loop-f.invariant.1 in
+    short_part_in c.setting_of-p.result (setting_of c.args.setting) c.args.blocks c.args.frames c.loop-f.f c.args.message.now c.loop-f.message
+    c.setting_of-p.ensures c.loop-f-test.true c.requires.6 c.loop-f.invariant.1 in
     let transmission_part =
-        long_part_in c.setting_of-p.result (setting_of c.args.setting) c.args.blocks c.args.frames c.loop-f.f c.args.transmission.now c.loop-f.transmission
-        c.setting_of-p.ensures c.loop-f-test.true c.requires.7 c.loop-f.invariant.2 in
+    long_part_in c.setting_of-p.result (setting_of c.args.setting) c.args.blocks c.args.frames c.loop-f.f c.args.transmission.now c.loop-f.transmission
+    c.setting_of-p.ensures c.loop-f-test.true c.requires.7 c.loop-f.invariant.2 in
     let a = c.args in
     let short = a.blocks * c.setting_of-p.result.k in
     let long = (a.blocks + c.setting_of-p.result.m) * c.setting_of-p.result.n in
@@ -134,11 +134,11 @@ loop-f-smaller c = omega (arith, c.loop-f-test.true)
 pub loop-f-preserved : goal.loop-f-preserved
 loop-f-preserved c =
     let message_part =
-        short_part_in c.setting_of-p.result (setting_of c.args.setting) c.args.blocks c.args.frames c.loop-f.f c.args.message.now c.loop-f.message
-        c.setting_of-p.ensures c.loop-f-test.true c.requires.6 c.loop-f.invariant.1 in
+    short_part_in c.setting_of-p.result (setting_of c.args.setting) c.args.blocks c.args.frames c.loop-f.f c.args.message.now c.loop-f.message
+    c.setting_of-p.ensures c.loop-f-test.true c.requires.6 c.loop-f.invariant.1 in
     let transmission_part =
-        long_part_in c.setting_of-p.result (setting_of c.args.setting) c.args.blocks c.args.frames c.loop-f.f c.args.transmission.now c.loop-f.transmission
-        c.setting_of-p.ensures c.loop-f-test.true c.requires.7 c.loop-f.invariant.2 in
+    long_part_in c.setting_of-p.result (setting_of c.args.setting) c.args.blocks c.args.frames c.loop-f.f c.args.transmission.now c.loop-f.transmission
+    c.setting_of-p.ensures c.loop-f-test.true c.requires.7 c.loop-f.invariant.2 in
     let few : c.loop-f.f < most_frames = omega (arith, c.loop-f-test.true, c.requires.1) in
     let a = c.args in
     let short = a.blocks * c.setting_of-p.result.k in
