@@ -8,7 +8,7 @@ use native.Mathlib.Omega.{arith}
 use lib.Dec.{eqb}
 use lib.ListN.{length, take, drop, set, length-set, length-take}
 use lib.Seq.{length-take-le, take-nil, take_at, set_split}
-use Rattle.bytes.specs.Bytes.{index_after, index_of, slice}
+use Rattle.desk.specs.Bytes.{index_after, index_of, slice}
 use Rattle.algebra.specs.Ops.{pick}
 use Rattle.desk.specs.Texts.{newline, rest_of}
 use Rattle.desk.specs.Turns.{Kept}
@@ -86,7 +86,10 @@ kept_holds begun area held some e k =
     let first = index_of newline area in
     let long : length (take first area) ≡ first = length-take-le first area (index_inside area) in
     let inside : first ≤ length area - 1 = omega (arith, long, ap length k, length-take (length area - 1) begun) in
-    let here : held ≡ first = omega (arith, e, index_take (length area - 1) area inside) in
+    let whole : length area - 1 - 0 ≡ length area - 1 = omega arith in
+    let same : index_of newline (take (length area - 1 - 0) area) ≡ first =
+    ap (λ (n : ℕ). index_of newline (take n area)) whole ∙ index_take (length area - 1) area inside in
+    let here : held ≡ first = omega (arith, e, same) in
     record { within = omega arith; kept = ap (λ (n : ℕ). take n area) here ∙ k }
 
 -- A newline behind what is held of the line that follows a text.

@@ -14,7 +14,8 @@ use lib.ListN.{length, get_or, take, drop, set, length-append, length-take, leng
 use lib.Seq.{length-take-le, take_all, take-nil, take-suc, take-add, take-append-le, take-append-add, take_at, take-length, set_split, get_or-drop}
 use borrow.Author.Tests.{eqb-true, le-leb}
 use borrow.Rule.Slice.PartMut.{put_mid}
-use Rattle.bytes.specs.Bytes.{index_after, index_of, slice}
+use Rattle.std.proofs.lemmas.Slice.{take-put_mid}
+use Rattle.desk.specs.Bytes.{index_after, index_of, slice}
 use Rattle.algebra.specs.Ops.{pick}
 use Rattle.line.specs.Questions.{most_characters}
 use Rattle.line.specs.Answering.{Answers, AnswerShown}
@@ -92,17 +93,6 @@ take_append n xs ys = at (dec_le n (length xs))
         ap (λ (k : ℕ). take k (xs ++ ys)) (sym whole)
         ∙ (take-append-add xs ys (n - length xs) ∙ ap (λ (l : List ℕ). l ++ take (n - length xs) ys) (sym (take_all n xs (omega arith))))
 
--- What stands in front once a list was copied behind the first `held` elements of an area.
-copied_front : (held k : ℕ) (area source over : List ℕ) → held ≤ length area
-    → take (held + length source) (put_mid held k area (take (length source) source ++ drop (length source) over)) ≡ take held area ++ source
-copied_front held k area source over h =
-    ap (λ (n : ℕ). take (n + length source) (put_mid held k area (take (length source) source ++ drop (length source) over))) (sym (length-take-le held area h))
-    ∙ (take-append-add (take held area) ((take (length source) source ++ drop (length source) over) ++ drop k (drop held area)) (length source)
-    ∙ ap (λ (l : List ℕ). take held area ++ l)
-    (ap (take (length source)) (append_assoc (take (length source) source) (drop (length source) over) (drop k (drop held area)))
-    ∙ (take_at (take (length source) source) (drop (length source) over ++ drop k (drop held area)) (length source) (ap length (take-length source))
-    ∙ take-length source)))
-
 held_is : (begun area : List ℕ) (held : ℕ) → Holds begun area held → held ≡ min (length area - 1) (length begun)
 held_is begun area held H =
     let inside : held < length area = H.within in
@@ -124,14 +114,13 @@ held_more begun part area after held r H same room e =
     left = omega (arith, held_is begun area held H)
 
 -- The same, as copying leaves it.
-pub held_copied : (begun part area copied source over : List ℕ) (held k r : ℕ) → source ≡ take (length area - 1 - held) part
-    → copied ≡ take (length source) source ++ drop (length source) over → length (put_mid held k area copied) ≡ length area
-    → r ≡ held + length source → r < length area → Holds begun area held → Holds (begun ++ part) (put_mid held k area copied) r
-held_copied begun part area copied source over held k r from_part is same r_is room H =
+pub held_copied : (begun part area source : List ℕ) (held k r : ℕ) → source ≡ take (length area - 1 - held) part
+    → length (put_mid held k area source) ≡ length area → r ≡ held + length source → r < length area → Holds begun area held
+    → Holds (begun ++ part) (put_mid held k area source) r
+held_copied begun part area source held k r from_part same r_is room H =
     let inside : held < length area = H.within in
-    held_more begun part area (put_mid held k area copied) held r H same room
-    (ap₂ (λ (n : ℕ) (l : List ℕ). take n (put_mid held k area l)) r_is is
-    ∙ (copied_front held k area source over (omega arith) ∙ ap (λ (l : List ℕ). take held area ++ l) from_part))
+    held_more begun part area (put_mid held k area source) held r H same room
+    (take-put_mid held k area source r r_is (omega arith) ∙ ap (λ (l : List ℕ). take held area ++ l) from_part)
 
 -- The length of an answer, in terms of its line's.
 pub answer_few : (line before : List ℕ) (r : ℕ) (after : List ℕ) → AnswerShown line before r after → r + 1 ≤ answers_room (length line + 1)
@@ -222,7 +211,9 @@ module _ (begun buffer : List ℕ) (from : ℕ) (area : List ℕ) (held : ℕ) (
 
   found_at : to ≡ from + index_of newline (drop from buffer)
   unfolding slice
-  found_at = found_in ∙ ap (λ (l : List ℕ). from + index_of newline (drop from l)) (take-length buffer)
+  found_at =
+      found_in
+      ∙ ap (λ (l : List ℕ). from + index_of newline l) (take_all (length buffer - from) (drop from buffer) (omega (arith, length-drop from buffer)))
 
   keeps : Holds (rest_of begun before ++ part) area' held'
   unfolding before part

@@ -13,7 +13,7 @@ use mir.Syntax.{w64}
 use mir.Val.{to_z, of_z, SFits}
 use mir.ValLaws.{to_z-of_z}
 use borrow.Author.Tests.{ltb-true}
-use Rattle.bytes.specs.Bytes.{index_of, slice}
+use Rattle.desk.specs.Bytes.{index_of, slice}
 use Rattle.io.specs.Counts.{IsPrefixLen, clamp_len}
 use Rattle.algebra.proofs.Tests.{false_not_true}
 use Rattle.line.specs.Questions.{most_characters}

@@ -1,7 +1,7 @@
 -- The lines of small inputs, computed: an empty line counts, an input may be empty, and its last line may lack a newline; a line may come in two texts, and an
 -- area keeps what is begun of it. Holds: `three_lines` to `kept_nothing`.
 use Rattle.std.specs.Prelude.{◌≡◌, refl, [], ◌∷◌}
-use Rattle.bytes.specs.Bytes.{index_after, index_of}
+use Rattle.desk.specs.Bytes.{index_after, index_of}
 use Rattle.desk.specs.Texts.{lines_of, rest_of, last_of, all_lines}
 use Rattle.desk.specs.Turns.{Kept}
 

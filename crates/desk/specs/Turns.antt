@@ -1,7 +1,7 @@
 -- One turn of the desk: a read, what is kept of a line from turn to turn, and what is written (01, "Lines at the planning desk").
 -- Holds: `Kept`; `answers_room`, `Room`; `text_of`, `Turned` (what `lines::turn` promises); `Run` (turns to the end of an input), `RunAnswers`.
 use Rattle.std.specs.Prelude.{◌≡◌, List, [], ◌++◌, ℕ, suc, ◌+◌, ◌-◌, ◌*◌, ◌≤◌, ◌<◌, ℤ, pos, negsuc, length, take}
-use Rattle.bytes.specs.Bytes.{index_of}
+use Rattle.desk.specs.Bytes.{index_of}
 use Rattle.io.specs.Counts.{clamp_len}
 use Rattle.line.specs.Questions.{most_characters}
 use Rattle.line.specs.Answering.{LineAreas, RoomForAll}

@@ -1,7 +1,8 @@
 // The lines of a text that comes in reads, and their answers: no reading or writing here.
-ghost use Rattle.std.specs.Prelude.{◌+◌, ◌≤◌, ◌<◌, length, take};
+ghost use Rattle.std.specs.Prelude.{◌≡◌, ◌+◌, ◌≤◌, ◌<◌, length, take};
 ghost use Rattle.io.specs.Counts.{IsPrefixLen};
 ghost use Rattle.line.specs.Answering.{line_areas, RoomForAll};
+ghost use Rattle.desk.specs.Bytes.{index_of, slice};
 ghost use Rattle.desk.specs.Texts.{last_of, Output};
 ghost use Rattle.desk.specs.Turns.{answers_room, Room, Turned};
 ghost use Rattle.desk.specs.parts.Lines.{Within, PartKept, Behind, Stepped, LinesRead};
@@ -14,6 +15,20 @@ struct Progress {
     filled: usize,
 }
 
+// The first place of a byte from `from` on, or `to` where it does not stand before that.
+fn find(bytes: &[u8], from: usize, to: usize, byte: u8) -> usize
+    requires { (from ≤ to) × (to ≤ length bytes.now) }
+    ensures place { result ≡ from + index_of byte (slice from to bytes.now) }
+    ensures within { (from ≤ result) × (result ≤ to) }
+{
+    for i in from..to {
+        if bytes[i] == byte {
+            return i;
+        }
+    }
+    to
+}
+
 // Keeps a part of a line behind the characters that are kept already, as far as there is room for it and a newline.
 fn keep(part: &[u8], line: &mut [u8], held: usize) -> usize
     requires { held < length line.old }
@@ -22,11 +37,12 @@ fn keep(part: &[u8], line: &mut [u8], held: usize) -> usize
     let most = line.len() - 1;
     let room = most - held;
     if room < part.len() {
-        bytes::copy(&part[0..room], &mut line[held..]);
+        line[held..most].copy_from_slice(&part[0..room]);
         return most;
     }
-    bytes::copy(part, &mut line[held..]);
-    held + part.len()
+    let end = held + part.len();
+    line[held..end].copy_from_slice(part);
+    end
 }
 
 // The answer to a line, and its newline, behind the output that waits.
@@ -67,7 +83,7 @@ fn step(
     ensures { Stepped buffer.now line.old output.old progress line.new output.new result }
 {
     let from = progress.from;
-    let to = bytes::scan::find(buffer, from, buffer.len(), b'\n');
+    let to = find(buffer, from, buffer.len(), b'\n');
     let held = keep(&buffer[from..to], line, progress.held);
     if to == buffer.len() {
         return Progress {
@@ -158,7 +174,7 @@ pub fn turn(
     if got < 0 {
         return 0;
     }
-    let held = bytes::scan::find(line, 0, line.len() - 1, b'\n');
+    let held = find(line, 0, line.len() - 1, b'\n');
     if got == 0 {
         return answer_last(&line[0..held], reception, message, transmission, output);
     }

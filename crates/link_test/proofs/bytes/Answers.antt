@@ -5,13 +5,3 @@ use Rattle.link_test.proofs.bytes.Goals as goal
 
 pub loop-i-preserved : goal.loop-i-preserved
 loop-i-preserved c = simp length-set (omega arith)
-
--- TODO place (after the start): tt
-
--- TODO place (after the start): tt
-
--- TODO place (after the start): tt
-
--- TODO place (after the start): tt
-
--- TODO place (after loop-i-preserved): tt

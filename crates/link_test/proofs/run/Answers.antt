@@ -19,5 +19,3 @@ slice_bounds-handed-end-6 c = sym (length-take-le _ _ c.if-third-c.false)
 
 pub handed-requires : goal.handed-requires
 handed-requires c = (simp length-take (omega arith), simp length-take (omega arith))
-
--- TODO place (after slice_bounds-read_full-end-2): tt

@@ -13,13 +13,3 @@ loop-i-preserved c = simp length-set (omega arith)
 
 pub slice_bounds-write_all-end-2 : goal.slice_bounds-write_all-end-2
 slice_bounds-write_all-end-2 c = sym (length-take-le c.loop-i.at c.loop-i.digits c.loop-i.invariant.0)
-
--- TODO place (after the start): tt
-
--- TODO place (after the start): tt
-
--- TODO place (after the start): tt
-
--- TODO place (after slice_bounds-write_all-end-2): tt
-
--- TODO place (after slice_bounds-write_all-end-2): tt
