@@ -1,5 +1,6 @@
 -- What is kept of a line from turn to turn, said by the area alone: the line's characters before the first newline.
 -- Holds: `kept_none`; `kept_holds` (where the area keeps a line, looking for the newline finds it), `kept_again` (a newline behind what is held).
+use Rattle.std.specs.Prelude.{slice_range}
 use mathlib.Core.Path.{◌≡◌, refl, sym, ap, ap₂, subst, ◌∙◌}
 use mathlib.Core.Bool.{Bool, true, false}
 use mathlib.Core.List.{List, [], ◌∷◌, ◌++◌}
@@ -8,7 +9,7 @@ use native.Mathlib.Omega.{arith}
 use lib.Dec.{eqb}
 use lib.ListN.{length, take, drop, set, length-set, length-take}
 use lib.Seq.{length-take-le, take-nil, take_at, set_split}
-use Rattle.desk.specs.Bytes.{index_after, index_of, slice}
+use Rattle.desk.specs.Bytes.{index_after, index_of}
 use Rattle.algebra.specs.Ops.{pick}
 use Rattle.desk.specs.Texts.{newline, rest_of}
 use Rattle.desk.specs.Turns.{Kept}
@@ -79,9 +80,8 @@ unfolding index_of index_after
 kept_none l = sym (take-nil (length (newline ∷ l) - 1))
 
 -- Where the area keeps a line, looking for a newline, but for the last place, finds how much.
-pub kept_holds : (begun area : List ℕ) (held : ℕ) → 0 < length area → held ≡ 0 + index_of newline (slice 0 (length area - 1) area)
+pub kept_holds : (begun area : List ℕ) (held : ℕ) → 0 < length area → held ≡ 0 + index_of newline (slice_range area 0 (length area - 1))
     → Kept begun area → Holds begun area held
-unfolding slice
 kept_holds begun area held some e k =
     let first = index_of newline area in
     let long : length (take first area) ≡ first = length-take-le first area (index_inside area) in

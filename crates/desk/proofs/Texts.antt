@@ -2,6 +2,7 @@
 -- Holds: `lines_append`, `rest_append` (a text in two parts); `lines_before`, `rest_before`, `newline_at` (up to the next newline); `held_copied`;
 -- `answer_few`, `room_after`, `put_behind`; `output_append`, `output_more`; `reached_none`, `reached_unended`, `reached_ended`, `reached_all`;
 -- `last_none`, `last_answered`, `last_kept`.
+use Rattle.std.specs.Prelude.{slice_range}
 use mathlib.Core.Path.{◌≡◌, refl, sym, ap, ap₂, subst, ◌∙◌}
 use mathlib.Core.Bool.{Bool, true, false}
 use mathlib.Core.List.{List, [], ◌∷◌, ◌++◌, append-nil, append_assoc}
@@ -15,7 +16,7 @@ use lib.Seq.{length-take-le, take_all, take-nil, take-suc, take-add, take-append
 use borrow.Author.Tests.{eqb-true, le-leb}
 use borrow.Rule.Slice.PartMut.{put_mid}
 use Rattle.std.proofs.lemmas.Slice.{take-put_mid}
-use Rattle.desk.specs.Bytes.{index_after, index_of, slice}
+use Rattle.desk.specs.Bytes.{index_after, index_of}
 use Rattle.algebra.specs.Ops.{pick}
 use Rattle.line.specs.Questions.{most_characters}
 use Rattle.line.specs.Answering.{Answers, AnswerShown}
@@ -201,7 +202,7 @@ reached_none begun buffer area held output H = record { kept = H; answered = non
 -- The code looks for the next newline from `from` on, and keeps what comes before it.
 module _ (begun buffer : List ℕ) (from : ℕ) (area : List ℕ) (held : ℕ) (output : List ℕ) (filled : ℕ)
     (R : Reached begun (take from buffer) area held output filled)
-    (to : ℕ) (found_in : to ≡ from + index_of newline (slice from (length buffer) buffer)) (area' : List ℕ) (held' : ℕ)
+    (to : ℕ) (found_in : to ≡ from + index_of newline (slice_range buffer from (length buffer))) (area' : List ℕ) (held' : ℕ)
     (H : Holds (rest_of begun (take from buffer) ++ take (to - from) (drop from buffer)) area' held') where
   before : List ℕ
   before = take from buffer
@@ -210,7 +211,6 @@ module _ (begun buffer : List ℕ) (from : ℕ) (area : List ℕ) (held : ℕ) (
   part = take (index_of newline (drop from buffer)) (drop from buffer)
 
   found_at : to ≡ from + index_of newline (drop from buffer)
-  unfolding slice
   found_at =
       found_in
       ∙ ap (λ (l : List ℕ). from + index_of newline l) (take_all (length buffer - from) (drop from buffer) (omega (arith, length-drop from buffer)))

@@ -1,5 +1,6 @@
 -- One turn, from what its parts did, and turns to the end of an input.
 -- Holds: `counts`; `failed_turn`, `ended_turn`, `came_turn` (after the tests of what a read gave); `run_answers` (the answers to the lines of a whole input).
+use Rattle.std.specs.Prelude.{slice_range}
 use mathlib.Core.Path.{◌≡◌, refl, sym, ap, ap₂, subst, ◌∙◌}
 use mathlib.Core.Bool.{true, false}
 use mathlib.Core.List.{List, [], ◌++◌, append_assoc}
@@ -13,7 +14,7 @@ use mir.Syntax.{w64}
 use mir.Val.{to_z, of_z, SFits}
 use mir.ValLaws.{to_z-of_z}
 use borrow.Author.Tests.{ltb-true}
-use Rattle.desk.specs.Bytes.{index_of, slice}
+use Rattle.desk.specs.Bytes.{index_of}
 use Rattle.io.specs.Counts.{IsPrefixLen, clamp_len}
 use Rattle.algebra.proofs.Tests.{false_not_true}
 use Rattle.line.specs.Questions.{most_characters}
@@ -39,7 +40,7 @@ module _ (got : ℤ) (fits : SFits w64 got) (input area : List ℕ) where
       at (pos k) h = absurd (omega (arith, ltb-true k 0 h))
       at (negsuc k) h = failed k refl refl refl
 
-  module _ (room : most_characters + 1 < length area) (held : ℕ) (found : held ≡ 0 + index_of newline (slice 0 (length area - 1) area)) where
+  module _ (room : most_characters + 1 < length area) (held : ℕ) (found : held ≡ 0 + index_of newline (slice_range area 0 (length area - 1))) where
     pub ended_turn : (area' written : List ℕ) → of_z w64 got ≡ 0 → Output (last_of (take (held - 0) area)) written → Turned got input area area' written
     ended_turn area' written e answered = ended (sym same ∙ ap (to_z w64) e) all
       where

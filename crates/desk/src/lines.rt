@@ -1,8 +1,8 @@
 // The lines of a text that comes in reads, and their answers: no reading or writing here.
-ghost use Rattle.std.specs.Prelude.{◌≡◌, ◌+◌, ◌≤◌, ◌<◌, length, take};
+ghost use Rattle.std.specs.Prelude.{◌≡◌, ◌+◌, ◌≤◌, ◌<◌, length, take, slice_range};
 ghost use Rattle.io.specs.Counts.{IsPrefixLen};
 ghost use Rattle.line.specs.Answering.{line_areas, RoomForAll};
-ghost use Rattle.desk.specs.Bytes.{index_of, slice};
+ghost use Rattle.desk.specs.Bytes.{index_of};
 ghost use Rattle.desk.specs.Texts.{last_of, Output};
 ghost use Rattle.desk.specs.Turns.{answers_room, Room, Turned};
 ghost use Rattle.desk.specs.parts.Lines.{Within, PartKept, Behind, Stepped, LinesRead};
@@ -18,7 +18,7 @@ struct Progress {
 // The first place of a byte from `from` on, or `to` where it does not stand before that.
 fn find(bytes: &[u8], from: usize, to: usize, byte: u8) -> usize
     requires { (from ≤ to) × (to ≤ length bytes.now) }
-    ensures place { result ≡ from + index_of byte (slice from to bytes.now) }
+    ensures place { result ≡ from + index_of byte (slice_range bytes.now from to) }
     ensures within { (from ≤ result) × (result ≤ to) }
 {
     for i in from..to {

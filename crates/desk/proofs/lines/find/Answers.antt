@@ -1,4 +1,5 @@
 -- `desk::lines::find`: a byte is the one that is looked for, or the place is one further.
+use Rattle.std.specs.Prelude.{slice_range}
 use mathlib.Core.Path.{◌≡◌, ap, ap₂, ◌∙◌}
 use mathlib.Core.Bool.{Bool}
 use mathlib.Core.List.{List, ◌∷◌}
@@ -8,31 +9,30 @@ use native.Mathlib.Omega.{arith}
 use lib.ListN.{length, get_or, take, drop}
 use lib.Seq.{drop-cons}
 use borrow.Author.Tests.{eq-eqb, ne_eqb}
-use Rattle.desk.specs.Bytes.{index_after, index_of, slice}
+use Rattle.desk.specs.Bytes.{index_after, index_of}
 use Rattle.desk.proofs.lines.find.Goals as goal
 
 -- A part that is not empty, as its first byte and the rest ..
-cut : (l : List ℕ) (i to : ℕ) → i < to → to ≤ length l → slice i to l ≡ get_or l i 0 ∷ slice (suc i) to l
-unfolding slice
+cut : (l : List ℕ) (i to : ℕ) → i < to → to ≤ length l → slice_range l i to ≡ get_or l i 0 ∷ slice_range l (suc i) to
 cut l i to below inside =
     let one : to - i ≡ suc (to - suc i) = omega arith in
     ap₂ (λ (n : ℕ) (m : List ℕ). take n m) one (drop-cons l i 0 (omega arith))
 
 -- .. which is the byte looked for ..
-index_here : (b i to : ℕ) (l : List ℕ) → i < to → to ≤ length l → get_or l i 0 ≡ b → index_of b (slice i to l) ≡ 0
+index_here : (b i to : ℕ) (l : List ℕ) → i < to → to ≤ length l → get_or l i 0 ≡ b → index_of b (slice_range l i to) ≡ 0
 unfolding index_of index_after
 index_here b i to l below inside e =
-    ap (index_of b) (cut l i to below inside) ∙ ap (λ (t : Bool). index_after t (index_of b (slice (suc i) to l))) (eq-eqb (get_or l i 0) b e)
+    ap (index_of b) (cut l i to below inside) ∙ ap (λ (t : Bool). index_after t (index_of b (slice_range l (suc i) to))) (eq-eqb (get_or l i 0) b e)
 
 -- .. or another.
-index_on : (b i to : ℕ) (l : List ℕ) → i < to → to ≤ length l → (get_or l i 0 ≡ b → ⊥) → index_of b (slice i to l) ≡ suc (index_of b (slice (suc i) to l))
+index_on : (b i to : ℕ) (l : List ℕ) → i < to → to ≤ length l → (get_or l i 0 ≡ b → ⊥) → index_of b (slice_range l i to) ≡ suc (index_of b (slice_range l (suc i) to))
 unfolding index_of index_after
 index_on b i to l below inside d =
-    ap (index_of b) (cut l i to below inside) ∙ ap (λ (t : Bool). index_after t (index_of b (slice (suc i) to l))) (ne_eqb (get_or l i 0) b d)
+    ap (index_of b) (cut l i to below inside) ∙ ap (λ (t : Bool). index_after t (index_of b (slice_range l (suc i) to))) (ne_eqb (get_or l i 0) b d)
 
 -- An empty part.
-index_end : (b i to : ℕ) (l : List ℕ) → to ≤ i → index_of b (slice i to l) ≡ 0
-unfolding index_of slice
+index_end : (b i to : ℕ) (l : List ℕ) → to ≤ i → index_of b (slice_range l i to) ≡ 0
+unfolding index_of
 index_end b i to l h =
     let none : to - i ≡ 0 = omega arith in
     ap (λ (n : ℕ). index_of b (take n (drop i l))) none
@@ -55,5 +55,5 @@ loop-i-preserved c =
       arith,
       c.loop-i.invariant,
       index_on c.args.byte i c.args.to c.args.bytes.now c.loop-i-test.true c.requires.1 c.if-bytes-i.false,
-      ap (λ (n : ℕ). index_of c.args.byte (slice n c.args.to c.args.bytes.now)) (add-one i),
+      ap (λ (n : ℕ). index_of c.args.byte (slice_range c.args.bytes.now n c.args.to)) (add-one i),
     )
