@@ -31,7 +31,7 @@ module _ (number : ℕ) (message : List ℕ) (area : ℕ) (known : EncodingYes n
 pub returns-then-answer-ne0 : goal.returns-then-answer-ne0
 returns-then-answer-ne0 c =
     encoded_refused c.args.setting c.args.message.now c.args.transmission.now
-    c.encoding_questions-answer.result c.encoding_questions-answer.ensures c.if-answer-ne0.true
+    c.encoding_questions-answer.result c.encoding_questions-answer.ensures (λ none. omega arith)
 
 pub setting_of-p-requires : goal.setting_of-p-requires
 setting_of-p-requires c =
