@@ -1,7 +1,7 @@
 -- Block facts over any field, α of order n and 1 ≤ k ≤ n (000, section 2 and Theorem 3.1): zeros of f, twist, spectrum.
--- Holds: `code_over`; `times_g_ext` and `combination_ext` (only the information's symbols count); `generator_polynomial_zero` and `generator_polynomial_nonzero`
--- (the zeros of f); `value_of_times_g` (the value of x × G_j); `spectrum_combination`, `combination_vanishes` and `combination_on_stretch` (the spectrum of a
--- combination).
+-- Holds: `code_over`; `times_g_ext` and `combination_ext` (only the information's symbols count); `generator_polynomial_zero` and
+-- `generator_polynomial_nonzero` (the zeros of f); `value_of_times_g` (the value of x × G_j); `spectrum_combination`, `combination_vanishes` and
+-- `combination_on_stretch` (the spectrum of a combination).
 use mathlib.Core.Path.{◌≡◌, refl, sym, ap, ap₂, ◌∙◌}
 use mathlib.Core.List.{List, ◌∷◌, ◌++◌}
 use Prim.Native.Nat.{ℕ, zero, suc, ◌+◌, ◌-◌, ◌*◌, ◌≤◌, ◌<◌}

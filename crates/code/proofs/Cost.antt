@@ -1,6 +1,7 @@
 -- A symbol's cost on bytes. Only this file looks into `symbol_cost`: its values, its two laws, and the one lemma that joins it with the words of `Fits`.
 -- Holds: `cost_same`, `cost_differ`; `cost_apart`, `cost_shift`, the two laws; `cost_count` (costs and counts of differing symbols); `byte_cost`,
--- `bytes_apart`, the cost of a byte for an element of the field; `message_cost_lem`; `fits_cost` ("at most t" is a cost of less than d_0 + .. + d_m), `fits_near`.
+-- `bytes_apart`, the cost of a byte for an element of the field; `message_cost_lem`; `fits_cost` ("at most t" is a cost of less than d_0 + .. + d_m),
+-- `fits_near`.
 use mathlib.Core.Path.{◌≡◌, sym, ap, ◌∙◌}
 use mathlib.Core.Bool.{Bool, true, false, not}
 use mathlib.Core.List.{List}

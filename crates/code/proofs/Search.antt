@@ -207,7 +207,8 @@ module _ (p : Setting) (S : Sound p) (T : ℕ) (reception x : List ℕ) (F : Fit
       (more_begins beginning begins))
       (finished_far p reception beginning) refl t
     where
-      at : (Passes (none_begins p T reception left (beginning ++ get_or x (length beginning) 0 ∷ [])) → ⊥) → (far : Bool) → finished_far p reception beginning ≡ far
+      at : (Passes (none_begins p T reception left (beginning ++ get_or x (length beginning) 0 ∷ [])) → ⊥) → (far : Bool)
+          → finished_far p reception beginning ≡ far
           → Passes (elim far [ true ↦ true | false ↦ all p.q (λ a. none_begins p T reception left (beginning ++ a ∷ [])) ]) → ⊥
       at more true e t = finished_near beginning (omega arith) begins (subst Passes (sym e) tt)
       at more false e t =

@@ -71,7 +71,8 @@ module _ (p : Setting) (S : Sound p) where
     level_refused y z Y Z l low near close bad =
         rw (level_cost_lem (view p.n window l) l y Y) at
         (turn_refused (field_of p S) (root_of p S) p.n p.k p.m (order_at p S) S.room (byte_cost p.q) (bytes_apart p.q) (view p.n window)
-        (lifted p S y) (lifted p S z) l low (rw (window_cost_lem l y Y) near) (rw (level_cost_lem (view p.n window l) l z Z) close) (rw (window_cost_lem l z Z) bad))
+        (lifted p S y) (lifted p S z) l low (rw (window_cost_lem l y Y) near) (rw (level_cost_lem (view p.n window l) l z Z) close)
+        (rw (window_cost_lem l z Z) bad))
 
     -- After a refused level the blocks below it are near..
     pub level_drops : (y : ℕ → ℕ → ℕ) (l : ℕ) → window_cost p window (suc l) y < distances_to p.n p.k (suc l)

@@ -18,8 +18,8 @@ use Rattle.link.specs.Sample.{orders, OrdersKept}
 use Rattle.link.proofs.OrderKinds.{same_list, encoding_test, read_test, seven_test, decoding_test, orders_test, each_kept}
 
 orders_pass : Passes (orders_test orders)
-unfolding orders_test orders encoding_test decoding_test read_test seven_test same_list fits_test none_fits_test none_begins finished_far windows_test window_test
-    window_from all total distances_to symbols_to transmission tabulate sent_symbol sum times_g row_symbol generator_polynomial points from_roots
+unfolding orders_test orders encoding_test decoding_test read_test seven_test same_list fits_test none_fits_test none_begins finished_far windows_test
+    window_test window_from all total distances_to symbols_to transmission tabulate sent_symbol sum times_g row_symbol generator_polynomial points from_roots
     times_root_after power ops_of five eight modular binary times_bits times_alpha
 orders_pass = tt
 

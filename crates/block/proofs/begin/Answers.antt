@@ -1,5 +1,4 @@
 -- `block::begin` meets its contract.
-use mathlib.Core.Path.{sym, ◌∙◌}
 use native.Mathlib.Omega.{arith}
 use Rattle.code.proofs.Settings.{sizes, level_fits}
 use Rattle.block.proofs.Spectra.{point_none, spectrum_none}
@@ -24,22 +23,6 @@ add_values-point-requires c =
       omega (arith, c.unit.auto.series, c.requires.4.series_long),
       point_none _ good,
       spectrum_none _ _ _ good c.unit.ensures,
-    )
-
-pub locate-degree-requires : goal.locate-degree-requires
-locate-degree-requires c =
-    let room = c.requires.4 in
-    let spectral = c.add_values-point.ensures.1 in
-    let long = c.add_values-point.auto.series ∙ (c.unit.auto.series ∙ room.series_long) in (
-      c.requires.0.good,
-      c.requires.1,
-      spectral.below,
-      spectral.first,
-      omega arith,
-      omega (arith, long),
-      room.locator_long ∙ sym long,
-      room.values_long ∙ sym long,
-      room.information_long ∙ sym long,
     )
 
 pub returns : goal.returns

@@ -6,9 +6,6 @@ use Rattle.block.proofs.BlockAreas.{block_areas_kept}
 use Rattle.block.proofs.Step.{step_long, step_clean, step_near, step_far}
 use Rattle.block.proofs.repair.Goals as goal
 
-pub level_distance-distance-requires : goal.level_distance-distance-requires
-level_distance-distance-requires c = (c.requires.0.sound, c.requires.3)
-
 pub overflow_mul-start : goal.overflow_mul-start
 overflow_mul-start c =
     let located = c.begin-start.ensures.located.pair.located in

@@ -29,6 +29,3 @@ pub loop-i-preserved : goal.loop-i-preserved
 loop-i-preserved c =
     let l = c.loop-i in
     (omega arith, simp length-set l.invariant.1, symbols_set _ l.symbols l.i _ (mod-lt l.rest (zero_below _ c.requires)) l.invariant.2)
-
-pub returns : goal.returns
-returns c = let inv = c.loop-i.invariant in (inv.1, inv.2)

@@ -1,15 +1,8 @@
 -- `block_test::one` meets its contract.
-use mathlib.Core.Path.{sym}
 use native.Mathlib.Omega.{arith}
 use lib.Seq.{length-take-le}
 use Rattle.field.proofs.Symbols.{symbols_take}
 use Rattle.block_test.proofs.one.Goals as goal
-
-pub slice_bounds-received-end : goal.slice_bounds-received-end
-slice_bounds-received-end c = sym (length-take-le _ _ (omega arith))
-
-pub search_near-expected-requires : goal.search_near-expected-requires
-search_near-expected-requires c = let p = c.requires in (p.0, p.1, p.2, length-take-le _ _ (omega arith))
 
 pub repaired-found-requires : goal.repaired-found-requires
 repaired-found-requires c =

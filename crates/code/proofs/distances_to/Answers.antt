@@ -1,13 +1,10 @@
 -- `code::distances_to`: the sum of the distances up to level i.
-use mathlib.Core.Path.{◌≡◌, ap₂, ◌∙◌}
+use mathlib.Core.Path.{ap₂, ◌∙◌}
 use Prim.Native.Nat.{◌+◌}
 use native.Mathlib.Omega.{arith}
 use Rattle.code.proofs.Settings.{sizes}
 use Rattle.code.proofs.Distances.{distances_none, distances_more}
 use Rattle.code.proofs.distances_to.Goals as goal
-
-pub level_distance-sum-requires : goal.level_distance-sum-requires
-level_distance-sum-requires c = (c.requires.0, omega arith)
 
 pub loop-i-init : goal.loop-i-init
 loop-i-init c = (
@@ -18,9 +15,6 @@ loop-i-init c = (
 
 pub overflow_add-i : goal.overflow_add-i
 overflow_add-i c = omega (arith, (sizes c.args.p c.requires.0).memory_most, c.requires.1)
-
-pub level_distance-sum-requires-in-loop-i : goal.level_distance-sum-requires-in-loop-i
-level_distance-sum-requires-in-loop-i c = (c.requires.0, omega (arith, c.requires.1))
 
 pub overflow_add-sum : goal.overflow_add-sum
 overflow_add-sum c =
@@ -34,8 +28,3 @@ loop-i-preserved c =
       omega (arith, (sizes c.args.p c.requires.0).symbols_most, c.level_distance-sum-in-loop-i.ensures, l.invariant.1),
       ap₂ ◌+◌ l.invariant.2 c.level_distance-sum-in-loop-i.ensures ∙ distances_more c.args.p.n c.args.p.k l.i,
     )
-
-pub returns : goal.returns
-returns c =
-    let done : c.loop-i.i ≡ c.args.l = omega arith in
-    rw done at c.loop-i.invariant.2

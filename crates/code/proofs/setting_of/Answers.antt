@@ -1,10 +1,9 @@
 -- `code::setting_of` gives the entry of the list of settings: in each branch the number is known.
 use mathlib.Core.Path.{◌≡◌, ap, ◌∙◌}
-use Prim.Native.Nat.{ℕ, ◌≤◌}
+use Prim.Native.Nat.{ℕ}
 use native.Mathlib.Omega.{arith}
-use lib.ListN.{length}
 use Rattle.code.specs.declared.Setting.{Setting}
-use Rattle.code.specs.Settings.{settings, setting_of}
+use Rattle.code.specs.Settings.{setting_of}
 use Rattle.code.proofs.Settings.{setting_range}
 use Rattle.code.proofs.setting_of.Goals as goal
 
@@ -13,26 +12,16 @@ entry : {n : ℕ} (s : ℕ) {p : Setting} → p ≡ setting_of s → s ≡ n →
 entry s same e = same ∙ ap setting_of e
 
 pub returns-then-number-lt2 : goal.returns-then-number-lt2
-returns-then-number-lt2 c =
-    let range : (1 ≤ c.args.number) × (c.args.number ≤ length settings) = setting_range c.args.number c.requires in
-    entry 1 c.parameters.ensures (omega (arith, range))
+returns-then-number-lt2 c = entry 1 c.parameters.ensures (omega (arith, setting_range c.args.number c.requires))
 
 pub returns-then-number-lt3 : goal.returns-then-number-lt3
-returns-then-number-lt3 c =
-    let range : (1 ≤ c.args.number) × (c.args.number ≤ length settings) = setting_range c.args.number c.requires in
-    entry 2 c.parameters-then-number-lt3.ensures (omega (arith, range))
+returns-then-number-lt3 c = entry 2 c.parameters-then-number-lt3.ensures (omega (arith, setting_range c.args.number c.requires))
 
 pub returns-then-number-lt4 : goal.returns-then-number-lt4
-returns-then-number-lt4 c =
-    let range : (1 ≤ c.args.number) × (c.args.number ≤ length settings) = setting_range c.args.number c.requires in
-    entry 3 c.parameters-then-number-lt4.ensures (omega (arith, range))
+returns-then-number-lt4 c = entry 3 c.parameters-then-number-lt4.ensures (omega (arith, setting_range c.args.number c.requires))
 
 pub returns-then-number-lt5 : goal.returns-then-number-lt5
-returns-then-number-lt5 c =
-    let range : (1 ≤ c.args.number) × (c.args.number ≤ length settings) = setting_range c.args.number c.requires in
-    entry 4 c.parameters-then-number-lt5.ensures (omega (arith, range))
+returns-then-number-lt5 c = entry 4 c.parameters-then-number-lt5.ensures (omega (arith, setting_range c.args.number c.requires))
 
 pub returns : goal.returns
-returns c =
-    let range : (1 ≤ c.args.number) × (c.args.number ≤ length settings) = setting_range c.args.number c.requires in
-    entry 5 c.parameters-2.ensures (omega (arith, range))
+returns c = entry 5 c.parameters-2.ensures (omega (arith, setting_range c.args.number c.requires))

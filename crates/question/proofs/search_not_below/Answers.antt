@@ -2,11 +2,8 @@
 use mathlib.Core.Path.{ap, ◌∙◌}
 use native.Mathlib.Omega.{arith}
 use Rattle.question.specs.Questions.{symbols_to}
-use Rattle.question.proofs.Questions.{searched_none, searched_more, searched_stop, searched_all, map_same}
+use Rattle.question.proofs.Questions.{searched_more, searched_stop, searched_all, map_same}
 use Rattle.question.proofs.search_not_below.Goals as goal
-
-pub loop-i-init : goal.loop-i-init
-loop-i-init c = searched_none
 
 pub returns-then-q-wide : goal.returns-then-q-wide
 returns-then-q-wide c =

@@ -1,18 +1,15 @@
 -- `tables::lay_row` meets its contract. The loop's invariant: the first i symbols of the row are laid out.
-use mathlib.Core.Path.{◌≡◌, refl, sym, ap, ◌∙◌}
+use mathlib.Core.Path.{refl, sym, ap, ◌∙◌}
 use mathlib.Core.List.{List}
 use Prim.Native.Nat.{ℕ, ◌+◌}
 use native.Mathlib.Numerals.{add-one}
 use native.Mathlib.Omega.{arith}
-use lib.ListN.{length, get_or, set, length-set}
+use lib.ListN.{get_or, set, length-set}
 use lib.Seq.{paste, paste-zero, paste-suc}
 use Rattle.tables.proofs.lay_row.Goals as goal
 
 pub loop-i-init : goal.loop-i-init
 loop-i-init c = (omega arith, refl, paste-zero c.args.area.now c.args.at c.args.row.now)
-
-pub bounds-area-at : goal.bounds-area-at
-bounds-area-at c = omega (arith, c.loop-i.invariant.1)
 
 pub loop-i-preserved : goal.loop-i-preserved
 loop-i-preserved c =
@@ -24,8 +21,3 @@ loop-i-preserved c =
           ∙ (paste-suc a.area.now a.at a.row.now l.i 0 (omega arith) (omega arith)
           ∙ ap (paste a.area.now a.at a.row.now) (sym (add-one l.i))),
     )
-
-pub returns : goal.returns
-returns c =
-    let full : c.loop-i.i ≡ length c.args.row.now = omega arith in
-    rw full at c.loop-i.invariant.2

@@ -29,9 +29,6 @@ within s p e a rows l room =
     subst (λ (x : Setting). (a % (x.m + 1) < q.m + 1) × (a / (x.m + 1) < q.k) × (a * x.n + q.n ≤ length rows)) (sym e)
     (row_within q a rows (subst (λ (x : Setting). a < x.k * (x.m + 1)) e l) room)
 
-pub setting_of-p-requires : goal.setting_of-p-requires
-setting_of-p-requires c = c.requires.0
-
 pub overflow_add-powers : goal.overflow_add-powers
 overflow_add-powers c =
     omega (arith, (few c.args.number c.setting_of-p.result c.requires.0 c.setting_of-p.ensures).0)
@@ -45,14 +42,14 @@ loop-a-init c = (omega arith, refl, filled_none (setting_of c.args.number) c.arg
 
 pub overflow_mul-a : goal.overflow_mul-a
 overflow_mul-a c =
-    let room : rows_length (setting_of c.args.number) ≤ length c.loop-a.area = omega (arith, c.requires.1, c.loop-a.invariant.1) in
-    let w = within c.args.number c.setting_of-p.result c.setting_of-p.ensures c.loop-a.a c.loop-a.area c.loop-a-test.true room in
+    let w = within c.args.number c.setting_of-p.result c.setting_of-p.ensures c.loop-a.a c.loop-a.area c.loop-a-test.true
+    (omega (arith, c.requires.1, c.loop-a.invariant.1)) in
     omega (arith, w.2)
 
 pub lay_generator_row-requires : goal.lay_generator_row-requires
 lay_generator_row-requires c =
-    let room : rows_length (setting_of c.args.number) ≤ length c.loop-a.area = omega (arith, c.requires.1, c.loop-a.invariant.1) in
-    let w = within c.args.number c.setting_of-p.result c.setting_of-p.ensures c.loop-a.a c.loop-a.area c.loop-a-test.true room in
+    let w = within c.args.number c.setting_of-p.result c.setting_of-p.ensures c.loop-a.a c.loop-a.area c.loop-a-test.true
+    (omega (arith, c.requires.1, c.loop-a.invariant.1)) in
     (c.requires.0, w.0, w.1, w.2)
 
 pub overflow_add-a : goal.overflow_add-a
@@ -62,8 +59,7 @@ overflow_add-a c =
 pub loop-a-preserved : goal.loop-a-preserved
 loop-a-preserved c =
     let few = subst (λ (x : Setting). c.loop-a.a < x.k * (x.m + 1)) c.setting_of-p.ensures c.loop-a-test.true in
-    let room : rows_length (setting_of c.args.number) ≤ length c.loop-a.area = omega (arith, c.requires.1, c.loop-a.invariant.1) in
-    let inside = row_within (setting_of c.args.number) c.loop-a.a c.loop-a.area few room in
+    let inside = row_within (setting_of c.args.number) c.loop-a.a c.loop-a.area few (omega (arith, c.requires.1, c.loop-a.invariant.1)) in
     let l = c.loop-a in
     let p : Setting = setting_of c.args.number in
     let after = c.lay_generator_row.new.area in

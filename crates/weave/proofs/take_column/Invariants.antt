@@ -5,7 +5,9 @@ use lib.ListN.{length, get_or}
 use Rattle.weave.proofs.take_column.Given as goal
 
 abbrev pub invariant-loop-i : goal.invariant-loop-i
-invariant-loop-i l = (l.i ≤ length l.initial.out) × (length l.out ≡ length l.initial.out) × ((a : ℕ) → a < l.i → get_or l.out a 0 ≡ get_or l.rows (a * l.columns + l.c) 0)
+invariant-loop-i l =
+    (l.i ≤ length l.initial.out) × (length l.out ≡ length l.initial.out)
+    × ((a : ℕ) → a < l.i → get_or l.out a 0 ≡ get_or l.rows (a * l.columns + l.c) 0)
 
 abbrev pub decreases-loop-i : goal.decreases-loop-i
 decreases-loop-i l = length l.initial.out - l.i

@@ -9,8 +9,9 @@ returns-then-answer-ne0 c = laid_refused _ _ _ _ _ c.weaving_questions-answer.en
 
 pub transpose-requires : goal.transpose-requires
 transpose-requires c =
-    let known : Movable c.args.frames c.args.incoming.now c.args.out.now = movable c.args.setting _ _ _ _ c.weaving_questions-answer.ensures c.if-answer-ne0.false in
-    let yes = known in (omega (arith, yes.whole), omega (arith, yes.whole, yes.front))
+    let known : Movable c.args.frames c.args.incoming.now c.args.out.now =
+    movable c.args.setting _ _ _ _ c.weaving_questions-answer.ensures c.if-answer-ne0.false in
+    (omega (arith, known.whole), omega (arith, known.whole, known.front))
 
 pub returns : goal.returns
 returns c =

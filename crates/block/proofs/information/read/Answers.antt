@@ -1,6 +1,6 @@
 -- `block::information::read` meets its contract. The loop's invariant is the promise for b blocks.
 use Prim.Native.Nat.{◌≤◌, ◌+◌}
-use mathlib.Core.Path.{◌≡◌, refl, sym, subst, ◌∙◌}
+use mathlib.Core.Path.{refl, sym, subst, ◌∙◌}
 use native.Mathlib.Nat.{mul-le-mul_right}
 use native.Mathlib.Omega.{arith}
 use lib.ListN.{length}
@@ -46,9 +46,3 @@ loop-b-preserved c =
       c.read_block.auto.information ∙ l.invariant.1,
       read_more _ p.0.sound _ p.1 l.b _ _ l.invariant.2 c.read_block.ensures,
     )
-
-pub returns : goal.returns
-returns c =
-    let l = c.loop-b in
-    let done : l.b ≡ c.args.blocks = omega arith in
-    rw done at l.invariant.2

@@ -1,5 +1,5 @@
 -- `block::information::read_block` meets its contract. The loop's invariant is the promise for the last j symbols, and the point is (1/α)^j.
-use mathlib.Core.Path.{◌≡◌, refl}
+use mathlib.Core.Path.{refl}
 use native.Mathlib.Omega.{arith}
 use lib.ListN.{length-set}
 use Rattle.block.proofs.InformationRead.{back_none, back_more, block_none, block_more}
@@ -7,20 +7,6 @@ use Rattle.block.proofs.information.read_block.Goals as goal
 
 pub loop-j-init : goal.loop-j-init
 loop-j-init c = let p = c.requires in (omega arith, refl, back_none _ p.0.sound.good, block_none _ p.0.sound _ p.1 _ _ p.3)
-
-pub multiply-point-requires : goal.multiply-point-requires
-multiply-point-requires c =
-    let p = c.requires in
-    (p.0.sound.good, p.0.products, p.5.below, c.loop-j.invariant.2.below)
-
-pub symbol-found-requires : goal.symbol-found-requires
-symbol-found-requires c =
-    let p = c.requires in
-    let l = c.loop-j in
-    (p.0, p.1, p.2, l.invariant.3.below, omega (arith, l.invariant.1, p.4), c.multiply-point.ensures.below, omega arith, omega arith)
-
-pub bounds-information-from : goal.bounds-information-from
-bounds-information-from c = omega (arith, c.loop-j.invariant.1)
 
 pub loop-j-preserved : goal.loop-j-preserved
 loop-j-preserved c =
@@ -33,9 +19,3 @@ loop-j-preserved c =
       block_more _ p.0.sound _ p.1 _ l.j _ _ _ _ (omega (arith, l.invariant.1, p.4)) (omega arith)
           l.invariant.3 point c.symbol-found.ensures,
     )
-
-pub returns : goal.returns
-returns c =
-    let l = c.loop-j in
-    let done : l.j ≡ c.args.p.k = omega arith in
-    rw done at l.invariant.3

@@ -1,5 +1,4 @@
 -- `block::information::symbol` meets its contract: what its parts return makes up what is lacking.
-use Prim.Native.Nat.{◌+◌, ◌-◌}
 use native.Mathlib.Omega.{arith}
 use Rattle.field.proofs.Symbols.{all_symbols}
 use Rattle.code.proofs.Settings.{information_fits}
@@ -10,12 +9,6 @@ pub times_g-known-requires : goal.times_g-known-requires
 times_g-known-requires c =
     let p = c.requires in
     (p.0, all_symbols p.3, p.4, omega arith, omega (arith, information_fits _ p.0.sound))
-
-pub add-requires : goal.add-requires
-add-requires c =
-    let p = c.requires in
-    let a = c.args in
-    (p.0.sound.good, p.3 (a.from + (a.p.k - a.j)), c.subtract-lack.ensures.below)
 
 pub returns : goal.returns
 returns c =

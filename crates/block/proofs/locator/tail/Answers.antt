@@ -1,6 +1,5 @@
 -- `block::locator::tail` meets its contract. The loop's invariant: the sum so far is that of a terms.
-use mathlib.Core.Path.{◌≡◌, refl}
-use Prim.Native.Nat.{◌-◌, ◌+◌}
+use mathlib.Core.Path.{refl}
 use native.Mathlib.Omega.{arith}
 use borrow.Author.Rules.{rules}
 use Rattle.field.proofs.LoopSums.{sum_none, sum_more}
@@ -11,20 +10,8 @@ pub loop-a-init : goal.loop-a-init
 unfolding tail
 loop-a-init c = (search rules, sum_none _ _ c.requires.0)
 
-pub add_product-sum-requires : goal.add_product-sum-requires
-add_product-sum-requires c =
-    let p = c.requires in
-    let l = c.loop-a in
-    (p.0, p.1, l.invariant.1.below, p.2 (l.a + 1), p.4 (c.args.j - (l.a + 1)))
-
 pub loop-a-preserved : goal.loop-a-preserved
 unfolding tail
 loop-a-preserved c =
     let l = c.loop-a in
     (omega arith, sum_more _ _ l.a l.sum _ _ l.invariant.1 refl c.add_product-sum.ensures)
-
-pub returns : goal.returns
-returns c =
-    let l = c.loop-a in
-    let done : l.a ≡ c.args.degree = omega arith in
-    rw done at l.invariant.1

@@ -9,7 +9,9 @@ use Rattle.block.specs.parts.Spectrum.{SpectrumOf}
 use Rattle.block.proofs.spectrum.add_values.Given as goal
 
 abbrev pub invariant-loop-s : goal.invariant-loop-s
-invariant-loop-s l = (l.s ≤ l.to) × (length l.series ≡ length l.initial.series) × Is l.q l.point (power (ops_of l.q) alpha l.s) × SpectrumOf l.q l.block l.s l.series
+invariant-loop-s l =
+    (l.s ≤ l.to) × (length l.series ≡ length l.initial.series) × Is l.q l.point (power (ops_of l.q) alpha l.s)
+    × SpectrumOf l.q l.block l.s l.series
 
 abbrev pub decreases-loop-s : goal.decreases-loop-s
 decreases-loop-s l = l.to - l.s

@@ -14,12 +14,6 @@ returns-then-blocks-i c = added_past c.requires.3 c.if-blocks-i.true
 pub loop-next-init : goal.loop-next-init
 loop-next-init c = (omega arith, adding_none c.requires.3)
 
-pub overflow_add-v : goal.overflow_add-v
-overflow_add-v c = omega (arith, c.requires.2)
-
-pub bounds-information-from : goal.bounds-information-from
-bounds-information-from c = omega (arith, c.requires.2)
-
 pub overflow_add-next : goal.overflow_add-next
 overflow_add-next c =
     omega (

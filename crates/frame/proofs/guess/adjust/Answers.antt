@@ -58,9 +58,6 @@ bounds-message-place-2 c =
     let a = c.args in
     symbol_room a.p a.blocks a.i a.r a.message.now a.residual.now c.requires.4 c.requires.1 c.requires.2
 
-pub negate-less-requires : goal.negate-less-requires
-negate-less-requires c = (c.requires.0.sound.good, c.requires.3)
-
 pub slice_bounds-add_rows-end : goal.slice_bounds-add_rows-end
 slice_bounds-add_rows-end c =
     let a = c.args in

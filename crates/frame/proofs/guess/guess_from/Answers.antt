@@ -55,9 +55,6 @@ multiply-v-requires c =
           (a.i * a.p.n + a.first + c.symbol_in_turn-r.result),
     )
 
-pub adjust-requires : goal.adjust-requires
-adjust-requires c = (c.requires.0, c.requires.3, c.symbol_in_turn-r.ensures, c.multiply-v.ensures.below, c.loop-turn.invariant.1.areas)
-
 pub overflow_add-turn : goal.overflow_add-turn
 overflow_add-turn c = omega (arith, (sizes c.args.p c.requires.0.sound).information_most)
 
@@ -65,6 +62,3 @@ pub loop-turn-preserved : goal.loop-turn-preserved
 loop-turn-preserved c =
     let l = c.loop-turn in
     (omega arith, revised_then l.invariant.1 c.adjust.ensures.revised (omega arith))
-
-pub returns : goal.returns
-returns c = c.loop-turn.invariant.1

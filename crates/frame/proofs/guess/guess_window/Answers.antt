@@ -12,9 +12,6 @@ overflow_add-j c =
     let a = c.args in
     omega (arith, blocks_few a.p c.requires.0.sound a.blocks a.message.now a.residual.now c.requires.3, c.requires.2)
 
-pub guess_block-requires : goal.guess_block-requires
-guess_block-requires c = (c.requires.0, c.requires.1, c.loop-s.invariant.areas)
-
 pub overflow_add-s : goal.overflow_add-s
 overflow_add-s c = omega (arith, (sizes c.args.p c.requires.0.sound).memory_most)
 
@@ -22,6 +19,3 @@ pub loop-s-preserved : goal.loop-s-preserved
 loop-s-preserved c =
     let l = c.loop-s in
     revised_then l.invariant c.guess_block.ensures (omega arith)
-
-pub returns : goal.returns
-returns c = c.loop-s.invariant

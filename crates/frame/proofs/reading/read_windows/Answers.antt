@@ -1,5 +1,5 @@
 -- `frame::reading::read_windows`: the windows before j were read.
-use mathlib.Core.Path.{◌≡◌, refl, ap, subst, ◌∙◌}
+use mathlib.Core.Path.{◌≡◌, ap, subst, ◌∙◌}
 use mathlib.Core.Bool.{Bool, not}
 use mathlib.Core.List.{List}
 use Prim.Native.Nat.{ℕ, ◌+◌, ◌*◌, ◌≤◌}
@@ -33,17 +33,6 @@ inverse-scale-requires c = (
   (first_place c.args.p c.requires.0.sound c.args.rows.now c.requires.0.rows).1,
 )
 
-pub loop-j-init : goal.loop-j-init
-loop-j-init c = (c.requires.2, omega arith, refl, refl, refl, refl)
-
-pub guess_window-requires : goal.guess_window-requires
-guess_window-requires c = (
-  c.requires.0,
-  c.inverse-scale.ensures.below,
-  c.loop-j-test.true,
-  c.loop-j.invariant.0.areas,
-)
-
 pub settle-settled-requires : goal.settle-settled-requires
 settle-settled-requires c =
     let a = c.args in
@@ -67,9 +56,6 @@ overflow_add-j c =
     let blocks = c.args.blocks in
     let few : blocks * 1 ≤ blocks * c.args.p.k = mul-le-mul_left blocks c.requires.0.sound.information in
     omega (arith, c.loop-j-test.true, c.requires.2.areas.message_long)
-
-pub loop-j-smaller : goal.loop-j-smaller
-loop-j-smaller c = omega (arith, c.loop-j-test.true)
 
 pub loop-j-preserved : goal.loop-j-preserved
 loop-j-preserved c =

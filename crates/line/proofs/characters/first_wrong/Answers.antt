@@ -1,13 +1,7 @@
 -- `line::characters::first_wrong`: the characters before i are digits.
 use native.Mathlib.Omega.{arith}
-use Rattle.question.proofs.Questions.{searched_none, searched_more, searched_stop, searched_all}
+use Rattle.question.proofs.Questions.{searched_more, searched_stop, searched_all}
 use Rattle.line.proofs.characters.first_wrong.Goals as goal
-
-pub loop-i-init : goal.loop-i-init
-loop-i-init c = searched_none
-
-pub digit-requires : goal.digit-requires
-digit-requires c = tt
 
 pub returns-then-digit-ge16 : goal.returns-then-digit-ge16
 returns-then-digit-ge16 c = searched_stop c.loop-i.invariant c.loop-i-test.true (omega arith)

@@ -4,11 +4,8 @@ use Prim.Native.Nat.{◌-◌}
 use native.Mathlib.Omega.{arith}
 use lib.ListN.{length, length-set}
 use Rattle.line.specs.Characters.{hex}
-use Rattle.line.proofs.Hex.{hex_start, hex_back, hex_all}
+use Rattle.line.proofs.Hex.{hex_back, hex_all}
 use Rattle.line.proofs.writing.write_number.Goals as goal
-
-pub loop-i-init : goal.loop-i-init
-loop-i-init c = (omega arith, omega arith, hex_start c.args.number c.args.area.now)
 
 pub loop-i-preserved : goal.loop-i-preserved
 loop-i-preserved c = (

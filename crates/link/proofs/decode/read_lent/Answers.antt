@@ -17,9 +17,6 @@ returns-then-not-read c =
     (c.clear.ensures ∙ ap (λ (t : ℕ). replicate t 0) (c.read.auto.message ∙ c.requires.3))
     (c.clear-then-not-read.ensures ∙ ap (λ (t : ℕ). replicate t 0) (c.read.auto.residual ∙ c.requires.4))
 
-pub altered_count-altered-requires : goal.altered_count-altered-requires
-altered_count-altered-requires c = omega (arith, c.read.auto.residual, c.requires.4)
-
 pub overflow_cast-result : goal.overflow_cast-result
 overflow_cast-result c =
     let a = c.args in

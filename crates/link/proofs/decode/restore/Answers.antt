@@ -10,49 +10,32 @@ use Rattle.link.specs.parts.Restoring.{Restored}
 use Rattle.link.proofs.Decoding.{restored_none, restored_more}
 use Rattle.link.proofs.decode.restore.Goals as goal
 
+-- Symbol f of row i lies within the woven area.
+symbol_in : {i f frames now rows long : ℕ} → i < now → now ≡ rows → long ≡ rows * frames → f < frames → i * frames + f < long
+symbol_in {i} {frames = frames} {rows = rows} l same size below =
+    let row : i < rows = omega arith in
+    omega (arith, mul-le-mul_right frames row)
+
 pub loop-i-init : goal.loop-i-init
 loop-i-init c = let a = c.args in (omega arith, restored_none a.q (column_of a.frames a.f a.woven.now) a.residual.now)
 
 pub overflow_mul-i : goal.overflow_mul-i
-overflow_mul-i c =
-    let row : c.loop-i.i * c.args.frames + c.args.frames ≤ length c.args.woven.now = let within : c.loop-i.i < length c.args.residual.now = omega (arith, c.loop-i.invariant.1.long) in
-    omega (arith, mul-le-mul_right c.args.frames within, c.requires.2) in
-    omega (arith, row)
+overflow_mul-i c = omega (arith, symbol_in c.loop-i-test.true c.loop-i.invariant.1.long c.requires.2 c.requires.1)
 
 pub overflow_add-i : goal.overflow_add-i
-overflow_add-i c =
-    let row : c.loop-i.i * c.args.frames + c.args.frames ≤ length c.args.woven.now = let within : c.loop-i.i < length c.args.residual.now = omega (arith, c.loop-i.invariant.1.long) in
-    omega (arith, mul-le-mul_right c.args.frames within, c.requires.2) in
-    omega (arith, row, c.requires.1)
+overflow_add-i c = omega (arith, symbol_in c.loop-i-test.true c.loop-i.invariant.1.long c.requires.2 c.requires.1)
 
 pub bounds-woven-i : goal.bounds-woven-i
-bounds-woven-i c =
-    let row : c.loop-i.i * c.args.frames + c.args.frames ≤ length c.args.woven.now = let within : c.loop-i.i < length c.args.residual.now = omega (arith, c.loop-i.invariant.1.long) in
-    omega (arith, mul-le-mul_right c.args.frames within, c.requires.2) in
-    omega (arith, row, c.requires.1)
-
-pub bounds-residual-i : goal.bounds-residual-i
-bounds-residual-i c = omega (arith, c.loop-i.invariant.1.long)
+bounds-woven-i c = symbol_in c.loop-i-test.true c.loop-i.invariant.1.long c.requires.2 c.requires.1
 
 pub subtract-symbol-requires : goal.subtract-symbol-requires
 subtract-symbol-requires c =
-    let row : c.loop-i.i * c.args.frames + c.args.frames ≤ length c.args.woven.now = let within : c.loop-i.i < length c.args.residual.now = omega (arith, c.loop-i.invariant.1.long) in
-    omega (arith, mul-le-mul_right c.args.frames within, c.requires.2) in
     let l = c.loop-i in
     let least : l.i ≤ l.i = omega arith in (
       c.requires.0,
-      c.requires.3.below (l.i * c.args.frames + c.args.f) (omega (arith, row, c.requires.1)),
+      c.requires.3.below (l.i * c.args.frames + c.args.f) (symbol_in c.loop-i-test.true l.invariant.1.long c.requires.2 c.requires.1),
       subst (λ (t : ℕ). t < c.args.q) (sym (l.invariant.1.outside l.i least)) (c.requires.4.below l.i (omega (arith, l.invariant.1.long))),
     )
-
-pub bounds-residual-i-in-loop-i : goal.bounds-residual-i-in-loop-i
-bounds-residual-i-in-loop-i c = omega (arith, c.loop-i.invariant.1.long)
-
-pub overflow_add-i-in-loop-i : goal.overflow_add-i-in-loop-i
-overflow_add-i-in-loop-i c = omega (arith, c.loop-i.invariant.1.long)
-
-pub loop-i-smaller : goal.loop-i-smaller
-loop-i-smaller c = omega (arith, c.loop-i.invariant.1.long)
 
 pub loop-i-preserved : goal.loop-i-preserved
 loop-i-preserved c =

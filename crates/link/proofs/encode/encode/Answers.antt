@@ -10,23 +10,29 @@ use Rattle.code.specs.Settings.{setting_of}
 use Rattle.code.specs.Windows.{Message}
 use Rattle.code.proofs.Settings.{sizes_of}
 use Rattle.tables.proofs.Lending.{narrow_of}
-use Rattle.question.specs.Questions.{most_blocks}
+use Rattle.question.specs.declared.Answer.{Answer}
+use Rattle.question.specs.Questions.{first_no, most_blocks, encoding_questions}
 use Rattle.question.proofs.Questions.{EncodingYes, encoding_yes, number_of}
 use Rattle.link.proofs.Encoding.{encoded_refused, encoded_sent}
 use Rattle.link.proofs.encode.encode.Goals as goal
 
--- Of the setting in hand, once every question got "yes".
-module _ (number : ℕ) (message : List ℕ) (area : ℕ) (known : EncodingYes number message area) (p : Setting) (e : p ≡ setting_of number) where
-  information : 1 ≤ p.k
-  information = subst (λ (p : Setting). 1 ≤ p.k) (sym e) (sizes_of number known.setting).information
+-- What is known once every question got "yes", and what that says of the setting in hand.
+module _ (number : ℕ) (message : List ℕ) (area : ℕ) {r : Answer} (answered : r ≡ first_no (encoding_questions number message area))
+    (all : r.number ≡ 0) where
+  known : EncodingYes number message area
+  known = encoding_yes number message area (number_of answered all)
 
-  few : length message / p.k + p.m ≤ most_blocks + 255
-  few =
-      subst (λ (p : Setting). length message / p.k + p.m ≤ most_blocks + 255) (sym e)
-      (omega (arith, known.most, (sizes_of number known.setting).memory_most))
+  module _ {p : Setting} (e : p ≡ setting_of number) where
+    information : 1 ≤ p.k
+    information = subst (λ (p : Setting). 1 ≤ p.k) (sym e) (sizes_of number known.setting).information
 
-  room : (length message / p.k + p.m) * p.n ≤ area
-  room = subst (λ (p : Setting). (length message / p.k + p.m) * p.n ≤ area) (sym e) known.room
+    few : length message / p.k + p.m ≤ most_blocks + 255
+    few =
+        subst (λ (p : Setting). length message / p.k + p.m ≤ most_blocks + 255) (sym e)
+        (omega (arith, known.most, (sizes_of number known.setting).memory_most))
+
+    room : (length message / p.k + p.m) * p.n ≤ area
+    room = subst (λ (p : Setting). (length message / p.k + p.m) * p.n ≤ area) (sym e) known.room
 
 pub returns-then-answer-ne0 : goal.returns-then-answer-ne0
 returns-then-answer-ne0 c =
@@ -36,57 +42,46 @@ returns-then-answer-ne0 c =
 pub setting_of-p-requires : goal.setting_of-p-requires
 setting_of-p-requires c =
     let a = c.args in
-    let known =
-    encoding_yes a.setting a.message.now (length a.transmission.now) (number_of c.encoding_questions-answer.ensures c.if-answer-ne0.false) in
-    known.setting
+    (known a.setting a.message.now (length a.transmission.now) c.encoding_questions-answer.ensures c.if-answer-ne0.false).setting
 
 pub nonzero_div-blocks : goal.nonzero_div-blocks
 nonzero_div-blocks c =
     let a = c.args in
-    let known =
-    encoding_yes a.setting a.message.now (length a.transmission.now) (number_of c.encoding_questions-answer.ensures c.if-answer-ne0.false) in
-    information a.setting a.message.now (length a.transmission.now) known c.setting_of-p.result c.setting_of-p.ensures
+    information a.setting a.message.now (length a.transmission.now) c.encoding_questions-answer.ensures c.if-answer-ne0.false c.setting_of-p.ensures
 
 pub overflow_add-long : goal.overflow_add-long
 overflow_add-long c =
     let a = c.args in
-    let known =
-    encoding_yes a.setting a.message.now (length a.transmission.now) (number_of c.encoding_questions-answer.ensures c.if-answer-ne0.false) in
-    omega (arith, few a.setting a.message.now (length a.transmission.now) known c.setting_of-p.result c.setting_of-p.ensures)
+    omega (arith, few a.setting a.message.now (length a.transmission.now) c.encoding_questions-answer.ensures c.if-answer-ne0.false c.setting_of-p.ensures)
 
 pub overflow_mul-long : goal.overflow_mul-long
 overflow_mul-long c =
     let a = c.args in
-    let known =
-    encoding_yes a.setting a.message.now (length a.transmission.now) (number_of c.encoding_questions-answer.ensures c.if-answer-ne0.false) in
-    omega (arith, room a.setting a.message.now (length a.transmission.now) known c.setting_of-p.result c.setting_of-p.ensures)
+    omega (arith, room a.setting a.message.now (length a.transmission.now) c.encoding_questions-answer.ensures c.if-answer-ne0.false c.setting_of-p.ensures)
 
 pub slice_bounds-encode_frame-end : goal.slice_bounds-encode_frame-end
 slice_bounds-encode_frame-end c =
     let a = c.args in
-    let known =
-    encoding_yes a.setting a.message.now (length a.transmission.now) (number_of c.encoding_questions-answer.ensures c.if-answer-ne0.false) in
-    room a.setting a.message.now (length a.transmission.now) known c.setting_of-p.result c.setting_of-p.ensures
+    omega (arith, room a.setting a.message.now (length a.transmission.now) c.encoding_questions-answer.ensures c.if-answer-ne0.false c.setting_of-p.ensures)
 
 pub slice_bounds-encode_frame-end-2 : goal.slice_bounds-encode_frame-end-2
 slice_bounds-encode_frame-end-2 c =
     let a = c.args in
-    let known =
-    encoding_yes a.setting a.message.now (length a.transmission.now) (number_of c.encoding_questions-answer.ensures c.if-answer-ne0.false) in
-    sym (length-take-le _ _ (room a.setting a.message.now (length a.transmission.now) known c.setting_of-p.result c.setting_of-p.ensures))
+    let fits = room a.setting a.message.now (length a.transmission.now) c.encoding_questions-answer.ensures c.if-answer-ne0.false c.setting_of-p.ensures in
+    sym (length-take-le _ _ (omega (arith, fits)))
 
 pub encode_frame-requires : goal.encode_frame-requires
 encode_frame-requires c =
     let a = c.args in
-    let known =
-    encoding_yes a.setting a.message.now (length a.transmission.now) (number_of c.encoding_questions-answer.ensures c.if-answer-ne0.false) in
-    let is = c.setting_of-p.ensures in (
-      known.setting,
-      is,
-      narrow_of a.setting c.setting_of-p.result known.setting is,
-      subst (λ (p : Setting). Message p (length a.message.now / p.k) a.message.now) (sym is) known.message_of,
-      subst (λ (p : Setting). length a.message.now / p.k ≤ most_blocks) (sym is) known.most,
-      length-take-le _ _ (room a.setting a.message.now (length a.transmission.now) known c.setting_of-p.result is),
+    let asked = c.encoding_questions-answer in
+    let k = known a.setting a.message.now (length a.transmission.now) asked.ensures c.if-answer-ne0.false in
+    let e = c.setting_of-p.ensures in (
+      k.setting,
+      e,
+      narrow_of a.setting c.setting_of-p.result k.setting e,
+      subst (λ (p : Setting). Message p (length a.message.now / p.k) a.message.now) (sym e) k.message_of,
+      subst (λ (p : Setting). length a.message.now / p.k ≤ most_blocks) (sym e) k.most,
+      length-take-le _ _ (room a.setting a.message.now (length a.transmission.now) asked.ensures c.if-answer-ne0.false e),
     )
 
 pub returns : goal.returns

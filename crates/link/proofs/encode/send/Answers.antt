@@ -1,14 +1,11 @@
 -- `link::encode::send`: the blocks before block i were sent.
 use mathlib.Core.Path.{◌≡◌, ap, subst, ◌∙◌}
-use Prim.Native.Nat.{ℕ, ◌+◌, ◌*◌}
+use Prim.Native.Nat.{ℕ, ◌*◌}
 use native.Mathlib.Omega.{arith}
 use lib.ListN.{replicate}
 use Rattle.link.specs.parts.Sending.{SentTo}
 use Rattle.link.proofs.Sending.{sent_none, sent_all}
 use Rattle.link.proofs.encode.send.Goals as goal
-
-pub clear-requires : goal.clear-requires
-clear-requires c = tt
 
 pub loop-i-init : goal.loop-i-init
 loop-i-init c =
@@ -23,19 +20,6 @@ loop-i-init c =
 
 pub send_block-requires : goal.send_block-requires
 send_block-requires c = (c.requires.0, c.loop-i-test.true, c.loop-i.invariant.1)
-
-pub overflow_add-i : goal.overflow_add-i
-overflow_add-i c = omega (arith, c.requires.0.most)
-
-pub loop-i-preserved : goal.loop-i-preserved
-loop-i-preserved c =
-    let a = c.args in
-    let i = c.loop-i.i in
-    let next : i * a.p.k + a.p.k ≡ (i + 1) * a.p.k = omega arith in (
-      omega arith,
-      subst (λ (t : ℕ). SentTo a.p a.blocks a.message.now t c.send_block.new.area) next
-          c.send_block.ensures,
-    )
 
 pub returns : goal.returns
 returns c =

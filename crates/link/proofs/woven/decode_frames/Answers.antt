@@ -1,10 +1,8 @@
 -- `link::woven::decode_frames`: the frames before f were decoded.
-use mathlib.Core.List.{List}
 use mathlib.Core.Path.{◌≡◌, refl, sym, ap, subst, ◌∙◌}
 use Prim.Native.Nat.{ℕ, ◌+◌, ◌*◌, ◌≤◌, ◌<◌}
-use native.Mathlib.Nat.{mul-le-mul}
 use native.Mathlib.Omega.{arith}
-use lib.ListN.{length, length-set}
+use lib.ListN.{length-set}
 use Rattle.area.proofs.Parts.{parts_apart, part_length, length_put}
 use Rattle.code.specs.declared.Setting.{Setting}
 use Rattle.code.specs.Settings.{setting_of}
@@ -15,88 +13,64 @@ use Rattle.link.proofs.WovenFrames.{no_answers, frames_none, frames_more}
 use Rattle.link.proofs.woven.decode_frames.Goals as goal
 
 -- Part f of each area lies within it, by the sizes of the setting in hand.
-module _ (p s : Setting) (blocks frames f : ℕ) (lent now : List ℕ) (e : p ≡ s) (l : f < frames) where
-  short_part_in : frames * (blocks * s.k) ≤ length lent → length now ≡ length lent → f * (blocks * p.k) + blocks * p.k ≤ length now
+module _ (number blocks : ℕ) {p : Setting} {frames f lent now : ℕ} (e : p ≡ setting_of number) (l : f < frames) where
+  short_part_in : frames * (blocks * (setting_of number).k) ≤ lent → now ≡ lent → f * (blocks * p.k) + blocks * p.k ≤ now
   short_part_in room same =
-      let all = subst (λ (p : Setting). frames * (blocks * p.k) ≤ length lent) (sym e) room in
+      let all = subst (λ (p : Setting). frames * (blocks * p.k) ≤ lent) (sym e) room in
       omega (arith, parts_apart (blocks * p.k) frames f l, all, same)
 
-  long_part_in : frames * ((blocks + s.m) * s.n) ≤ length lent → length now ≡ length lent
-      → f * ((blocks + p.m) * p.n) + (blocks + p.m) * p.n ≤ length now
+  long_part_in : frames * ((blocks + (setting_of number).m) * (setting_of number).n) ≤ lent → now ≡ lent
+      → f * ((blocks + p.m) * p.n) + (blocks + p.m) * p.n ≤ now
   long_part_in room same =
-      let all = subst (λ (p : Setting). frames * ((blocks + p.m) * p.n) ≤ length lent) (sym e) room in
+      let all = subst (λ (p : Setting). frames * ((blocks + p.m) * p.n) ≤ lent) (sym e) room in
       omega (arith, parts_apart ((blocks + p.m) * p.n) frames f l, all, same)
-
-pub setting_of-p-requires : goal.setting_of-p-requires
-setting_of-p-requires c = c.requires.0
 
 pub overflow_mul-short : goal.overflow_mul-short
 overflow_mul-short c =
-    let short_small = message_most c.args.setting c.setting_of-p.result c.args.blocks c.requires.0 c.setting_of-p.ensures c.requires.3 in
-    omega (arith, short_small)
+    omega (arith, message_most c.args.setting c.setting_of-p.result c.args.blocks c.requires.0 c.setting_of-p.ensures c.requires.3)
 
 pub overflow_add-long : goal.overflow_add-long
 overflow_add-long c = omega (arith, c.requires.3, (setting_sizes c.args.setting c.setting_of-p.result c.requires.0 c.setting_of-p.ensures).memory_most)
 
 pub overflow_mul-long : goal.overflow_mul-long
 overflow_mul-long c =
-    let long_small = transmission_most c.args.setting c.setting_of-p.result c.args.blocks c.requires.0 c.setting_of-p.ensures c.requires.3 in
-    omega (arith, long_small)
+    omega (arith, transmission_most c.args.setting c.setting_of-p.result c.args.blocks c.requires.0 c.setting_of-p.ensures c.requires.3)
 
 pub loop-f-init : goal.loop-f-init
 loop-f-init c = (omega arith, refl, refl, refl, frames_none _ _ _ _ _ _ _ (no_answers most_frames c.yes-answers.ensures))
 
 pub overflow_mul-message_start : goal.overflow_mul-message_start
 overflow_mul-message_start c =
-    let short_small = message_most c.args.setting c.setting_of-p.result c.args.blocks c.requires.0 c.setting_of-p.ensures c.requires.3 in
-    let some : c.loop-f.f ≤ most_frames = omega (arith, c.loop-f-test.true, c.requires.1) in
-    let start_small = mul-le-mul some short_small in
-    omega (arith, start_small)
+    omega (arith, short_part_in c.args.setting c.args.blocks c.setting_of-p.ensures c.loop-f-test.true c.requires.6 c.loop-f.invariant.1)
 
 pub overflow_add-message_end : goal.overflow_add-message_end
 overflow_add-message_end c =
-    let short_small = message_most c.args.setting c.setting_of-p.result c.args.blocks c.requires.0 c.setting_of-p.ensures c.requires.3 in
-    let long_small = transmission_most c.args.setting c.setting_of-p.result c.args.blocks c.requires.0 c.setting_of-p.ensures c.requires.3 in
-    let some : c.loop-f.f ≤ most_frames = omega (arith, c.loop-f-test.true, c.requires.1) in
-    let start_small = mul-le-mul some short_small in
-    omega (arith, start_small, short_small, long_small)
+    omega (
+      arith,
+      short_part_in c.args.setting c.args.blocks c.setting_of-p.ensures c.loop-f-test.true c.requires.6 c.loop-f.invariant.1,
+      transmission_most c.args.setting c.setting_of-p.result c.args.blocks c.requires.0 c.setting_of-p.ensures c.requires.3,
+    )
 
 pub overflow_mul-start : goal.overflow_mul-start
 overflow_mul-start c =
-    let transmission_part =
-    long_part_in c.setting_of-p.result (setting_of c.args.setting) c.args.blocks c.args.frames c.loop-f.f c.args.transmission.now c.loop-f.transmission
-    c.setting_of-p.ensures c.loop-f-test.true c.requires.7 c.loop-f.invariant.2 in
-    omega (arith, transmission_part)
+    omega (arith, long_part_in c.args.setting c.args.blocks c.setting_of-p.ensures c.loop-f-test.true c.requires.7 c.loop-f.invariant.2)
 
 pub overflow_add-end : goal.overflow_add-end
 overflow_add-end c =
-    let transmission_part =
-    long_part_in c.setting_of-p.result (setting_of c.args.setting) c.args.blocks c.args.frames c.loop-f.f c.args.transmission.now c.loop-f.transmission
-    c.setting_of-p.ensures c.loop-f-test.true c.requires.7 c.loop-f.invariant.2 in
-    omega (arith, transmission_part)
+    omega (arith, long_part_in c.args.setting c.args.blocks c.setting_of-p.ensures c.loop-f-test.true c.requires.7 c.loop-f.invariant.2)
 
 pub slice_bounds-decode_frame-end : goal.slice_bounds-decode_frame-end
 slice_bounds-decode_frame-end c =
-    let message_part =
-    short_part_in c.setting_of-p.result (setting_of c.args.setting) c.args.blocks c.args.frames c.loop-f.f c.args.message.now c.loop-f.message
-    c.setting_of-p.ensures c.loop-f-test.true c.requires.6 c.loop-f.invariant.1 in
-    omega (arith, message_part)
+    short_part_in c.args.setting c.args.blocks c.setting_of-p.ensures c.loop-f-test.true c.requires.6 c.loop-f.invariant.1
 
 pub slice_bounds-decode_frame-end-in-loop-f : goal.slice_bounds-decode_frame-end-in-loop-f
 slice_bounds-decode_frame-end-in-loop-f c =
-    let transmission_part =
-    long_part_in c.setting_of-p.result (setting_of c.args.setting) c.args.blocks c.args.frames c.loop-f.f c.args.transmission.now c.loop-f.transmission
-    c.setting_of-p.ensures c.loop-f-test.true c.requires.7 c.loop-f.invariant.2 in
-    omega (arith, transmission_part)
+    long_part_in c.args.setting c.args.blocks c.setting_of-p.ensures c.loop-f-test.true c.requires.7 c.loop-f.invariant.2
 
 pub decode_frame-answer-requires : goal.decode_frame-answer-requires
 decode_frame-answer-requires c =
-    let message_part =
-    short_part_in c.setting_of-p.result (setting_of c.args.setting) c.args.blocks c.args.frames c.loop-f.f c.args.message.now c.loop-f.message
-    c.setting_of-p.ensures c.loop-f-test.true c.requires.6 c.loop-f.invariant.1 in
-    let transmission_part =
-    long_part_in c.setting_of-p.result (setting_of c.args.setting) c.args.blocks c.args.frames c.loop-f.f c.args.transmission.now c.loop-f.transmission
-    c.setting_of-p.ensures c.loop-f-test.true c.requires.7 c.loop-f.invariant.2 in
+    let message_part = short_part_in c.args.setting c.args.blocks c.setting_of-p.ensures c.loop-f-test.true c.requires.6 c.loop-f.invariant.1 in
+    let transmission_part = long_part_in c.args.setting c.args.blocks c.setting_of-p.ensures c.loop-f-test.true c.requires.7 c.loop-f.invariant.2 in
     let a = c.args in
     let short = a.blocks * c.setting_of-p.result.k in
     let long = (a.blocks + c.setting_of-p.result.m) * c.setting_of-p.result.n in
@@ -113,32 +87,10 @@ decode_frame-answer-requires c =
       long_part,
     )
 
-pub offset_bounds-answers-f : goal.offset_bounds-answers-f
-offset_bounds-answers-f c =
-    let few : c.loop-f.f < most_frames = omega (arith, c.loop-f-test.true, c.requires.1) in
-    omega (arith, few)
-
-pub bounds-answers-f : goal.bounds-answers-f
-bounds-answers-f c =
-    let few : c.loop-f.f < most_frames = omega (arith, c.loop-f-test.true, c.requires.1) in
-    few
-
-pub overflow_add-f : goal.overflow_add-f
-overflow_add-f c =
-    let few : c.loop-f.f < most_frames = omega (arith, c.loop-f-test.true, c.requires.1) in
-    omega (arith, few)
-
-pub loop-f-smaller : goal.loop-f-smaller
-loop-f-smaller c = omega (arith, c.loop-f-test.true)
-
 pub loop-f-preserved : goal.loop-f-preserved
 loop-f-preserved c =
-    let message_part =
-    short_part_in c.setting_of-p.result (setting_of c.args.setting) c.args.blocks c.args.frames c.loop-f.f c.args.message.now c.loop-f.message
-    c.setting_of-p.ensures c.loop-f-test.true c.requires.6 c.loop-f.invariant.1 in
-    let transmission_part =
-    long_part_in c.setting_of-p.result (setting_of c.args.setting) c.args.blocks c.args.frames c.loop-f.f c.args.transmission.now c.loop-f.transmission
-    c.setting_of-p.ensures c.loop-f-test.true c.requires.7 c.loop-f.invariant.2 in
+    let message_part = short_part_in c.args.setting c.args.blocks c.setting_of-p.ensures c.loop-f-test.true c.requires.6 c.loop-f.invariant.1 in
+    let transmission_part = long_part_in c.args.setting c.args.blocks c.setting_of-p.ensures c.loop-f-test.true c.requires.7 c.loop-f.invariant.2 in
     let few : c.loop-f.f < most_frames = omega (arith, c.loop-f-test.true, c.requires.1) in
     let a = c.args in
     let short = a.blocks * c.setting_of-p.result.k in

@@ -9,7 +9,8 @@ use Rattle.link.proofs.woven.decode_frames.Given as goal
 
 abbrev pub invariant-loop-f : goal.invariant-loop-f
 invariant-loop-f l =
-    (l.f ≤ l.frames) × (length l.message ≡ length l.initial.message) × (length l.transmission ≡ length l.initial.transmission) × (length l.answers ≡ most_frames)
+    (l.f ≤ l.frames) × (length l.message ≡ length l.initial.message) × (length l.transmission ≡ length l.initial.transmission)
+    × (length l.answers ≡ most_frames)
     × FramesTo (setting_of l.setting) l.blocks l.frames l.f l.woven l.initial.message l.initial.transmission l.answers l.message l.transmission
 
 abbrev pub decreases-loop-f : goal.decreases-loop-f

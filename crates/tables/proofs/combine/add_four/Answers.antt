@@ -14,15 +14,6 @@ next {q} {v} {i} {row} {before} {between} {after} count L M =
     added_up q v row i (i + count) (i + count) (i + count + 1) (i + (count + 1)) (omega arith) (omega arith) (omega arith) (omega arith)
     before between after L M
 
-pub add_place-requires : goal.add_place-requires
-add_place-requires c = let p = c.requires in (p.0, p.1, p.2, p.3, p.4, omega (arith, p.5), omega (arith, p.6))
-
-pub add_place-requires-2 : goal.add_place-requires-2
-add_place-requires-2 c =
-    let p = c.requires in
-    let done = c.add_place.ensures in
-    (p.0, p.1, p.2, p.3, done.symbols, omega (arith, p.5), omega (arith, p.6, done.long))
-
 pub add_place-requires-3 : goal.add_place-requires-3
 add_place-requires-3 c =
     let p = c.requires in

@@ -14,14 +14,6 @@ loop-area-init c =
     let a = c.args in
     (omega arith, added_none a.q a.v a.row.now 0 a.area.now c.requires.4)
 
-pub overflow_sub-area : goal.overflow_sub-area
-overflow_sub-area c = omega (arith, c.loop-area.invariant.0, c.loop-area.invariant.1.long)
-
-pub add_four-requires : goal.add_four-requires
-add_four-requires c =
-    let p = c.requires in
-    (p.0, p.1, p.2, p.3, c.loop-area.invariant.1.symbols, omega (arith, p.5, c.loop-area.invariant.1.long), omega (arith, c.loop-area.invariant.1.long))
-
 pub loop-area-preserved : goal.loop-area-preserved
 loop-area-preserved c =
     let a = c.args in
@@ -30,6 +22,3 @@ loop-area-preserved c =
       added_up a.q a.v a.row.now 0 i i (i + 4) (i + 4) (omega arith) (omega arith) (omega arith) (omega arith) a.area.now _ _ c.loop-area.invariant.1
           c.add_four.ensures,
     )
-
-pub returns : goal.returns
-returns c = c.loop-area.invariant

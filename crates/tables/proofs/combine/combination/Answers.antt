@@ -28,9 +28,6 @@ times_g-part-requires c =
     let within = block_within c.args.p.k c.args.l c.loop-j.j (length c.args.information.now) c.requires.2 in
     (c.requires.0, c.requires.1, omega (arith, within), omega (arith, c.requires.3), c.requires.4)
 
-pub add-sum-requires : goal.add-sum-requires
-add-sum-requires c = (c.requires.0.sound.good, c.loop-j.invariant.1.below, c.times_g-part.ensures.below)
-
 pub overflow_add-j : goal.overflow_add-j
 overflow_add-j c = omega (arith, c.requires.3, (sizes c.args.p c.requires.0.sound).memory_most)
 

@@ -1,13 +1,21 @@
 -- `tables::combine::times_g`: the loop makes the sum over the rows of G_j.
 use mathlib.Core.Path.{◌≡◌, refl, ap, ◌∙◌}
-use Prim.Native.Nat.{◌+◌}
+use mathlib.Core.List.{List}
+use Prim.Native.Nat.{ℕ, ◌+◌, ◌≤◌, ◌<◌}
 use native.Mathlib.Omega.{arith}
+use Rattle.field.specs.parts.Products.{Products}
 use Rattle.field.proofs.Symbols.{symbol_below}
 use Rattle.field.proofs.LoopSums.{sum_none, sum_more}
+use Rattle.code.specs.declared.Setting.{Setting}
 use Rattle.code.proofs.Settings.{sizes}
 use Rattle.code.proofs.CodeBelow.{positive}
-use Rattle.tables.proofs.Places.{place_of, product_sum, product_sum_all}
+use Rattle.tables.specs.parts.Rows.{Ready}
+use Rattle.tables.proofs.Places.{Place, place_of, product_sum, product_sum_all}
 use Rattle.tables.proofs.combine.times_g.Goals as goal
+
+-- Where symbol i of row r of G_j stands in the lent rows.
+placed : {p : Setting} {products : Products} {rows : List ℕ} {j r i : ℕ} → Ready p products rows → j ≤ p.m → r < p.k → i < p.n → Place p rows j r i
+placed {p} {rows = rows} {j} {r} {i} ready lj lr li = place_of p ready.sound rows ready.rows j r i lj lr li
 
 pub overflow_add-powers : goal.overflow_add-powers
 overflow_add-powers c = omega (arith, (sizes c.args.p c.requires.0.sound).memory_most)
@@ -16,39 +24,28 @@ pub loop-r-init : goal.loop-r-init
 loop-r-init c = (omega arith, sum_none _ _ c.requires.0.sound.good)
 
 pub overflow_mul-r : goal.overflow_mul-r
-overflow_mul-r c =
-    let placed = place_of c.args.p c.requires.0.sound c.args.rows.now c.requires.0.rows c.args.j c.loop-r.r c.args.i c.requires.3 c.loop-r-test.true c.requires.4 in
-    omega (arith, placed.group)
+overflow_mul-r c = omega (arith, (placed c.requires.0 c.requires.3 c.loop-r-test.true c.requires.4).group)
 
 pub overflow_add-r : goal.overflow_add-r
-overflow_add-r c =
-    let placed = place_of c.args.p c.requires.0.sound c.args.rows.now c.requires.0.rows c.args.j c.loop-r.r c.args.i c.requires.3 c.loop-r-test.true c.requires.4 in
-    omega (arith, placed.row)
+overflow_add-r c = omega (arith, (placed c.requires.0 c.requires.3 c.loop-r-test.true c.requires.4).row)
 
 pub overflow_mul-r-in-loop-r : goal.overflow_mul-r-in-loop-r
-overflow_mul-r-in-loop-r c =
-    let placed = place_of c.args.p c.requires.0.sound c.args.rows.now c.requires.0.rows c.args.j c.loop-r.r c.args.i c.requires.3 c.loop-r-test.true c.requires.4 in
-    omega (arith, placed.start)
+overflow_mul-r-in-loop-r c = omega (arith, (placed c.requires.0 c.requires.3 c.loop-r-test.true c.requires.4).start)
 
 pub overflow_add-r-in-loop-r : goal.overflow_add-r-in-loop-r
-overflow_add-r-in-loop-r c =
-    let placed = place_of c.args.p c.requires.0.sound c.args.rows.now c.requires.0.rows c.args.j c.loop-r.r c.args.i c.requires.3 c.loop-r-test.true c.requires.4 in
-    omega (arith, placed.place)
+overflow_add-r-in-loop-r c = omega (arith, (placed c.requires.0 c.requires.3 c.loop-r-test.true c.requires.4).place)
 
 pub bounds-rows-r : goal.bounds-rows-r
-bounds-rows-r c =
-    let placed = place_of c.args.p c.requires.0.sound c.args.rows.now c.requires.0.rows c.args.j c.loop-r.r c.args.i c.requires.3 c.loop-r-test.true c.requires.4 in
-    placed.place
+bounds-rows-r c = (placed c.requires.0 c.requires.3 c.loop-r-test.true c.requires.4).place
 
 pub add_product-sum-requires : goal.add_product-sum-requires
 add_product-sum-requires c =
-    let placed = place_of c.args.p c.requires.0.sound c.args.rows.now c.requires.0.rows c.args.j c.loop-r.r c.args.i c.requires.3 c.loop-r-test.true c.requires.4 in
     let positive-q = positive c.args.p c.requires.0.sound in (
       c.requires.0.sound.good,
       c.requires.0.products,
       c.loop-r.invariant.1.below,
       symbol_below c.args.p.q c.args.information.now c.requires.1 positive-q (c.args.from + c.loop-r.r),
-      placed.below,
+      (placed c.requires.0 c.requires.3 c.loop-r-test.true c.requires.4).below,
     )
 
 pub overflow_add-r-in-loop-r-2 : goal.overflow_add-r-in-loop-r-2
