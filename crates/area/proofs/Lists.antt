@@ -1,15 +1,17 @@
 -- Lists as blocks: tabulated lists, symbols of a list, equal parts.
--- Holds: `length_tabulate`, `get_d_tabulate`, `tabulated`, `view_tabulate`, `get_d_zeros`, `equal_part`, `part_equal`, `copied_whole`;
--- `filled`, `stored` (a loop that fills places); `place_in_blocks`, `blocks_hold`, `equal_blocks`, `window_view` (places by block and symbol).
-use mathlib.Core.Path.{◌≡◌, refl, sym, ap, ap₂, ◌∙◌, subst}
-use mathlib.Core.List.{List, ◌++◌, append-nil}
+-- Holds: `length_tabulate`, `get_d_tabulate`, `tabulated`, `view_tabulate`, `get_d_zeros`, `equal_part`, `part_equal`;
+-- `stored` (a loop that fills places); `place_in_blocks`, `blocks_hold`, `equal_blocks`, `window_view` (places by block and symbol).
+use mathlib.Core.Path.{◌≡◌, refl, sym, ap, ◌∙◌, subst}
+use mathlib.Core.List.{List}
 use Prim.Native.Nat.{ℕ, zero, suc, ◌+◌, ◌*◌, ◌/◌, ◌%◌, ◌≤◌, ◌<◌}
 use native.Mathlib.Nat.{div-lt_iff_lt-mul, mod-lt, div-add-mod'}
 use native.Mathlib.Omega.{arith}
-use native.Mathlib.Decide.{dec_lt, ℕ_discrete}
+use native.Mathlib.Decide.{ℕ_discrete}
 use lib.Arith.{digits_div, digits_mod, digits_lt}
-use lib.ListN.{length, get_or, take, drop, set, replicate, drop_of_length-le, length-take, length-replicate, get_or-replicate, get_or-eq_default}
-use lib.Seq.{ext_get_or, get_or-take, get_or-drop, take-length, get_or-set_same, get_or-set_other}
+use lib.ListN.{length, get_or, take, drop, set, replicate, length-take}
+use lib.Seq.{ext_get_or, get_or-take, get_or-drop, get_or-set_same, get_or-set_other}
+use Rattle.std.proofs.Common.{rules}
+use Rattle.std.proofs.lemmas.List.{places}
 use Rattle.area.specs.Lists.{view, tabulate}
 
 pub length_tabulate : {A : Type 0} (n : ℕ) (f : ℕ → A) → length (tabulate n f) ≡ n
@@ -38,15 +40,11 @@ view_tabulate blocks w f s i l h =
 
 -- Zeros hold zero at any place, and past their end.
 pub get_d_zeros : (n i : ℕ) → ◌≡◌ {A = ℕ} (get_or (replicate n 0) i 0) 0
-get_d_zeros n i = at (dec_lt i n)
-  where
-    at : Dec (i < n) → ◌≡◌ {A = ℕ} (get_or (replicate n 0) i 0) 0
-    at (yes l) = get_or-replicate n i 0 0 l
-    at (no d) = get_or-eq_default (replicate n 0) 0 (omega (arith, length-replicate {A = ℕ} n 0))
+get_d_zeros n i = search (rules, places)
 
 -- Lists with equal beginnings have equal symbols there..
 pub equal_part : (a b : List ℕ) (n : ℕ) → take n a ≡ take n b → (i : ℕ) → i < n → get_or a i 0 ≡ get_or b i 0
-equal_part a b n e i l = sym (get_or-take n a i 0 l) ∙ (ap (λ (t : List ℕ). get_or t i 0) e ∙ get_or-take n b i 0 l)
+equal_part a b n e i l = search (rules, places)
 
 -- .. and the other way round.
 pub part_equal : (a b : List ℕ) (n : ℕ) → n ≤ length a → n ≤ length b → ((i : ℕ) → i < n → get_or a i 0 ≡ get_or b i 0) → take n a ≡ take n b
@@ -56,27 +54,14 @@ part_equal a b n la lb h =
     ext_get_or 0 (take n a) (take n b) (long_a ∙ sym long_b)
     (λ i l. let below : i < n = omega arith in get_or-take n a i 0 below ∙ (h i below ∙ sym (get_or-take n b i 0 below)))
 
--- A copy into an area of the same length is the whole source.
-pub copied_whole : (source area after : List ℕ) → length area ≡ length source → after ≡ take (length source) source ++ drop (length source) area
-    → after ≡ source
-copied_whole source area after same e =
-    let short : length area ≤ length source = omega arith in
-    e ∙ (ap₂ ◌++◌ (take-length source) (drop_of_length-le area short) ∙ append-nil source)
-
--- A loop fills places one after the other: place a is to hold what is right for a, it does for a < i, and what is right for i is stored in place i.
-pub filled : {A : Type 0} (none : A) (l : List A) (place : ℕ → ℕ) (right : ℕ → A → Type 0) (i : ℕ) (v : A) → place i < length l → right i v
-    → ((a : ℕ) → a < i → place a ≡ place i → ⊥) → ((a : ℕ) → a < i → right a (get_or l (place a) none))
-    → (a : ℕ) → a < i + 1 → right a (get_or (set l (place i) v) (place a) none)
-filled {A} none l place right i v room e apart before a h = at (ℕ_discrete a i)
-  where
-    at : Dec (a ≡ i) → right a (get_or (set l (place i) v) (place a) none)
-    at (yes s) = subst (λ (t : ℕ). right t (get_or (set l (place i) v) (place t) none)) (sym s) (subst (right i) (sym (get_or-set_same l (place i) v none room)) e)
-    at (no d) = let below : a < i = omega arith in subst (right a) (sym (get_or-set_other l (place i) (place a) v none (apart a below))) (before a below)
-
--- The same where place a is to hold f a.
+-- A loop fills places one after the other: place a is to hold f a, it does for a < i, and f i is stored in place i.
 pub stored : (l : List ℕ) (place f : ℕ → ℕ) (i v : ℕ) → place i < length l → v ≡ f i → ((a : ℕ) → a < i → place a ≡ place i → ⊥)
     → ((a : ℕ) → a < i → get_or l (place a) 0 ≡ f a) → (a : ℕ) → a < i + 1 → get_or (set l (place i) v) (place a) 0 ≡ f a
-stored l place f = filled 0 l place (λ a x. x ≡ f a)
+stored l place f i v room e apart before a h = at (ℕ_discrete a i)
+  where
+    at : Dec (a ≡ i) → get_or (set l (place i) v) (place a) 0 ≡ f a
+    at (yes s) = subst (λ (t : ℕ). get_or (set l (place i) v) (place t) 0 ≡ f t) (sym s) (get_or-set_same l (place i) v 0 room ∙ e)
+    at (no d) = let below : a < i = omega arith in get_or-set_other l (place i) (place a) v 0 (apart a below) ∙ before a below
 
 -- A place of a list of blocks of w symbols is a block and a symbol of it.
 pub place_in_blocks : (j i w : ℕ) → 1 ≤ w → i < j * w → (i / w < j) × (i % w < w) × (i / w * w + i % w ≡ i)

@@ -1,31 +1,28 @@
 -- A part of a list as it is lent, and the list with another part in its place (`put_mid`, what a lent part leaves in the whole), place by place.
--- Holds: `front_weight`; `part_size`, `part_length`, `part_symbol`, `part_weight`; `put_length`, `put_before`, `put_inside`, `put_after`.
+-- Holds: `front_weight`; `part_size`, `part_length`, `part_symbol`; `put_length`, `put_before`, `put_inside`, `put_after`.
 -- Of lists of parts of one size (`part_at`, `in_turn`): `parts_apart`, `length_part_at`, `part_at_symbol`; of a part put back (`with_part`) `part_put`,
 -- `length_put`, `part_put_before`, `drop_put`; of an area whose parts are known `take_in_turn`, `in_turn_of_parts`; `length_in_turn`, `part_at_in_turn`; of a
 -- loop that puts one part after another `PartsTo`, `parts_none`, `parts_more`.
 use mathlib.Core.Path.{◌≡◌, refl, sym, ap, ap₂, ◌∙◌, subst}
-use mathlib.Core.Bool.{not}
 use mathlib.Core.List.{List, ◌++◌}
 use Prim.Native.Nat.{ℕ, zero, suc, ◌+◌, ◌-◌, ◌*◌, ◌≤◌, ◌<◌}
 use native.Mathlib.Nat.{mul-le-mul_right}
 use native.Mathlib.Omega.{arith}
 use native.Mathlib.Decide.{ℕ_discrete}
-use lib.Dec.{eqb}
-use lib.ListN.{length, get_or, take, drop, length-append, length-drop, take-append-drop, get_or-append}
-use lib.Seq.{get_or-take, get_or-drop, get_or-append-add, length-take-le, take_at, drop_at, drop-drop, take-add}
-use borrow.Rule.Slice.PartMut.{put_mid, same_len_mid}
-use Rattle.algebra.specs.Ops.{pick}
-use Rattle.algebra.proofs.Weights.{count_of_ext, total_split}
+use lib.ListN.{length, get_or, take, drop, length-append, length-drop, take-append-drop}
+use lib.Seq.{get_or-drop, take_at, drop_at, take-add}
+use borrow.Rule.Slice.PartMut.{put_mid}
+use Rattle.std.proofs.Common.{rules}
+use Rattle.std.proofs.lemmas.List.{places}
+use Rattle.std.proofs.lemmas.Slice.{overwrites}
 use Rattle.area.specs.Lists.{part_at, in_turn}
 use Rattle.area.specs.parts.Weights.{weight_to, weight_of}
 use Rattle.area.proofs.Lists.{part_equal}
+use Rattle.area.proofs.Weights.{front_counts, weight_counts}
 
 -- The weight of the first n elements.
 pub front_weight : (n : ℕ) (whole : List ℕ) → n ≤ length whole → weight_of (take n whole) ≡ weight_to whole n
-front_weight n whole h =
-    ap (weight_to (take n whole)) (length-take-le n whole h)
-    ∙ count_of_ext n (λ i. not (eqb (get_or (take n whole) i 0) 0)) (λ i. not (eqb (get_or whole i 0) 0))
-    (λ i l. ap (λ (t : ℕ). not (eqb t 0)) (get_or-take n whole i 0 l))
+front_weight n whole h = weight_counts (take n whole) ∙ sym (front_counts whole n h)
 
 -- The n elements from `start` on, with their number as the code computes it.
 module _ (n start : ℕ) (whole : List ℕ) where
@@ -33,47 +30,24 @@ module _ (n start : ℕ) (whole : List ℕ) where
   part_size = omega arith
 
   pub part_length : start + n ≤ length whole → length (take (start + n - start) (drop start whole)) ≡ n
-  part_length h = length-take-le (start + n - start) (drop start whole) (omega (arith, length-drop start whole)) ∙ part_size
+  part_length h = search (rules, places)
 
   pub part_symbol : (i : ℕ) → i < n → get_or (take (start + n - start) (drop start whole)) i 0 ≡ get_or whole (start + i) 0
-  part_symbol i l =
-      let below : i < start + n - start = omega arith in
-      get_or-take (start + n - start) (drop start whole) i 0 below ∙ get_or-drop start whole i 0
-
-  -- What the part adds to the weight of the list up to it.
-  pub part_weight : start + n ≤ length whole → weight_to whole start + weight_of (take (start + n - start) (drop start whole)) ≡ weight_to whole (start + n)
-  part_weight h =
-      ap (λ (t : ℕ). weight_to whole start + t)
-      (ap (λ (t : ℕ). weight_of (take t (drop start whole))) part_size
-      ∙ (front_weight n (drop start whole) (omega (arith, length-drop start whole))
-      ∙ count_of_ext n (λ i. not (eqb (get_or (drop start whole) i 0) 0)) (λ i. not (eqb (get_or whole (start + i) 0) 0))
-      (λ i l. ap (λ (t : ℕ). not (eqb t 0)) (get_or-drop start whole i 0))))
-      ∙ sym (total_split start n (λ i. pick (not (eqb (get_or whole i 0) 0)) 1 0))
+  part_symbol i l = search (rules, places)
 
 -- The whole with another part ys in the place of the k elements from a on.
 module _ (a k : ℕ) (xs ys : List ℕ) (room : a + k ≤ length xs) (long : length ys ≡ k) where
-  start_long : length (take a xs) ≡ a
-  start_long = length-take-le a xs (omega arith)
-
   pub put_length : length (put_mid a k xs ys) ≡ length xs
-  put_length = same_len_mid a k xs ys (long ∙ sym (length-take-le k (drop a xs) (omega (arith, length-drop a xs))))
+  put_length = search (rules, places)
 
   pub put_before : (i : ℕ) → i < a → get_or (put_mid a k xs ys) i 0 ≡ get_or xs i 0
-  put_before i l = get_or-append (take a xs) (ys ++ drop k (drop a xs)) 0 i (omega (arith, start_long)) ∙ get_or-take a xs i 0 l
+  put_before i l = search (rules, places)
 
   pub put_inside : (i : ℕ) → i < k → get_or (put_mid a k xs ys) (a + i) 0 ≡ get_or ys i 0
-  put_inside i l =
-      ap (λ (t : ℕ). get_or (put_mid a k xs ys) (t + i) 0) (sym start_long)
-      ∙ (get_or-append-add (take a xs) (ys ++ drop k (drop a xs)) i 0 ∙ get_or-append ys (drop k (drop a xs)) 0 i (omega arith))
+  put_inside i l = search (rules, places)
 
   pub put_after : (i : ℕ) → a + k ≤ i → get_or (put_mid a k xs ys) i 0 ≡ get_or xs i 0
-  put_after i l =
-      let far : i ≡ length (take a xs) + (length ys + (i - (a + k))) = omega (arith, start_long) in
-      let back : a + (k + (i - (a + k))) ≡ i = omega arith in
-      ap (λ (t : ℕ). get_or (put_mid a k xs ys) t 0) far
-      ∙ (get_or-append-add (take a xs) (ys ++ drop k (drop a xs)) (length ys + (i - (a + k))) 0
-      ∙ (get_or-append-add ys (drop k (drop a xs)) (i - (a + k)) 0
-      ∙ (get_or-drop k (drop a xs) (i - (a + k)) 0 ∙ (get_or-drop a xs (k + (i - (a + k))) 0 ∙ ap (λ (t : ℕ). get_or xs t 0) back))))
+  put_after i l = search (rules, places)
 
 -- The end of part g lies not past the start of part f.
 pub parts_apart : (size f g : ℕ) → g < f → g * size + size ≤ f * size
@@ -82,15 +56,14 @@ parts_apart size f g h = let next : g + 1 ≤ f = omega arith in omega (arith, m
 -- The length of a part, and its symbols.
 module _ (size f : ℕ) (l : List ℕ) where
   pub length_part_at : f * size + size ≤ length l → length (part_at size f l) ≡ size
-  length_part_at room = length-take-le size (drop (f * size) l) (omega (arith, length-drop (f * size) l))
+  length_part_at room = search (rules, places)
 
   pub part_at_symbol : (i : ℕ) → i < size → get_or (part_at size f l) i 0 ≡ get_or l (f * size + i) 0
-  part_at_symbol i h = get_or-take size (drop (f * size) l) i 0 h ∙ get_or-drop (f * size) l i 0
+  part_at_symbol i h = search (rules, places)
 
 -- What lies after part f lies a part further than what starts with it.
 drop_next : (size f : ℕ) (l : List ℕ) → drop ((f + 1) * size) l ≡ drop size (drop (f * size) l)
-drop_next size f l =
-    let place : (f + 1) * size ≡ f * size + size = omega arith in ap (λ (t : ℕ). drop t l) place ∙ sym (drop-drop size (f * size) l)
+drop_next size f l = search (rules, overwrites)
 
 -- A list of parts with ys in the place of part f, as a lent part leaves it, its number of elements as the code computes it.
 abbrev pub with_part : ℕ → ℕ → List ℕ → List ℕ → List ℕ
@@ -101,16 +74,11 @@ module _ (size f : ℕ) (xs ys : List ℕ) (room : f * size + size ≤ length xs
   sized : with_part size f xs ys ≡ put_mid (f * size) size xs ys
   sized = ap (λ (k : ℕ). put_mid (f * size) k xs ys) (part_size size (f * size) xs)
 
-  drop_start : drop (f * size) (with_part size f xs ys) ≡ ys ++ drop size (drop (f * size) xs)
-  drop_start =
-      ap (drop (f * size)) sized
-      ∙ drop_at (take (f * size) xs) (ys ++ drop size (drop (f * size) xs)) (f * size) (length-take-le (f * size) xs (omega (arith, room)))
-
   pub part_put : part_at size f (with_part size f xs ys) ≡ ys
-  part_put = ap (take size) drop_start ∙ take_at ys (drop size (drop (f * size) xs)) size long
+  part_put = search (rules, overwrites)
 
   pub length_put : length (with_part size f xs ys) ≡ length xs
-  length_put = ap length sized ∙ put_length (f * size) size xs ys room long
+  length_put = search (rules, places)
 
   pub part_put_before : (g : ℕ) → g < f → part_at size g (with_part size f xs ys) ≡ part_at size g xs
   part_put_before g h =
@@ -124,19 +92,14 @@ module _ (size f : ℕ) (xs ys : List ℕ) (room : f * size + size ≤ length xs
 
   pub drop_put : (before : List ℕ) → drop (f * size) xs ≡ drop (f * size) before
       → drop ((f + 1) * size) (with_part size f xs ys) ≡ drop ((f + 1) * size) before
-  drop_put before e =
-      drop_next size f (with_part size f xs ys)
-      ∙ (ap (drop size) drop_start
-      ∙ (drop_at ys (drop size (drop (f * size) xs)) size long ∙ (ap (drop size) e ∙ sym (drop_next size f before))))
+  drop_put before e = search (rules, overwrites)
 
 -- The first part, and the others as parts of the rest.
 part_first : (size : ℕ) (l : List ℕ) → part_at size 0 l ≡ take size l
-part_first size l = let none : 0 * size ≡ 0 = omega arith in ap (λ (t : ℕ). take size (drop t l)) none
+part_first size l = search (rules, overwrites)
 
 part_next : (size f : ℕ) (l : List ℕ) → part_at size (suc f) l ≡ part_at size f (drop size l)
-part_next size f l =
-    let place : suc f * size ≡ size + f * size = omega arith in
-    ap (λ (t : ℕ). take size (drop t l)) place ∙ ap (take size) (sym (drop-drop (f * size) size l))
+part_next size f l = search (rules, overwrites)
 
 -- The first D parts, where they are known, ..
 pub take_in_turn : (size D : ℕ) (g : ℕ → List ℕ) (l : List ℕ) → ((f : ℕ) → f < D → part_at size f l ≡ g f) → take (D * size) l ≡ in_turn D g

@@ -1,6 +1,6 @@
 -- The same on the numbers below q, as the code has it: if the information x is near, it is the information that was read.
 -- Holds: `recovered_more`, `degree_of_near_below`, `read_of_near`.
-use mathlib.Core.Path.{◌≡◌, refl, sym, ap, subst, ◌∙◌}
+use mathlib.Core.Path.{◌≡◌, refl, sym, ap, ◌∙◌}
 use mathlib.Core.List.{List}
 use Prim.Native.Nat.{ℕ, suc, ◌+◌, ◌-◌, ◌*◌, ◌≤◌, ◌<◌}
 use native.Mathlib.Numerals.{add-one}
@@ -28,8 +28,9 @@ use Rattle.code.proofs.Recovery.{recovered_step}
 use Rattle.code.proofs.CodeBelow.{laws, field_of, root_of, order_at, over_field, lifted, times_g_number, combination_number, ending_number, received}
 use Rattle.code.proofs.CodeBelow.{received_number, value_number}
 use Rattle.code.proofs.Settings.{level_fits, information_fits}
+use Rattle.block.specs.declared.locator.Locator.{Locator}
 use Rattle.block.specs.parts.Locator.{Located, Extended}
-use Rattle.block.specs.parts.LocatorAreas.{LocatorFound}
+use Rattle.block.specs.parts.LocatorAreas.{Locates}
 use Rattle.block.specs.parts.Spectrum.{SpectrumOf, Continued}
 use Rattle.block.specs.parts.Information.{InformationRead}
 use Rattle.block.specs.parts.Step.{InformationTo}
@@ -105,11 +106,8 @@ module _ (p : Setting) (S : Sound p) where
                 (λ i h. ap (symbol_cost q (at block i)) (combination_number p S x l i information)),
           )
 
-      all_known : p.n - (l + 1) * p.k + 1 - 1 ≡ p.n - (l + 1) * p.k
-      all_known = omega arith
-
-      module _ (series locator former : List ℕ) (L : ℕ) (close : level_cost p (at block) l x < level_distance p.n p.k l)
-          (located : LocatorFound q series (p.n - (l + 1) * p.k + 1) L locator former) where
+      module _ (series : List ℕ) (σ : Locator) (close : level_cost p (at block) l x < level_distance p.n p.k l)
+          (located : Locates q series (p.n - (l + 1) * p.k) σ) where
         values_up : (count : ℕ) → SpectrumOf q block count series → (s : ℕ) → s < count
             → up q o B (at series) (suc s) ≡ spectrum (field_of p S) p.n (root_of p S) (order_at p S) (received p S block) s
         values_up count spectral s h =
@@ -117,25 +115,24 @@ module _ (p : Setting) (S : Sound p) where
             (ap (at series) (sym (add-one s)) ∙ spectral.values s h)
 
         locator_up : ((i : ℕ) → at series i < q)
-            → Located (K q o B).ops (up q o B (at series)) (p.n - (l + 1) * p.k) L located.place (el q o B located.scale) (up q o B (at locator))
-            (up q o B (at former))
+            → Located (K q o B).ops (up q o B (at series)) (p.n - (l + 1) * p.k) σ.degree σ.place (el q o B σ.scale) (up q o B (at σ.coefficients))
+            (up q o B (at σ.former))
         locator_up below =
-            located_up q o B (at series) (at locator) (at former) located.scale
-            below located.pair.locator_below located.pair.former_below located.pair.scale_below
-            (subst (λ (t : ℕ). Located o (at series) t L located.place located.scale (at locator) (at former)) all_known located.pair.located)
+            located_up q o B (at series) (at σ.coefficients) (at σ.former) σ.scale
+            below located.locator_below located.former_below located.scale_below located.located
 
-        pub degree_of_near_below : SpectrumOf q block (p.n - (l + 1) * p.k) series → 2 * L < level_distance p.n p.k l
+        pub degree_of_near_below : SpectrumOf q block (p.n - (l + 1) * p.k) series → 2 * σ.degree < level_distance p.n p.k l
         unfolding error
         degree_of_near_below spectral =
             let short = degree_of_near (field_of p S) (root_of p S) p.n p.k p.m (order_at p S) l fits (received p S block) (lifted p S x)
             (weight (K q o B).ops p.n error) (omega arith) (omega (arith, error_light))
             (up q o B (at series)) (values_up (p.n - (l + 1) * p.k) spectral)
-            L located.place (el q o B located.scale) (up q o B (at locator)) (up q o B (at former)) (locator_up spectral.below) in
+            σ.degree σ.place (el q o B σ.scale) (up q o B (at σ.coefficients)) (up q o B (at σ.former)) (locator_up spectral.below) in
             omega (arith, short, error_light)
 
         pub read_of_near : (after values found : List ℕ)
             → SpectrumOf q block p.n series
-            → Continued q L (p.n - (l + 1) * p.k) ((l + 1) * p.k) locator series after values
+            → Continued q σ.degree (p.n - (l + 1) * p.k) ((l + 1) * p.k) σ.coefficients series after values
             → InformationRead p (l + 1) values found
             → (b a : ℕ) → b ≤ l → a < p.k → at found (b * p.k + a) ≡ x b a
         unfolding lifted error
@@ -144,11 +141,11 @@ module _ (p : Setting) (S : Sound p) where
             (information_of_near (field_of p S) (root_of p S) p.n p.k p.m (order_at p S) l fits (received p S block) (lifted p S x)
             (weight (K q o B).ops p.n error) (omega arith) (omega (arith, error_light))
             (up q o B (at series)) (λ s h. values_up p.n spectral s (omega arith))
-            L located.place (el q o B located.scale) (up q o B (at locator)) (up q o B (at former)) (locator_up spectral.below)
+            σ.degree σ.place (el q o B σ.scale) (up q o B (at σ.coefficients)) (up q o B (at σ.former)) (locator_up spectral.below)
             (values_up p.n spectral)
             (up q o B (at after)) (up q o B (at values))
-            (extended_up L (p.n - (l + 1) * p.k) ((l + 1) * p.k) (at locator) (at series) (at after) (at values)
-            located.pair.locator_below spectral.below continued.below continued.values_below continued.extended)
+            (extended_up σ.degree (p.n - (l + 1) * p.k) ((l + 1) * p.k) (at σ.coefficients) (at series) (at after) (at values)
+            located.locator_below spectral.below continued.below continued.values_below continued.extended)
             b (up q o B (view p.k found b)) below
             (recovered_up (view p.k values b) (λ e. continued.values_below (b * p.k + e)) p.k (view p.k found b) (λ r. reads.below (b * p.k + r))
             (reads.recovered b (omega arith)))

@@ -1,33 +1,42 @@
 -- The loops that recover information blocks from the values.
--- Holds: `falling_none`, `falling_more`; `back_none`, `back_more`, the powers of 1/α; `block_none`, `block_more`, `is_lacking`; `read_none`, `read_more`.
+-- Holds: `falling_none`, `falling_more`; `back_none`, `back_more`, the powers of 1/α; `block_none`, `block_more`, `is_lacking`; `read_none`,
+-- `read_more`.
 use mathlib.Core.Path.{◌≡◌, refl, sym, ap, ap₂, subst, ◌∙◌}
 use mathlib.Core.List.{List}
-use Prim.Native.Nat.{ℕ, suc, ◌+◌, ◌-◌, ◌*◌, ◌≤◌, ◌<◌}
+use Prim.Native.Nat.{ℕ, zero, suc, ◌+◌, ◌-◌, ◌*◌, ◌≤◌, ◌<◌}
 use native.Mathlib.Nat.{mul-le-mul_right}
 use native.Mathlib.Numerals.{add-one}
 use native.Mathlib.Omega.{arith}
 use native.Mathlib.Decide.{ℕ_discrete}
-use lib.ListN.{length, set, replicate}
+use lib.ListN.{length, take, drop, set, replicate}
 use lib.Seq.{get_or-set_same, get_or-set_other}
 use Rattle.algebra.specs.Ops.{sub}
 use Rattle.algebra.specs.Sum.{power}
 use Rattle.algebra.specs.parts.Values.{falling}
 use Rattle.area.specs.Lists.{view}
+use Rattle.area.proofs.Parts.{part_size, part_symbol, put_before, put_inside, with_part}
 use Rattle.field.specs.parts.Operations.{Good, Is}
 use Rattle.field.specs.Fields.{ops_of, alpha}
 use Rattle.field.specs.parts.Sequences.{AllBelow, at}
 use Rattle.field.proofs.Laws.{laws_of, zero_below}
-use Rattle.field.proofs.Symbols.{zeros_below, below_set}
+use Rattle.field.proofs.Symbols.{symbol_below, put_symbols, all_symbols, zeros_below, below_set}
 use Rattle.code.specs.declared.Setting.{Setting}
 use Rattle.code.specs.Generator.{times_g}
 use Rattle.code.specs.parts.Recovery.{ending, Recovered}
 use Rattle.code.specs.Settings.{code_of}
 use Rattle.code.specs.parts.Sound.{Sound}
 use Rattle.code.proofs.Blocks.{times_g_ext}
+use Rattle.code.proofs.Settings.{information_fits}
 use Rattle.block.specs.parts.Information.{lacking, BlockRead, InformationRead}
 use Rattle.block.proofs.CandidateBelow.{recovered_more}
 
 module _ (q : ℕ) (good : Good q) where
+  falling_ext : (v w : ℕ → ℕ) (y k : ℕ) → ((e : ℕ) → e < k → v e ≡ w e) → falling (ops_of q) k v y ≡ falling (ops_of q) k w y
+  unfolding falling
+  falling_ext v w y zero same = refl
+  falling_ext v w y (suc k) same =
+      ap (λ (t : ℕ). (ops_of q).mul t y) (ap₂ (ops_of q).add (falling_ext v w y k (λ e l. same e (omega arith))) (same k (omega arith)))
+
   pub falling_none : (v : ℕ → ℕ) (y : ℕ) → Is q 0 (falling (ops_of q) 0 v y)
   unfolding falling ops_of
   falling_none v y = record { same = refl; below = zero_below q good }
@@ -46,70 +55,120 @@ module _ (q : ℕ) (good : Good q) where
   unfolding power ops_of
   back_none = record { same = refl; below = (laws_of q good).one_below }
 
-  pub back_more : (j back y r : ℕ) → Is q back ((ops_of q).inv alpha) → Is q y (power (ops_of q) ((ops_of q).inv alpha) j) → Is q r ((ops_of q).mul back y)
-      → Is q r (power (ops_of q) ((ops_of q).inv alpha) (j + 1))
+  pub back_more : (j next back y r : ℕ) → j + 1 ≡ next → Is q back ((ops_of q).inv alpha) → Is q y (power (ops_of q) ((ops_of q).inv alpha) j)
+      → Is q r ((ops_of q).mul back y) → Is q r (power (ops_of q) ((ops_of q).inv alpha) next)
   unfolding power
-  back_more j back y r b h t =
-      record { same = t.same ∙ ap₂ (ops_of q).mul b.same h.same ∙ ap (power (ops_of q) ((ops_of q).inv alpha)) (sym (add-one j)); below = t.below }
+  back_more j next back y r e b h t =
+      let more : suc j ≡ next = omega arith in
+      record { same = t.same ∙ ap₂ (ops_of q).mul b.same h.same ∙ ap (power (ops_of q) ((ops_of q).inv alpha)) more; below = t.below }
 
-module _ (p : Setting) (S : Sound p) (values : List ℕ) (values_below : AllBelow p.q values) where
-  pub block_none : (from : ℕ) (information : List ℕ) → AllBelow p.q information → BlockRead p from 0 values information information
-  block_none from information h = record { below = h; recovered = record { symbol = λ j l. absurd (omega arith) }; kept = λ i l. refl }
-
-  pub block_more : (from j point v : ℕ) (before information : List ℕ) → from + p.k ≤ length information → j < p.k
-      → BlockRead p from j values before information
-      → Is p.q point (power (ops_of p.q) ((ops_of p.q).inv alpha) (j + 1)) → Is p.q v (lacking p values from point information (j + 1))
-      → BlockRead p from (j + 1) values before (set information (from + (p.k - (j + 1))) v)
+module _ (p : Setting) (S : Sound p) where
+  -- Only the k values and the k symbols of a block count.
+  recovered_ext : (v w x y : ℕ → ℕ) (count : ℕ) → ((e : ℕ) → e < p.k → v e ≡ w e) → ((r : ℕ) → r < p.k → y r ≡ x r)
+      → Recovered (code_of p) v count x → Recovered (code_of p) w count y
   unfolding ending
-  block_more from j point v before information room l h powers is =
+  recovered_ext v w x y count values symbols h =
       record {
-        below = after_below;
-        recovered = subst (λ (t : ℕ). Recovered (code_of p) (λ e. at values (from + e)) t (λ r. at after (from + r))) (sym (add-one j))
-            (recovered_more p S (λ e. at values (from + e)) (λ e. values_below (from + e)) j (λ r. at information (from + r)) (λ r. at after (from + r))
-            (λ r. h.below (from + r)) (λ r. after_below (from + r)) l h.recovered
-            (λ r s d. get_or-set_other information place (from + r) v 0 (λ e. d (omega (arith, next))))
-            (ap (λ (t : ℕ). at after (from + (p.k - t))) (sym next) ∙ get_or-set_same information place v 0 (omega arith)
-            ∙ is.same ∙ ap (λ (y : ℕ). lacking p values from y information (j + 1)) powers.same
-            ∙ ap (λ (t : ℕ). lacking p values from (power (ops_of p.q) ((ops_of p.q).inv alpha) t) information t) next));
-        kept = λ i s. get_or-set_other information place i v 0 (λ e. omega (arith, e, s)) ∙ h.kept i s;
-      }
-    where
-      place : ℕ
-      place = from + (p.k - (j + 1))
-
-      next : j + 1 ≡ suc j
-      next = add-one j
-
-      after : List ℕ
-      after = set information place v
-
-      after_below : AllBelow p.q after
-      after_below = below_set p.q information place v h.below is.below
-
-  pub is_lacking : (from point j sum end known lack r : ℕ) (information : List ℕ)
-      → Is p.q sum (falling (ops_of p.q) p.k (λ e. at values (from + e)) point)
-      → Is p.q end ((ops_of p.q).neg sum) → Is p.q known (times_g (code_of p) (λ a. at information (from + a)) 0 (p.n - j))
-      → Is p.q lack (sub (ops_of p.q) end known)
-      → Is p.q r ((ops_of p.q).add (at information (from + (p.k - j))) lack) → Is p.q r (lacking p values from point information j)
-  is_lacking from point j sum end known lack r information s e g l h =
-      record {
-        same = h.same ∙ ap ((ops_of p.q).add (at information (from + (p.k - j))))
-            (l.same ∙ ap₂ (sub (ops_of p.q)) (e.same ∙ ap (ops_of p.q).neg s.same) g.same);
-        below = h.below;
+        symbol = λ j l. times_g_ext (code_of p) y x 0 (p.n - suc j) symbols ∙ h.symbol j l
+            ∙ ap (ops_of p.q).neg (falling_ext p.q S.good v w (power (ops_of p.q) ((ops_of p.q).inv alpha) (suc j)) p.k values);
       }
 
-  pub read_none : (w : ℕ) → InformationRead p 0 values (replicate w 0)
-  read_none w = record { below = zeros_below p.q S.good w; recovered = λ b l. absurd (omega arith) }
+  module _ (values : List ℕ) (values_below : AllBelow p.q values) where
+    pub block_none : (information : List ℕ) → AllBelow p.q information → BlockRead p 0 values information
+    block_none information h = record { below = h; recovered = record { symbol = λ j l. absurd (omega arith) } }
 
-  pub read_more : (b : ℕ) (before after : List ℕ) → InformationRead p b values before → BlockRead p (b * p.k) p.k values before after
-      → InformationRead p (b + 1) values after
-  read_more b before after h new = record { below = new.below; recovered = λ a l. by_block a l (ℕ_discrete a b) }
-    where
-      by_block : (a : ℕ) → a < b + 1 → Dec (a ≡ b) → Recovered (code_of p) (view p.k values a) p.k (view p.k after a)
-      by_block a l (yes e) = subst (λ (t : ℕ). Recovered (code_of p) (view p.k values t) p.k (view p.k after t)) (sym e) new.recovered
-      by_block a l (no d) =
-          let up : a + 1 ≤ b = omega arith in
-          record {
-            symbol = λ j s. times_g_ext (code_of p) (view p.k after a) (view p.k before a) 0 (p.n - suc j)
-                (λ r t. new.kept (a * p.k + r) (omega (arith, mul-le-mul_right p.k up))) ∙ (h.recovered a (omega arith)).symbol j s;
-          }
+    pub block_more : (j i point v : ℕ) (information : List ℕ) → length information ≡ p.k → i < p.k → j + 1 ≡ p.k - i
+        → BlockRead p j values information
+        → Is p.q point (power (ops_of p.q) ((ops_of p.q).inv alpha) (p.k - i)) → Is p.q v (lacking p values point information (p.k - i))
+        → BlockRead p (p.k - i) values (set information i v)
+    unfolding ending
+    block_more j i point v information long l more h powers is =
+        record {
+          below = after_below;
+          recovered = subst (λ (t : ℕ). Recovered (code_of p) (at values) t (at after)) next
+              (recovered_more p S (at values) values_below j (at information) (at after) h.below after_below (omega arith) h.recovered
+              (λ r s d. get_or-set_other information i r v 0 (λ e. d (omega arith)))
+              (ap (at after) place ∙ get_or-set_same information i v 0 (omega (arith, long))
+              ∙ is.same ∙ ap (λ (y : ℕ). lacking p values y information (p.k - i)) powers.same
+              ∙ ap (λ (t : ℕ). lacking p values (power (ops_of p.q) ((ops_of p.q).inv alpha) t) information t) (sym next)));
+        }
+      where
+        next : suc j ≡ p.k - i
+        next = omega arith
+
+        place : p.k - suc j ≡ i
+        place = omega arith
+
+        after : List ℕ
+        after = set information i v
+
+        after_below : AllBelow p.q after
+        after_below = below_set p.q information i v h.below is.below
+
+    pub is_lacking : (i point sum end known lack r : ℕ) (information : List ℕ) → length values ≡ p.k → i < p.k
+        → Is p.q sum (falling (ops_of p.q) (length values) (at values) point)
+        → Is p.q end ((ops_of p.q).neg sum) → Is p.q known (times_g (code_of p) (λ a. at information (0 + a)) 0 (p.n - p.k + i))
+        → Is p.q lack (sub (ops_of p.q) end known)
+        → Is p.q r ((ops_of p.q).add (at information i) lack) → Is p.q r (lacking p values point information (p.k - i))
+    is_lacking i point sum end known lack r information long within s e g l h =
+        record {
+          same = h.same ∙ ap₂ (ops_of p.q).add (ap (at information) place) (l.same ∙ ap₂ (sub (ops_of p.q)) (e.same ∙ ap (ops_of p.q).neg ends) knows);
+          below = h.below;
+        }
+      where
+        place : i ≡ p.k - (p.k - i)
+        place = omega arith
+
+        column : p.n - p.k + i ≡ p.n - (p.k - i)
+        column = omega (arith, information_fits p S)
+
+        ends : sum ≡ falling (ops_of p.q) p.k (at values) point
+        ends = s.same ∙ ap (λ (k : ℕ). falling (ops_of p.q) k (at values) point) long
+
+        knows : known ≡ times_g (code_of p) (at information) 0 (p.n - (p.k - i))
+        knows =
+            g.same ∙ ap (times_g (code_of p) (λ a. at information (0 + a)) 0) column
+            ∙ times_g_ext (code_of p) (λ a. at information (0 + a)) (at information) 0 (p.n - (p.k - i))
+            (λ a l. let none : 0 + a ≡ a = omega arith in ap (at information) none)
+
+    pub read_none : (w : ℕ) → InformationRead p 0 values (replicate w 0)
+    read_none w = record { below = zeros_below p.q S.good w; recovered = λ b l. absurd (omega arith) }
+
+    pub read_more : (b : ℕ) (information block : List ℕ) → b * p.k + p.k ≤ length information → length block ≡ p.k → InformationRead p b values information
+        → BlockRead p p.k (take (b * p.k + p.k - b * p.k) (drop (b * p.k) values)) block → InformationRead p (b + 1) values (with_part p.k b information block)
+    read_more b information block room long h new =
+        record {
+          below = symbol_below p.q _ (put_symbols start size information block p.q (all_symbols h.below) (all_symbols new.below)) (zero_below p.q S.good);
+          recovered = λ a l. by_block a l (ℕ_discrete a b);
+        }
+      where
+        start : ℕ
+        start = b * p.k
+
+        size : ℕ
+        size = b * p.k + p.k - b * p.k
+
+        sized : size ≡ p.k
+        sized = part_size p.k start values
+
+        part : List ℕ
+        part = take size (drop start values)
+
+        after : List ℕ
+        after = with_part p.k b information block
+
+        -- Before the block and in it.
+        before : (i : ℕ) → i < start → at after i ≡ at information i
+        before = put_before start size information block (omega arith) (omega (arith, long))
+
+        inside : (i : ℕ) → i < p.k → at after (start + i) ≡ at block i
+        inside i l = put_inside start size information block (omega arith) (omega (arith, long)) i (omega arith)
+
+        by_block : (a : ℕ) → a < b + 1 → Dec (a ≡ b) → Recovered (code_of p) (view p.k values a) p.k (view p.k after a)
+        by_block a l (yes e) =
+            subst (λ (t : ℕ). Recovered (code_of p) (view p.k values t) p.k (view p.k after t)) (sym e)
+            (recovered_ext (at part) (view p.k values b) (at block) (view p.k after b) p.k (part_symbol p.k start values) inside new.recovered)
+        by_block a l (no d) =
+            let up : a + 1 ≤ b = omega arith in
+            recovered_ext (view p.k values a) (view p.k values a) (view p.k information a) (view p.k after a) p.k (λ e s. refl)
+            (λ r t. before (a * p.k + r) (omega (arith, mul-le-mul_right p.k up))) (h.recovered a (omega arith))

@@ -3,10 +3,8 @@ pub mod LocatorStep
 pub mod ErrorSpectrum
 pub mod Candidate
 pub mod LocatorBelow
-pub mod Multiples
 pub mod LocatorPair
 pub mod Spectra
 pub mod CandidateBelow
 pub mod InformationRead
 pub mod Step
-pub mod BlockAreas

@@ -1,6 +1,6 @@
 -- The loops on spectra: their promises before the first turn, and after one more.
--- Holds: `point_none`, `point_more`, `spectrum_none`, `spectrum_more`; `found_longer`; `tail_ext`, `continued_none`, `continued_more`.
-use mathlib.Core.Path.{◌≡◌, refl, sym, ap, ap₂, ◌∙◌}
+-- Holds: `point_more`, `spectrum_more`, `known_none`; `found_longer`; `tail_ext`, `continued_none`, `continued_more`.
+use mathlib.Core.Path.{◌≡◌, refl, sym, ap, ap₂, subst, ◌∙◌}
 use mathlib.Core.List.{List}
 use Prim.Native.Nat.{ℕ, zero, suc, ◌+◌, ◌-◌, ◌≤◌, ◌<◌}
 use native.Mathlib.Numerals.{add-one}
@@ -17,14 +17,16 @@ use Rattle.field.specs.Fields.{ops_of, alpha}
 use Rattle.field.specs.parts.Sequences.{AllBelow, at}
 use Rattle.field.proofs.Laws.{laws_of}
 use Rattle.field.proofs.Symbols.{below_set}
+use Rattle.block.specs.declared.locator.Locator.{Locator}
+use Rattle.block.specs.declared.spectrum.Spectrum.{Spectrum}
 use Rattle.block.specs.parts.Locator.{tail}
-use Rattle.block.specs.parts.LocatorAreas.{UnitSeries, LocatorFound}
-use Rattle.block.specs.parts.Spectrum.{SpectrumOf, Continued}
+use Rattle.block.specs.parts.LocatorAreas.{UnitSeries, Locates}
+use Rattle.block.specs.parts.Spectrum.{SpectrumOf, SpectrumKnown, Continued}
 use Rattle.block.proofs.LocatorStep.{located_ext}
 use Rattle.block.proofs.LocatorPair.{unit_below}
 
 module _ (q : ℕ) where
-  pub point_none : Good q → Is q 1 (power (ops_of q) alpha 0)
+  point_none : Good q → Is q 1 (power (ops_of q) alpha 0)
   unfolding power ops_of
   point_none good = record { same = refl; below = (laws_of q good).one_below }
 
@@ -33,26 +35,29 @@ module _ (q : ℕ) where
   point_more s point r h e =
       record { same = e.same ∙ ap ((ops_of q).mul 2) h.same ∙ ap (power (ops_of q) alpha) (sym (add-one s)); below = e.below }
 
-  pub spectrum_none : (block l : List ℕ) → Good q → UnitSeries l → SpectrumOf q block 0 l
+  spectrum_none : (block l : List ℕ) → Good q → UnitSeries l → SpectrumOf q block 0 l
   spectrum_none block l good u = record { below = unit_below q good l u; first = u.first; values = λ s h. absurd (omega arith) }
 
+  pub known_none : (block : List ℕ) (s : Spectrum) → Good q → s.known ≡ 0 → UnitSeries s.series → s.point ≡ 1 → SpectrumKnown q block s
+  known_none block s good none unit point =
+      record {
+        spectral = subst (λ (t : ℕ). SpectrumOf q block t s.series) (sym none) (spectrum_none block s.series good unit);
+        next = subst (λ (t : ℕ). Is q s.point (power (ops_of q) alpha t)) (sym none)
+            (subst (λ (t : ℕ). Is q t (power (ops_of q) alpha 0)) (sym point) (point_none good));
+      }
+
   -- A locator for the first values of a block's spectrum, where more of them stand.
-  pub found_longer : (block : List ℕ) (known more : ℕ) (series longer : List ℕ) {L : ℕ} {locator former : List ℕ} → known ≤ more
-      → SpectrumOf q block known series → SpectrumOf q block more longer → LocatorFound q series (known + 1) L locator former
-      → LocatorFound q longer (known + 1) L locator former
+  pub found_longer : (block : List ℕ) (known more : ℕ) (series longer : List ℕ) {σ : Locator} → known ≤ more
+      → SpectrumOf q block known series → SpectrumOf q block more longer → Locates q series known σ → Locates q longer known σ
   found_longer block known more series longer up_to_lem h k f =
       record {
-        place = f.place;
-        scale = f.scale;
-        pair = record {
-          locator_below = f.pair.locator_below;
-          former_below = f.pair.former_below;
-          scale_below = f.pair.scale_below;
-          located = located_ext (ops_of q) (at series) (at longer) same f.pair.located;
-        };
+        locator_below = f.locator_below;
+        former_below = f.former_below;
+        scale_below = f.scale_below;
+        located = located_ext (ops_of q) (at series) (at longer) same f.located;
       }
     where
-      same : (i : ℕ) → i ≤ known + 1 - 1 → at longer i ≡ at series i
+      same : (i : ℕ) → i ≤ known → at longer i ≡ at series i
       same zero l = k.first ∙ sym h.first
       same (suc s) l = ap (at longer) (sym (add-one s)) ∙ k.values s (omega arith) ∙ sym (h.values s (omega arith)) ∙ ap (at series) (add-one s)
 

@@ -1,9 +1,9 @@
 -- The two answers of the block step, from what its parts promise (the chain: distance lemma, locator, spectrum of the error, information).
 -- Holds: `step_long`, `step_clean`, `step_near`, `step_far`.
 use mathlib.Core.Path.{◌≡◌, sym, ap, subst, ◌∙◌}
-use mathlib.Core.Bool.{true, false}
+use Rattle.std.specs.Prelude.{Some, None}
 use mathlib.Core.List.{List}
-use Prim.Native.Nat.{ℕ, ◌+◌, ◌-◌, ◌*◌, ◌≤◌, ◌<◌, min}
+use Prim.Native.Nat.{ℕ, ◌+◌, ◌*◌, ◌≤◌, ◌<◌, min}
 use native.Mathlib.Omega.{arith}
 use lib.ListN.{length}
 use Rattle.algebra.proofs.Weights.{total_ext, total_most}
@@ -22,7 +22,10 @@ use Rattle.code.proofs.Blocks.{combination_ext}
 use Rattle.code.proofs.LevelBlocks.{vanishing_in_level}
 use Rattle.code.proofs.Settings.{level_fits}
 use Rattle.code.proofs.Cost.{cost_same}
+use Rattle.block.specs.declared.locator.Locator.{Locator}
+use Rattle.block.specs.declared.spectrum.Spectrum.{Spectrum}
 use Rattle.block.specs.parts.Locator.{Located}
+use Rattle.block.specs.parts.Spectrum.{SpectrumOf}
 use Rattle.block.specs.parts.Candidate.{syndromes_at, Begun, Candidate}
 use Rattle.block.specs.parts.Step.{InformationTo, Step, near, far}
 use Rattle.block.proofs.LocatorBelow.{series_vanishes}
@@ -40,16 +43,19 @@ cost_in_level p l block C =
     )
 
 module _ {p : Setting} (S : Sound p) {l : ℕ} (level : l ≤ p.m) {block : List ℕ} (long : length block ≡ p.n) (symbols : Symbols p.q block)
-    {series locator former : List ℕ} {degree point : ℕ} (B : Begun p l block series locator former degree point) {found : List ℕ} where
+    {spectrum : Spectrum} {σ : Locator} (B : Begun p l block spectrum σ) where
+  syndromes : SpectrumOf p.q block (syndromes_at p l) spectrum.series
+  syndromes = subst (λ (t : ℕ). SpectrumOf p.q block t spectrum.series) B.all B.known.spectral
+
   -- A locator of too high a degree: every information is far.
-  pub step_long : level_distance p.n p.k l ≤ 2 * degree → Step p l block found false
+  pub step_long : level_distance p.n p.k l ≤ 2 * σ.degree → Step p l block None
   step_long h =
       far (λ x information.
       let never : level_cost p (at block) l x < level_distance p.n p.k l → ⊥ =
-      λ close. omega (arith, degree_of_near_below p S l level block long symbols x information series locator former degree close B.located B.spectral) in
+      λ close. omega (arith, degree_of_near_below p S l level block long symbols x information spectrum.series σ close B.located syndromes) in
       omega arith)
 
-  module _ (C : Candidate p l block locator degree found) where
+  module _ {found : List ℕ} (C : Candidate p l block σ found) (room : (l + 1) * p.k ≤ length found) where
     -- If the information x is near, it is what was read, and its cost the cost of that.
     same_cost : (x : ℕ → ℕ → ℕ) → InformationTo p l x → level_cost p (at block) l x < level_distance p.n p.k l
         → level_cost p (at block) l (view p.k found) ≡ level_cost p (at block) l x
@@ -59,34 +65,34 @@ module _ {p : Setting} (S : Sound p) {l : ℕ} (level : l ≤ p.m) {block : List
       where
         read : (b r : ℕ) → b ≤ l → r < p.k → view p.k found b r ≡ x b r
         read =
-            read_of_near p S l level block long symbols x information C.series locator former degree close
-            (found_longer p.q block (syndromes_at p l) p.n series C.series (omega arith) B.spectral C.spectral B.located)
+            read_of_near p S l level block long symbols x information C.series σ close
+            (found_longer p.q block (syndromes_at p l) p.n spectrum.series C.series (omega arith) syndromes C.spectral B.located)
             C.after C.values found C.spectral C.continued C.reads
 
     -- A locator of degree 0: all syndromes are zero.
-    syndromes_vanish : degree ≡ 0 → Vanishes p l block
+    syndromes_vanish : σ.degree ≡ 0 → Vanishes p l block
     syndromes_vanish none s h =
-        let pair = B.located.pair in
-        sym (B.spectral.values s h)
-        ∙ series_vanishes p.q (ops_of p.q) (laws_of p.q S.good) (at series) (at locator) (at former) B.located.scale B.spectral.below
+        let pair = B.located in
+        sym (syndromes.values s h)
+        ∙ series_vanishes p.q (ops_of p.q) (laws_of p.q S.good) (at spectrum.series) (at σ.coefficients) (at σ.former) σ.scale syndromes.below
         pair.locator_below pair.former_below pair.scale_below
-        (subst (λ (L : ℕ). Located (ops_of p.q) (at series) (syndromes_at p l + 1 - 1) L B.located.place B.located.scale (at locator) (at former)) none
+        (subst (λ (L : ℕ). Located (ops_of p.q) (at spectrum.series) (syndromes_at p l) L σ.place σ.scale (at σ.coefficients) (at σ.former)) none
         pair.located)
         (s + 1) (omega arith) (omega arith)
 
     -- A locator of degree 0: the block is of the level, so what was read is its information, at no cost.
-    pub step_clean : degree ≡ 0 → Step p l block found true
+    pub step_clean : σ.degree ≡ 0 → Step p l block (Some found)
     step_clean none =
         let of_level = vanishing_in_level p S l (level_fits p S l level) block long symbols (syndromes_vanish none) in
         let free = cost_in_level p l block of_level in
-        near C.reads.below (omega (arith, free, same_cost of_level.information (λ b r u v. of_level.below b r) (omega (arith, free))))
+        near C.reads.below room (omega (arith, free, same_cost of_level.information (λ b r u v. of_level.below b r) (omega (arith, free))))
 
     module _ {bound cost : ℕ} (same : bound ≡ level_distance p.n p.k l)
         (counted : min bound cost ≡ min bound (level_cost p (at block) l (view p.k found))) where
-      pub step_near : cost < bound → Step p l block found true
-      step_near h = near C.reads.below (omega (arith, counted))
+      pub step_near : cost < bound → Step p l block (Some found)
+      step_near h = near C.reads.below room (omega (arith, counted))
 
-      pub step_far : bound ≤ cost → Step p l block found false
+      pub step_far : bound ≤ cost → Step p l block None
       step_far h =
           far (λ x information.
           let never : level_cost p (at block) l x < level_distance p.n p.k l → ⊥ = λ close. omega (arith, counted, same_cost x information close) in

@@ -1,6 +1,5 @@
 -- What the block step promises (Step), and what its functions promise one another.
 pub mod Step
-pub mod BlockAreas
 pub mod Locator
 pub mod LocatorAreas
 pub mod Spectrum

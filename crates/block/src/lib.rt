@@ -7,127 +7,42 @@
 
 pub mod information;
 mod locator;
+mod received;
 mod spectrum;
 
 ghost use Rattle.std.specs.Prelude.{◌≡◌, ◌≤◌, length};
 ghost use Rattle.field.specs.Symbols.{Symbols};
-ghost use Rattle.field.specs.parts.Products.{ProductsOf};
-ghost use Rattle.code.specs.parts.Sound.{Sound};
-ghost use Rattle.tables.specs.parts.Rows.{Ready};
-ghost use Rattle.block.specs.parts.BlockAreas.{BlockAreas};
-ghost use Rattle.block.specs.parts.Candidate.{Begun, Candidate};
 ghost use Rattle.block.specs.parts.Step.{Step};
 
-use code::Setting;
-use field::Products;
+use received::Received;
+use tables::Tables;
 
-// The locator's degree at most, and the point of the next value of the spectrum.
-#[derive(Clone, Copy)]
-struct LocatorStart {
-    degree: usize,
-    point: u8,
-}
+// Room for a longest block's spectrum and a 1 before it. Memory is fixed, so a series has this room whatever the setting, and the setting says how much of it counts.
+pub const PLACES: usize = tables::LONGEST_BLOCK + 1;
 
-// The block's syndromes at level l, in the series, and their locator.
-fn begin(
-    p: Setting,
-    products: &Products,
-    block: &[u8],
-    l: usize,
-    series: &mut [u8],
-    locator: &mut [u8],
-    former: &mut [u8],
-    spare: &mut [u8],
-) -> LocatorStart
-    requires { Sound p × ProductsOf p.q products.now × Symbols p.q block.now × (l ≤ p.m) × BlockAreas p series.old locator.old former.old spare.old }
-    ensures { Begun p l block.now series.new locator.new former.new result.degree result.point }
+// The information blocks that a received block leads to, one after the other from the front.
+pub type Information = [u8; PLACES];
+
+// The l + 1 information blocks of the level-l combination that costs the received block less than d_l, or none if there is no such combination.
+pub fn repair(tables: &Tables, block: &[u8], l: usize) -> Option<Information>
+    requires { (length block.now ≡ tables.now.setting.n) × Symbols tables.now.setting.q block.now × (l ≤ tables.now.setting.m) }
+    ensures { Step tables.now.setting l block.now result }
 {
-    let q = p.q;
-    let syndromes = p.n - (l + 1) * p.k;
-    locator::unit(series);
-    let point = spectrum::add_values(q, products, block, 0, syndromes, 1, series);
-    let degree = locator::locate(q, products, series, syndromes + 1, locator, former, spare);
-    LocatorStart {
-        degree: degree,
-        point: point,
+    let distance = code::level_distance(tables.setting, l);
+    let received = Received { tables, block, l };
+    let start = received.begin();
+    let degree = start.locator.degree;
+    if distance <= 2 * degree {
+        return None;
     }
-}
-
-// The information that the locator leads to: the rest of the block's spectrum, what it has besides the error's, and the information read off that.
-fn read_candidate(
-    p: Setting,
-    products: &Products,
-    rows: &[u8],
-    block: &[u8],
-    l: usize,
-    start: LocatorStart,
-    series: &mut [u8],
-    locator: &[u8],
-    values: &mut [u8],
-    information: &mut [u8],
-)
-    requires { Ready p products.now rows.now × Symbols p.q block.now × (l ≤ p.m) × BlockAreas p series.old locator.now values.old information.old × Begun p l block.now series.old locator.now values.old start.degree start.point }
-    ensures { Candidate p l block.now locator.now start.degree information.new }
-{
-    let q = p.q;
-    let n = p.n;
-    let blocks = l + 1;
-    let count = blocks * p.k;
-    let syndromes = n - count;
-    spectrum::add_values(q, products, block, syndromes, n, start.point, series);
-    spectrum::extend(
-        q,
-        products,
-        start.degree,
-        locator,
-        syndromes,
-        count,
-        series,
-        values,
-    );
-    information::read(p, products, rows, blocks, values, information);
-}
-
-// The level-l combination that costs the received block less than d_l: true, and its l + 1 information blocks; or false, if there is none. The other areas
-// are worked in.
-pub fn repair(
-    p: Setting,
-    products: &Products,
-    rows: &[u8],
-    block: &[u8],
-    l: usize,
-    series: &mut [u8],
-    locator: &mut [u8],
-    values: &mut [u8],
-    information: &mut [u8],
-) -> bool
-    requires { Ready p products.now rows.now × (length block.now ≡ p.n) × Symbols p.q block.now × (l ≤ p.m) × BlockAreas p series.old locator.old values.old information.old }
-    ensures { Step p l block.now information.new result }
-{
-    let distance = code::level_distance(p, l);
-    let start = begin(p, products, block, l, series, locator, values, information);
-    if distance <= 2 * start.degree {
-        return false;
-    }
-    read_candidate(
-        p,
-        products,
-        rows,
-        block,
-        l,
-        start,
-        series,
-        locator,
-        values,
-        information,
-    );
+    let information = received.read_candidate(&start);
     // No syndrome differs from zero: the block is of the code, and what was read is its information.
-    if start.degree == 0 {
-        return true;
+    if degree == 0 {
+        return Some(information);
     }
-    let cost = information::cost(p, products, rows, information, l, block, distance);
+    let cost = information::cost(tables, &information, l, block, distance);
     if cost < distance {
-        return true;
+        return Some(information);
     }
-    false
+    None
 }

@@ -1,60 +1,41 @@
-// The spectrum of a received block, and how the locator continues that of its error.
-ghost use Rattle.std.specs.Prelude.{◌+◌, ◌≤◌, ◌<◌, length};
-ghost use Rattle.algebra.specs.Sum.{power};
-ghost use Rattle.field.specs.parts.Operations.{Good, Is};
-ghost use Rattle.field.specs.Fields.{ops_of, alpha};
+// The spectrum of a received block.
+ghost use Rattle.std.specs.Prelude.{◌≡◌, ◌≤◌, ◌<◌};
 ghost use Rattle.field.specs.Symbols.{Symbols};
-ghost use Rattle.field.specs.parts.Products.{ProductsOf};
-ghost use Rattle.field.specs.parts.Sequences.{AllBelow};
-ghost use Rattle.block.specs.parts.Spectrum.{SpectrumOf, Continued};
+ghost use Rattle.block.specs.parts.LocatorAreas.{UnitSeries};
+ghost use Rattle.block.specs.parts.Spectrum.{SpectrumKnown};
 
-use field::Products;
+use super::PLACES;
+use field::Field;
 
-// Writes values `from` .. `to - 1` of the block's spectrum, its values at powers of α, after those before; answers with the point of the next one.
-pub fn add_values(
-    q: usize,
-    products: &Products,
-    block: &[u8],
-    from: usize,
-    to: usize,
-    start: u8,
-    series: &mut [u8],
-) -> u8
-    requires { Good q × ProductsOf q products.now × Symbols q block.now × (from ≤ to) × (to < length series.old) × Is q start (power (ops_of q) alpha from) × SpectrumOf q block.now from series.old }
-    ensures { Is q result (power (ops_of q) alpha to) × SpectrumOf q block.now to series.new }
-{
-    let mut point = start;
-    let mut s = from;
-    while s < to {
-        let value = field::value(q, products, block, point);
-        point = field::multiply(q, products, 2, point);
-        s += 1;
-        series[s] = value;
-    }
-    point
+// What is known of a block's spectrum: so many of its values, at the powers of α from α^0 on, in a series with a 1 before them, and the point of the next value.
+#[derive(Clone, Copy)]
+pub struct Spectrum {
+    pub known: usize,
+    pub series: [u8; PLACES],
+    pub point: u8,
 }
 
-// Continues the series from place r + 1 on by the recurrence of the locator, for `count` places; `values` gets what the series had besides.
-pub fn extend(
-    q: usize,
-    products: &Products,
-    degree: usize,
-    locator: &[u8],
-    r: usize,
-    count: usize,
-    series: &mut [u8],
-    values: &mut [u8],
-)
-    requires { Good q × ProductsOf q products.now × AllBelow q locator.now × (degree < length locator.now) × AllBelow q series.old × (degree ≤ r) × (r + count < length series.old) × AllBelow q values.old × (count ≤ length values.old) }
-    ensures { Continued q degree r count locator.now series.old series.new values.new }
-{
-    let mut u: usize = 0;
-    while u < count {
-        let place = r + 1 + u;
-        let rest = super::locator::tail(q, products, degree, locator, series, place);
-        let continued = field::negate(q, rest);
-        values[u] = field::add(q, series[place], rest);
-        series[place] = continued;
-        u += 1;
+impl Spectrum {
+    // The spectrum of which no value is known.
+    pub fn new() -> Spectrum
+        ensures { (result.known ≡ 0) × UnitSeries result.series × (result.point ≡ 1) }
+    {
+        Spectrum {
+            known: 0,
+            series: super::locator::unit(),
+            point: 1,
+        }
+    }
+
+    // Adds the values of the block's spectrum up to that at α^(to - 1).
+    pub fn add_values(&mut self, field: &Field, block: &[u8], to: usize)
+        requires { Symbols field.now.q block.now × (self.old.known ≤ to) × (to < PLACES) × SpectrumKnown field.now.q block.now self.old }
+        ensures { (self.new.known ≡ to) × SpectrumKnown field.now.q block.now self.new }
+    {
+        for s in self.known..to {
+            self.series[s + 1] = field.value(block, self.point);
+            self.point = field.multiply(2, self.point);
+        }
+        self.known = to;
     }
 }

@@ -4,16 +4,14 @@
 // Writes for each setting and level: how many blocks, how many of them near, in how many the two agree.
 #![tactic(auto)]
 
-ghost use Rattle.std.specs.Prelude.{◌≡◌, ◌≤◌, ◌<◌, T as Passes, length};
+ghost use Rattle.std.specs.Prelude.{◌≡◌, ◌≤◌, ◌<◌, length};
 ghost use Rattle.field.specs.parts.Operations.{Good};
 ghost use Rattle.field.specs.Symbols.{Symbols};
-ghost use Rattle.code.specs.Settings.{is_setting, setting_of};
-ghost use Rattle.tables.specs.parts.Rows.{Ready, longest_block};
-ghost use Rattle.block.specs.parts.BlockAreas.{BlockAreas};
+ghost use Rattle.code.specs.parts.SettingNumbers.{parameters_of};
+ghost use Rattle.tables.specs.parts.Rows.{longest_block};
 
-use code::Setting;
-use field::Products;
-use tables::LONGEST_BLOCK;
+use code::SettingNumber;
+use tables::{LONGEST_BLOCK, Tables};
 
 // The descriptor of standard output.
 const STDOUT: i32 = 1;
@@ -25,66 +23,11 @@ fn digits(q: usize, number: usize) -> [u8; LONGEST_BLOCK]
 {
     let mut symbols = [0u8; LONGEST_BLOCK];
     let mut rest = number;
-    let mut i: usize = 0;
-    while i < LONGEST_BLOCK {
+    for i in 0..LONGEST_BLOCK {
         symbols[i] = (rest % q) as u8;
-        rest = rest / q;
-        i += 1;
+        rest /= q;
     }
     symbols
-}
-
-// Whether the information costs less than d_l.
-fn near(
-    p: Setting,
-    products: &Products,
-    rows: &[u8],
-    information: &[u8],
-    l: usize,
-    received: &[u8],
-    distance: usize,
-) -> bool
-    requires { Ready p products.now rows.now × Symbols p.q information.now × (p.n ≤ length information.now) × (l ≤ p.m) × (length received.now ≡ p.n) }
-{
-    let n = p.n;
-    let mut cost: usize = 0;
-    let mut i: usize = 0;
-    while i < n {
-        let symbol = tables::combine::combination(p, products, rows, information, l, i);
-        let same = received[i] == symbol;
-        i += 1;
-        if same {
-            continue;
-        }
-        cost += 2;
-        if distance <= cost {
-            return false;
-        }
-    }
-    true
-}
-
-// The first of the first `count` information words that does, by its number; `count` if none does.
-fn search_near(
-    p: Setting,
-    products: &Products,
-    rows: &[u8],
-    l: usize,
-    received: &[u8],
-    distance: usize,
-    count: usize,
-) -> usize
-    requires { Ready p products.now rows.now × (p.n ≤ longest_block) × (l ≤ p.m) × (length received.now ≡ p.n) }
-{
-    let mut x: usize = 0;
-    while x < count {
-        let information = digits(p.q, x);
-        if near(p, products, rows, &information, l, received, distance) {
-            return x;
-        }
-        x += 1;
-    }
-    count
 }
 
 // A number with one digit more, its lowest. One that is too large for an information word stays as it is.
@@ -94,7 +37,7 @@ fn with_digit(q: usize, number: usize, digit: u8) -> usize
     if 4194304 < number {
         return number;
     }
-    number * q + digit as usize
+    number * q + usize::from(digit)
 }
 
 // The number of which an information word's symbols are the digits to the base q.
@@ -102,165 +45,139 @@ fn number_of(q: usize, information: &[u8]) -> usize
     requires { Good q }
 {
     let mut number: usize = 0;
-    let mut i = information.len();
-    while 0 < i {
-        i -= 1;
-        number = with_digit(q, number, information[i]);
+    for digit in information.iter().rev() {
+        number = with_digit(q, number, *digit);
     }
     number
 }
 
-// The information with which the block step answers, by its number; `none` if it answers that there is none.
-fn repaired_in(
-    p: Setting,
-    products: &Products,
-    rows: &[u8],
-    l: usize,
-    received: &[u8],
-    none: usize,
-    series: &mut [u8],
-    locator: &mut [u8],
-    values: &mut [u8],
-    information: &mut [u8],
-) -> usize
-    requires { Ready p products.now rows.now × (l ≤ p.m) × (length received.now ≡ p.n) × Symbols p.q received.now × BlockAreas p series.old locator.old values.old information.old }
-{
-    let long = (l + 1) * p.k;
-    if !block::repair(
-        p,
-        products,
-        rows,
-        received,
-        l,
-        series,
-        locator,
-        values,
-        information,
-    ) {
-        return none;
-    }
-    number_of(p.q, &information[..long])
-}
-
-// The same; the working areas are made here.
-fn repaired(
-    p: Setting,
-    products: &Products,
-    rows: &[u8],
-    l: usize,
-    received: &[u8],
-    none: usize,
-) -> usize
-    requires { Ready p products.now rows.now × (p.n ≤ longest_block) × (l ≤ p.m) × (length received.now ≡ p.n) × Symbols p.q received.now }
-{
-    let mut series = [0u8; LONGEST_BLOCK + 1];
-    let mut locator = [0u8; LONGEST_BLOCK + 1];
-    let mut values = [0u8; LONGEST_BLOCK + 1];
-    let mut information = [0u8; LONGEST_BLOCK + 1];
-    let room = p.n + 1;
-    repaired_in(
-        p,
-        products,
-        rows,
-        l,
-        received,
-        none,
-        &mut series[..room],
-        &mut locator[..room],
-        &mut values[..room],
-        &mut information[..room],
-    )
-}
-
-// How many blocks have information near, and on how many the block step and enumeration agree.
+// How many blocks were gone through, how many of them have information near, and on how many the block step and enumeration agree.
 #[derive(Clone, Copy)]
 struct Tally {
+    blocks: usize,
     near: usize,
     agree: usize,
 }
 
-// One block: whether the block step and enumeration agree, and whether on information; 1 for yes.
-fn one(
-    p: Setting,
-    products: &Products,
-    rows: &[u8],
+// One level of a setting: its limit d_l, and how many information words it has.
+#[derive(Clone, Copy)]
+struct Level<'a> {
+    tables: &'a Tables,
     l: usize,
     distance: usize,
-    count: usize,
-    number: usize,
-) -> Tally
-    requires { Ready p products.now rows.now × (p.n ≤ longest_block) × (l ≤ p.m) }
-    ensures { (result.near ≤ 1) × (result.agree ≤ 1) }
-{
-    let symbols = digits(p.q, number);
-    let received = &symbols[..p.n];
-    let expected = search_near(p, products, rows, l, received, distance, count);
-    let found = repaired(p, products, rows, l, received, count);
-    if found != expected {
-        return Tally { near: 0, agree: 0 };
-    }
-    if found == count {
-        return Tally { near: 0, agree: 1 };
-    }
-    Tally { near: 1, agree: 1 }
+    words: usize,
+    ghost of_setting: { l ≤ tables.now.setting.m },
 }
 
+impl Level<'_> {
+    // Whether the information costs less than d_l. Counted anew, and not by `block::information::cost`: that is part of what is tested.
+    fn is_near(&self, information: &[u8], received: &[u8]) -> bool
+        requires { Symbols self.now.tables.now.setting.q information.now × (self.now.tables.now.setting.n ≤ length information.now) × (length received.now ≡ self.now.tables.now.setting.n) }
+    {
+        let mut cost: usize = 0;
+        for (i, symbol) in received.iter().enumerate() {
+            if *symbol == self.tables.combination(information, self.l, i) {
+                continue;
+            }
+            cost += 2;
+            if self.distance <= cost {
+                return false;
+            }
+        }
+        true
+    }
+
+    // The first information word that is near, by its number.
+    fn search(&self, received: &[u8]) -> Option<usize>
+        requires { length received.now ≡ self.now.tables.now.setting.n }
+    {
+        let q = self.tables.setting.q;
+        (0..self.words).find(|word| self.is_near(&digits(q, *word), received))
+    }
+
+    // The information with which the block step answers, by its number.
+    fn repaired(&self, received: &[u8]) -> Option<usize>
+        requires { (length received.now ≡ self.now.tables.now.setting.n) × Symbols self.now.tables.now.setting.q received.now }
+    {
+        let p = self.tables.setting;
+        let information = block::repair(self.tables, received, self.l)?;
+        Some(number_of(p.q, &information[..(self.l + 1) * p.k]))
+    }
+
+    // Whether the block step and enumeration agree on a block, and whether on information.
+    fn block(&self, number: usize) -> Tally
+        ensures { (result.blocks ≡ 1) × (result.near ≤ 1) × (result.agree ≤ 1) }
+    {
+        let p = self.tables.setting;
+        let symbols = digits(p.q, number);
+        let received = &symbols[..p.n];
+        let found = self.repaired(received);
+        let agree = found == self.search(received);
+        Tally {
+            blocks: 1,
+            near: usize::from(agree && found.is_some()),
+            agree: usize::from(agree),
+        }
+    }
+
+    // Every block below `end` whose number is a multiple of the stride.
+    fn blocks(&self, stride: usize, end: usize) -> Tally
+        requires { (0 < stride) × (end ≤ 4194304) }
+    {
+        let mut all = Tally {
+            blocks: 0,
+            near: 0,
+            agree: 0,
+        };
+        for number in (0..end).step_by(stride) {
+            let one = self.block(number);
+            all.blocks += one.blocks;
+            all.near += one.near;
+            all.agree += one.agree;
+        }
+        all
+    }
+}
+
+// Writes a number and the byte after it. `println!` would need the runtime, which hands out a heap.
 fn print(number: usize, after: u8) {
     io::print_decimal(STDOUT, number as u64);
-    let mut text = [0u8; 1];
-    text[0] = after;
-    io::write_all(STDOUT, &text);
-}
-
-// Every block below `end` whose number is a multiple of the stride.
-fn compare(
-    p: Setting,
-    products: &Products,
-    rows: &[u8],
-    l: usize,
-    distance: usize,
-    count: usize,
-    stride: usize,
-    end: usize,
-)
-    requires { Ready p products.now rows.now × (p.n ≤ longest_block) × (l ≤ p.m) × (0 < stride) × (stride ≤ 4194304) × (end ≤ 4194304) }
-{
-    let mut blocks: usize = 0;
-    let mut near: usize = 0;
-    let mut agree: usize = 0;
-    let mut number: usize = 0;
-    while number < end {
-        let tally = one(p, products, rows, l, distance, count, number);
-        near += tally.near;
-        agree += tally.agree;
-        blocks += 1;
-        number += stride;
-    }
-    print(blocks, b' ');
-    print(near, b' ');
-    print(agree, 10);
+    io::write_all(STDOUT, &[after]);
 }
 
 // One level of a setting: q^((l+1)k) information words, q^n blocks.
-fn level(number: u64, l: usize, distance: usize, count: usize, stride: usize, end: usize)
-    requires { Passes (is_setting number) × (l ≤ (setting_of number).m) × (0 < stride) × (stride ≤ 4194304) × (end ≤ 4194304) }
+fn compare(
+    number: SettingNumber,
+    l: usize,
+    distance: usize,
+    words: usize,
+    stride: usize,
+    end: usize,
+)
+    requires { (l ≤ (parameters_of number).m) × (0 < stride) × (end ≤ 4194304) }
 {
-    let p = code::setting_of(number);
-    let products = field::products(p.q);
-    let mut rows = [0u8; tables::LONGEST_ROWS];
-    tables::rows(number, &mut rows);
-    print(number as usize, b' ');
+    let tables = Tables::new(number);
+    let level = Level {
+        tables: &tables,
+        l,
+        distance,
+        words,
+    };
+    let all = level.blocks(stride, end);
+    print(u64::from(number) as usize, b' ');
     print(l, b' ');
-    compare(p, &products, &rows, l, distance, count, stride, end);
+    print(all.blocks, b' ');
+    print(all.near, b' ');
+    print(all.agree, b'\n');
 }
 
 fn main() {
-    level(1, 0, 4, 5, 1, 625);
-    level(1, 1, 3, 25, 1, 625);
-    level(1, 2, 2, 125, 1, 625);
-    level(2, 0, 6, 64, 523, 2097152);
-    level(2, 1, 4, 4096, 523, 2097152);
-    level(2, 2, 2, 262144, 16001, 2097152);
-    level(3, 0, 5, 512, 523, 2097152);
-    level(3, 1, 2, 262144, 16001, 2097152);
+    compare(SettingNumber::One, 0, 4, 5, 1, 625);
+    compare(SettingNumber::One, 1, 3, 25, 1, 625);
+    compare(SettingNumber::One, 2, 2, 125, 1, 625);
+    compare(SettingNumber::Two, 0, 6, 64, 523, 2097152);
+    compare(SettingNumber::Two, 1, 4, 4096, 523, 2097152);
+    compare(SettingNumber::Two, 2, 2, 262144, 16001, 2097152);
+    compare(SettingNumber::Three, 0, 5, 512, 523, 2097152);
+    compare(SettingNumber::Three, 1, 2, 262144, 16001, 2097152);
 }

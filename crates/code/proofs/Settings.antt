@@ -1,6 +1,7 @@
 -- What every setting satisfies (`Sound`), by one computed test over the list.
 -- Holds: `setting_range`, `sound_of`, `block_positive`, `level_fits`, `information_fits`; `Sizes`, `sizes`, `sizes_of` (the bounds that follow
--- for every setting there can be); `largest_at`, `largest_of` (a setting's figure is at most the largest).
+-- for every setting there can be); of a `SettingNumber` `number_known`, `sound_of_number`, `sizes_of_number`; `largest_at`, `largest_of` (a setting's figure is at
+-- most the largest).
 use mathlib.Core.Bool.{Bool, true, ◌&&◌}
 use mathlib.Core.List.{List, [], ◌∷◌}
 use Prim.Native.Nat.{ℕ, zero, suc, ◌+◌, ◌-◌, ◌*◌, ◌≤◌, ◌<◌}
@@ -13,7 +14,10 @@ use Rattle.field.specs.Fields.{fields}
 use Rattle.field.specs.parts.Operations.{is_field}
 use Rattle.field.proofs.Operations.{good_small}
 use Rattle.code.specs.declared.Setting.{Setting}
+use Rattle.code.specs.declared.SettingNumber.{SettingNumber}
+use Rattle.code.specs.declared.SettingNumber.TheVariants.{One, Two, Three, Four, Five}
 use Rattle.code.specs.Settings.{setting, settings, is_setting, setting_of, largest}
+use Rattle.code.specs.parts.SettingNumbers.{number_of, parameters_of}
 use Rattle.code.specs.parts.Sound.{Sound}
 
 -- A setting's number is in the list's range.
@@ -89,6 +93,20 @@ sizes p S =
 
 pub sizes_of : (s : ℕ) → Passes (is_setting s) → Sizes (setting_of s)
 sizes_of s t = sizes (setting_of s) (sound_of s t)
+
+-- The same of a `SettingNumber`, whose number is a setting's.
+pub number_known : (s : SettingNumber) → Passes (is_setting (number_of s))
+number_known One = tt
+number_known Two = tt
+number_known Three = tt
+number_known Four = tt
+number_known Five = tt
+
+pub sound_of_number : (s : SettingNumber) → Sound (parameters_of s)
+sound_of_number s = sound_of (number_of s) (number_known s)
+
+pub sizes_of_number : (s : SettingNumber) → Sizes (parameters_of s)
+sizes_of_number s = sizes_of (number_of s) (number_known s)
 
 -- A setting's figure is at most the largest.
 pub largest_at : (figure : Setting → ℕ) (l : List Setting) (i : ℕ) (d : Setting) → i < length l → figure (get_or l i d) ≤ largest figure l

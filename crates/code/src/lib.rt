@@ -1,10 +1,58 @@
 // The code of document 01 in specs/, and what is true of it in proofs/; the settings at run time.
 #![tactic(auto)]
 
-ghost use Rattle.std.specs.Prelude.{◌≡◌, ◌≤◌, T as Passes};
+ghost use Rattle.std.specs.Prelude.{◌≡◌, ◌≤◌};
 ghost use Rattle.code.specs.Code.{level_distance, distances_to};
-ghost use Rattle.code.specs.Settings.{setting, is_setting, setting_of};
+ghost use Rattle.code.specs.Settings.{setting};
+ghost use Rattle.code.specs.parts.SettingNumbers.{number_of, parameters_of, Chosen};
 ghost use Rattle.code.specs.parts.Sound.{Sound};
+
+// The number of a setting: "Question 1 admits 1 to 5" (02, #101).
+#[derive(Clone, Copy, Debug, PartialEq, Eq)]
+pub enum SettingNumber {
+    One,
+    Two,
+    Three,
+    Four,
+    Five,
+}
+
+// A number that is no setting's.
+#[derive(Clone, Copy, Debug, PartialEq, Eq)]
+pub struct UnknownSetting;
+
+// Question 1.
+impl TryFrom<u64> for SettingNumber {
+    type Error = UnknownSetting;
+
+    ghost try_from_gives = { Chosen };
+
+    fn try_from(number: u64) -> Result<SettingNumber, UnknownSetting> {
+        match number {
+            1 => Ok(SettingNumber::One),
+            2 => Ok(SettingNumber::Two),
+            3 => Ok(SettingNumber::Three),
+            4 => Ok(SettingNumber::Four),
+            5 => Ok(SettingNumber::Five),
+            _ => Err(UnknownSetting),
+        }
+    }
+}
+
+// The number that stands for it.
+impl From<SettingNumber> for u64 {
+    ghost from_gives = { λ setting number. number ≡ number_of setting };
+
+    fn from(setting: SettingNumber) -> u64 {
+        match setting {
+            SettingNumber::One => 1,
+            SettingNumber::Two => 2,
+            SettingNumber::Three => 3,
+            SettingNumber::Four => 4,
+            SettingNumber::Five => 5,
+        }
+    }
+}
 
 // A setting (the code's parameters): q elements, blocks of n = q - 1 symbols, information blocks of k, memory m.
 #[derive(Clone, Copy)]
@@ -15,48 +63,27 @@ pub struct Setting {
     pub m: usize,
 }
 
-// Question 1: "Question 1 admits 1 to 5" (02, #101).
-pub fn is_setting(number: u64) -> bool
-    ensures { result ≡ is_setting number }
-{
-    if number < 1 {
-        return false;
-    }
-    number <= 5
-}
-
 // The setting with q elements, information blocks of k and memory m.
 fn parameters(q: usize, k: usize, m: usize) -> Setting
     requires { 1 ≤ q }
     ensures { result ≡ setting q k m }
 {
-    Setting {
-        q: q,
-        n: q - 1,
-        k: k,
-        m: m,
-    }
+    Setting { q, n: q - 1, k, m }
 }
 
-// The setting with a number. Told apart by `<`: with `==` encoding is up to a quarter slower, decoding up to an eighth
-// (docs/PERFORMANCE.md, "Settings told apart by `<`").
-pub fn setting_of(number: u64) -> Setting
-    requires { Passes (is_setting number) }
-    ensures { result ≡ setting_of number }
-{
-    if number < 2 {
-        return parameters(5, 1, 2);
+// The setting with a number.
+impl From<SettingNumber> for Setting {
+    ghost from_gives = { λ number p. p ≡ parameters_of number };
+
+    fn from(number: SettingNumber) -> Setting {
+        match number {
+            SettingNumber::One => parameters(5, 1, 2),
+            SettingNumber::Two => parameters(8, 2, 2),
+            SettingNumber::Three => parameters(8, 3, 1),
+            SettingNumber::Four => parameters(16, 3, 3),
+            SettingNumber::Five => parameters(16, 5, 2),
+        }
     }
-    if number < 3 {
-        return parameters(8, 2, 2);
-    }
-    if number < 4 {
-        return parameters(8, 3, 1);
-    }
-    if number < 5 {
-        return parameters(16, 3, 3);
-    }
-    parameters(16, 5, 2)
 }
 
 // d_l = n - (l+1)k + 1, the distance of the level-l code.
@@ -73,10 +100,8 @@ pub fn distances_to(p: Setting, l: usize) -> usize
     ensures { result ≡ distances_to p.n p.k l }
 {
     let mut sum = level_distance(p, 0);
-    let mut i: usize = 0;
-    while i < l {
-        i += 1;
-        sum += level_distance(p, i);
+    for i in 0..l {
+        sum += level_distance(p, i + 1);
     }
     sum
 }

@@ -1,4 +1,3 @@
 -- What the proofs of the desk's functions share.
 pub mod Texts
-pub mod Kept
 pub mod Turns

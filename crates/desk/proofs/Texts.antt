@@ -1,29 +1,30 @@
 -- The lines of a text, read in parts; what is kept of a line that is begun; the answers behind one another.
--- Holds: `lines_append`, `rest_append` (a text in two parts); `lines_before`, `rest_before`, `newline_at` (up to the next newline); `held_copied`;
--- `answer_few`, `room_after`, `put_behind`; `output_append`, `output_more`; `reached_none`, `reached_unended`, `reached_ended`, `reached_all`;
--- `last_none`, `last_answered`, `last_kept`.
-use Rattle.std.specs.Prelude.{slice_range}
+-- Holds: `lines_append`, `rest_append` (a text in two parts); `put_behind`; `output_append`; `kept_more`, `line_answered`; `last_answered`; `Reached`,
+-- `reached_none`, `reached_ended`, `reached_all` (up to the next newline, and to the end of a text).
 use mathlib.Core.Path.{◌≡◌, refl, sym, ap, ap₂, subst, ◌∙◌}
-use mathlib.Core.Bool.{Bool, true, false}
+use mathlib.Core.Bool.{Bool, true, false, cond, not}
 use mathlib.Core.List.{List, [], ◌∷◌, ◌++◌, append-nil, append_assoc}
 use Prim.Native.Nat.{ℕ, zero, suc, ◌+◌, ◌-◌, ◌≤◌, ◌<◌, min}
 use native.Mathlib.Numerals.{add-one}
 use native.Mathlib.Omega.{arith}
 use native.Mathlib.Decide.{dec_le}
 use lib.Dec.{eqb, leb}
-use lib.ListN.{length, get_or, take, drop, set, length-append, length-take, length-drop}
-use lib.Seq.{length-take-le, take_all, take-nil, take-suc, take-add, take-append-le, take-append-add, take_at, take-length, set_split, get_or-drop}
-use borrow.Author.Tests.{eqb-true, le-leb}
+use lib.ListN.{length, take, drop, length-append, length-take, length-drop}
+use lib.Seq.{length-take-le, take_all, take-nil, take-append-le, take-append-add, take_at}
+use borrow.Author.Tests.{ltb-true, ltb-false, le-leb}
 use borrow.Rule.Slice.PartMut.{put_mid}
+use Rattle.std.specs.Prelude.{Option, Some, None, nat_lt}
+use Rattle.std.specs.List.{position_or_len, position}
+use Rattle.std.proofs.lemmas.List.{take_rest, take_min}
+use Rattle.std.proofs.lemmas.List.Sums.{prefix_len-le-length}
 use Rattle.std.proofs.lemmas.Slice.{take-put_mid}
-use Rattle.desk.specs.Bytes.{index_after, index_of}
 use Rattle.algebra.specs.Ops.{pick}
 use Rattle.line.specs.Questions.{most_characters}
 use Rattle.line.specs.Answering.{Answers, AnswerShown}
 use Rattle.line.proofs.Frames.{answers_sevenfold, answers_kept}
-use Rattle.desk.specs.Texts.{newline, lines_of, rest_of, last_of, Output, none, next}
-use Rattle.desk.specs.Turns.{answers_room}
-use Rattle.desk.specs.parts.Lines.{Holds, Behind, Reached}
+use Rattle.desk.specs.Texts.{newline, is_newline, lines_of, rest_of, last_of, Output, none, next}
+use Rattle.desk.specs.Turns.{KeptLine, kept_line, Kept, answers_room, TextAnswered, Turned, came}
+use Rattle.desk.specs.parts.Lines.{Behind}
 
 -- A text in two parts.
 pub lines_append : (b s t : List ℕ) → lines_of b (s ++ t) ≡ lines_of b s ++ lines_of (rest_of b s) t
@@ -48,39 +49,61 @@ rest_append b (c ∷ s) t = at (eqb c newline) (rest_append [] s t) (rest_append
     at true ended on = ended
     at false ended on = on
 
--- Up to the next newline no line ends ..
-pub lines_before : (b l : List ℕ) → lines_of b (take (index_of newline l) l) ≡ []
-unfolding lines_of index_of index_after
-lines_before b [] = refl
-lines_before b (x ∷ l) = at (eqb x newline) refl (lines_before (b ++ x ∷ []) l)
+-- Up to the first newline a text is of the line that is begun, and ends it there ..
+lines_ended : (begun l : List ℕ) (end : ℕ) → position_or_len is_newline l ≡ end → end < length l
+    → lines_of begun l ≡ (begun ++ take end l) ∷ lines_of [] (drop (suc end) l)
+unfolding lines_of
+lines_ended begun [] end e h = absurd (omega arith)
+lines_ended begun (c ∷ l) end e h = at (eqb c newline) e (lines_ended (begun ++ c ∷ []) l (position_or_len is_newline l) refl)
   where
-    at : (e : Bool) → eqb x newline ≡ e → lines_of (b ++ x ∷ []) (take (index_of newline l) l) ≡ []
-        → lines_of b (take (index_after e (index_of newline l)) (x ∷ l)) ≡ []
-    at true h on = refl
-    at false h on = ap (λ (t : Bool). pick t (b ∷ lines_of [] (take (index_of newline l) l)) (lines_of (b ++ x ∷ []) (take (index_of newline l) l))) h ∙ on
+    at : (b : Bool) → cond (not b) (1 + position_or_len is_newline l) 0 ≡ end
+        → (position_or_len is_newline l < length l → lines_of (begun ++ c ∷ []) l
+        ≡ ((begun ++ c ∷ []) ++ take (position_or_len is_newline l) l) ∷ lines_of [] (drop (suc (position_or_len is_newline l)) l))
+        → pick b (begun ∷ lines_of [] l) (lines_of (begun ++ c ∷ []) l) ≡ (begun ++ take end (c ∷ l)) ∷ lines_of [] (drop (suc end) (c ∷ l))
+    at true here on =
+        subst (λ (i : ℕ). begun ∷ lines_of [] l ≡ (begun ++ take i (c ∷ l)) ∷ lines_of [] (drop (suc i) (c ∷ l))) here
+        (ap (λ (b : List ℕ). b ∷ lines_of [] l) (sym (append-nil begun)))
+    at false there on =
+        let one : suc (position_or_len is_newline l) ≡ end = omega (arith, there) in
+        subst (λ (i : ℕ). lines_of (begun ++ c ∷ []) l ≡ (begun ++ take i (c ∷ l)) ∷ lines_of [] (drop (suc i) (c ∷ l))) one
+        (on (omega arith) ∙ ap (λ (b : List ℕ). b ∷ lines_of [] (drop (suc (position_or_len is_newline l)) l))
+        (append_assoc begun (c ∷ []) (take (position_or_len is_newline l) l)))
 
-pub rest_before : (b l : List ℕ) → rest_of b (take (index_of newline l) l) ≡ b ++ take (index_of newline l) l
-unfolding rest_of index_of index_after
-rest_before b [] = sym (append-nil b)
-rest_before b (x ∷ l) = at (eqb x newline) refl (rest_before (b ++ x ∷ []) l)
+rest_ended : (begun l : List ℕ) (end : ℕ) → position_or_len is_newline l ≡ end → end < length l → rest_of begun l ≡ rest_of [] (drop (suc end) l)
+unfolding rest_of
+rest_ended begun [] end e h = absurd (omega arith)
+rest_ended begun (c ∷ l) end e h = at (eqb c newline) e (rest_ended (begun ++ c ∷ []) l (position_or_len is_newline l) refl)
   where
-    at : (e : Bool) → eqb x newline ≡ e → rest_of (b ++ x ∷ []) (take (index_of newline l) l) ≡ (b ++ x ∷ []) ++ take (index_of newline l) l
-        → rest_of b (take (index_after e (index_of newline l)) (x ∷ l)) ≡ b ++ take (index_after e (index_of newline l)) (x ∷ l)
-    at true h on = sym (append-nil b)
-    at false h on =
-        ap (λ (t : Bool). pick t (rest_of [] (take (index_of newline l) l)) (rest_of (b ++ x ∷ []) (take (index_of newline l) l))) h
-        ∙ (on ∙ append_assoc b (x ∷ []) (take (index_of newline l) l))
+    at : (b : Bool) → cond (not b) (1 + position_or_len is_newline l) 0 ≡ end
+        → (position_or_len is_newline l < length l → rest_of (begun ++ c ∷ []) l ≡ rest_of [] (drop (suc (position_or_len is_newline l)) l))
+        → pick b (rest_of [] l) (rest_of (begun ++ c ∷ []) l) ≡ rest_of [] (drop (suc end) (c ∷ l))
+    at true here on = subst (λ (i : ℕ). rest_of [] l ≡ rest_of [] (drop (suc i) (c ∷ l))) here refl
+    at false there on =
+        let one : suc (position_or_len is_newline l) ≡ end = omega (arith, there) in
+        subst (λ (i : ℕ). rest_of (begun ++ c ∷ []) l ≡ rest_of [] (drop (suc i) (c ∷ l))) one (on (omega arith))
 
--- .. and there it stands, unless the text ends before.
-pub newline_at : (l : List ℕ) → index_of newline l < length l → get_or l (index_of newline l) 0 ≡ newline
-unfolding index_of index_after
-newline_at [] h = absurd (omega arith)
-newline_at (x ∷ l) h = at (eqb x newline) refl (newline_at l) h
+-- .. and without one all of it is of that line.
+lines_unended : (begun l : List ℕ) → position_or_len is_newline l ≡ length l → lines_of begun l ≡ []
+unfolding lines_of
+lines_unended begun [] e = refl
+lines_unended begun (c ∷ l) e = at (eqb c newline) e (lines_unended (begun ++ c ∷ []) l)
   where
-    at : (e : Bool) → eqb x newline ≡ e → (index_of newline l < length l → get_or l (index_of newline l) 0 ≡ newline)
-        → index_after e (index_of newline l) < suc (length l) → get_or (x ∷ l) (index_after e (index_of newline l)) 0 ≡ newline
-    at true e on h = eqb-true x newline e
-    at false e on h = on (omega arith)
+    at : (b : Bool) → cond (not b) (1 + position_or_len is_newline l) 0 ≡ suc (length l)
+        → (position_or_len is_newline l ≡ length l → lines_of (begun ++ c ∷ []) l ≡ [])
+        → pick b (begun ∷ lines_of [] l) (lines_of (begun ++ c ∷ []) l) ≡ []
+    at true here on = absurd (omega arith)
+    at false there on = on (omega arith)
+
+rest_unended : (begun l : List ℕ) → position_or_len is_newline l ≡ length l → rest_of begun l ≡ begun ++ l
+unfolding rest_of
+rest_unended begun [] e = sym (append-nil begun)
+rest_unended begun (c ∷ l) e = at (eqb c newline) e (rest_unended (begun ++ c ∷ []) l)
+  where
+    at : (b : Bool) → cond (not b) (1 + position_or_len is_newline l) 0 ≡ suc (length l)
+        → (position_or_len is_newline l ≡ length l → rest_of (begun ++ c ∷ []) l ≡ (begun ++ c ∷ []) ++ l)
+        → pick b (rest_of [] l) (rest_of (begun ++ c ∷ []) l) ≡ begun ++ c ∷ l
+    at true here on = absurd (omega arith)
+    at false there on = on (omega arith) ∙ append_assoc begun (c ∷ []) l
 
 take_append : (n : ℕ) (xs ys : List ℕ) → take n (xs ++ ys) ≡ take n xs ++ take (n - length xs) ys
 take_append n xs ys = at (dec_le n (length xs))
@@ -94,78 +117,52 @@ take_append n xs ys = at (dec_le n (length xs))
         ap (λ (k : ℕ). take k (xs ++ ys)) (sym whole)
         ∙ (take-append-add xs ys (n - length xs) ∙ ap (λ (l : List ℕ). l ++ take (n - length xs) ys) (sym (take_all n xs (omega arith))))
 
-held_is : (begun area : List ℕ) (held : ℕ) → Holds begun area held → held ≡ min (length area - 1) (length begun)
-held_is begun area held H =
-    let inside : held < length area = H.within in
-    sym (length-take-le held area (omega arith)) ∙ (ap length H.kept ∙ length-take (length area - 1) begun)
+-- A list and another behind it, of which there is room for so much ..
+pub kept_more : (room : ℕ) (l part : List ℕ) → take room (take room l ++ part) ≡ take room (l ++ part)
+kept_more room l part =
+    take_append room (take room l) part
+    ∙ (ap₂ (λ (xs : List ℕ) (k : ℕ). xs ++ take k part) (take_all room (take room l) (omega (arith, length-take room l))) (omega (arith, length-take room l))
+    ∙ sym (take_append room l part))
 
--- A part of the line came, of which there was room for so much.
-held_more : (begun part area after : List ℕ) (held r : ℕ) → Holds begun area held → length after ≡ length area → r < length area
-    → take r after ≡ take held area ++ take (length area - 1 - held) part → Holds (begun ++ part) after r
-held_more begun part area after held r H same room e =
-    record {
-      within = omega arith;
-      kept =
-          e
-          ∙ (ap₂ (λ (l : List ℕ) (k : ℕ). l ++ take k part) H.kept left
-          ∙ (sym (take_append (length area - 1) begun part) ∙ ap (λ (k : ℕ). take (k - 1) (begun ++ part)) (sym same)));
-    }
+-- What `Text::append` leaves.
+pub appended : (bytes part source : List ℕ) (filled from room k : ℕ) → length bytes ≡ room → filled ≤ room → from ≡ filled
+    → source ≡ take k part → k ≡ min (room - from) (length part)
+    → take (from + k) (put_mid from (from + k - from) bytes source) ≡ take room (take filled bytes ++ part)
+appended bytes part source filled from room k long inside behind e n =
+    take-put_mid from (from + k - from) bytes source (from + k) (omega (arith, ap length e, n, length-take k part)) (omega arith)
+    ∙ (ap₂ (λ (i : ℕ) (l : List ℕ). take i bytes ++ l) behind (e ∙ (ap (λ (i : ℕ). take i part) n ∙ take_min (room - from) part))
+    ∙ (ap₂ (λ (l : List ℕ) (i : ℕ). l ++ take i part) (sym (take_all room (take filled bytes) (omega (arith, front)))) (omega (arith, front))
+    ∙ sym (take_append room (take filled bytes) part)))
   where
-    left : length area - 1 - held ≡ length area - 1 - length begun
-    left = omega (arith, held_is begun area held H)
+    front : length (take filled bytes) ≡ filled
+    front = length-take-le filled bytes (omega arith)
 
--- The same, as copying leaves it.
-pub held_copied : (begun part area source : List ℕ) (held k r : ℕ) → source ≡ take (length area - 1 - held) part
-    → length (put_mid held k area source) ≡ length area → r ≡ held + length source → r < length area → Holds begun area held
-    → Holds (begun ++ part) (put_mid held k area source) r
-held_copied begun part area source held k r from_part same r_is room H =
-    let inside : held < length area = H.within in
-    held_more begun part area (put_mid held k area source) held r H same room
-    (take-put_mid held k area source r r_is (omega arith) ∙ ap (λ (l : List ℕ). take held area ++ l) from_part)
-
--- The length of an answer, in terms of its line's.
-pub answer_few : (line before : List ℕ) (r : ℕ) (after : List ℕ) → AnswerShown line before r after → r + 1 ≤ answers_room (length line + 1)
-answer_few line before r after a = at (leb (length a.text) (length before)) a.shown.long
-  where
-    at : (t : Bool) → r ≡ pick t (length a.text) 0 → r + 1 ≤ answers_room (length line + 1)
-    at true e = omega (arith, answers_sevenfold line a.text a.answers)
-    at false e = omega arith
-
--- The answer to a line that ends at `to` leaves room for those to what follows it.
-pub room_after : (filled held from to buffer output held' r : ℕ) (part line : List ℕ) → filled + answers_room (held + (buffer - from)) ≤ output
-    → from ≤ to → to < buffer → held' ≤ held + length (take (to - from) part) → r ≤ filled + answers_room (length (take (held' - 0) line) + 1)
-    → r + answers_room (0 + (buffer - (to + 1))) ≤ output
-room_after filled held from to buffer output held' r part line room on inside few answer =
-    let a : length (take (to - from) part) ≤ to - from = omega (arith, length-take (to - from) part) in
-    let b : length (take (held' - 0) line) ≤ held' = omega (arith, length-take (held' - 0) line) in
-    omega arith
-
--- An answer and its newline behind the output that waits, as the line's answer and a store leave it.
-pub put_behind : (line before over shown : List ℕ) (filled k r : ℕ) → filled + answers_room (length line + 1) ≤ length before
-    → length over ≡ length before - filled → AnswerShown line over r shown → filled + r < length (put_mid filled k before shown)
-    → Behind line before filled (set (put_mid filled k before shown) (filled + r) newline) (filled + r + 1)
-put_behind line before over shown filled k r room fits A inside =
+-- An answer and its newline behind the output that waits, as the line's answer and what is appended leave it.
+pub put_behind : (line before bytes shown after : List ℕ) (filled from k r room : ℕ) → take filled bytes ≡ before → length before + answers_room (length line + 1) ≤ room
+    → filled ≤ room → length bytes ≡ room → from ≡ filled → k ≡ room - from → AnswerShown line (take k (drop from bytes)) r shown
+    → after ≡ take room (take (from + r) (put_mid from k bytes shown) ++ newline ∷ []) → Behind line before after
+put_behind line before bytes shown after filled from k r room kept fits inside long behind rest A e =
     record {
       text = A.text;
       answers = A.answers;
-      is =
-          ap (take (filled + r + 1)) (set_split whole (filled + r) newline inside)
-          ∙ (ap₂ (λ (n : ℕ) (l : List ℕ). take (n + 1) (l ++ newline ∷ drop (suc (filled + r)) whole)) (sym front_long) front_is
-          ∙ (take-append-add front (newline ∷ drop (suc (filled + r)) whole) 1 ∙ append_assoc (take filled before) A.text (newline ∷ [])));
-      room = omega (arith, most, r_is);
+      is = is;
+      room = omega (arith, ap length is, most, length-append before (A.text ++ newline ∷ []), length-append A.text (newline ∷ []));
     }
   where
-    whole : List ℕ
-    whole = put_mid filled k before shown
+    over : List ℕ
+    over = take k (drop from bytes)
 
-    front : List ℕ
-    front = take filled before ++ A.text
+    front : take from bytes ≡ before
+    front = ap (λ (n : ℕ). take n bytes) behind ∙ kept
+
+    waits : length before ≡ from
+    waits = ap length (sym front) ∙ length-take-le from bytes (omega arith)
 
     most : length A.text + 1 ≤ answers_room (length line + 1)
     most = answers_sevenfold line A.text A.answers
 
     has_room : leb (length A.text) (length over) ≡ true
-    has_room = le-leb (length A.text) (length over) (omega (arith, most))
+    has_room = le-leb (length A.text) (length over) (omega (arith, most, waits, length-take k (drop from bytes), length-drop from bytes))
 
     r_is : r ≡ length A.text
     r_is = A.shown.long ∙ ap (λ (t : Bool). pick t (length A.text) 0) has_room
@@ -173,16 +170,23 @@ put_behind line before over shown filled k r room fits A inside =
     shown_is : shown ≡ A.text ++ drop (length A.text) over
     shown_is = A.shown.area ∙ ap (λ (t : Bool). pick t (A.text ++ drop (length A.text) over) over) has_room
 
-    front_long : length front ≡ filled + r
-    front_long = length-append (take filled before) A.text ∙ ap₂ ◌+◌ (length-take-le filled before (omega arith)) (sym r_is)
+    front_long : length (before ++ A.text) ≡ from + r
+    front_long = length-append before A.text ∙ ap₂ ◌+◌ waits (sym r_is)
 
-    front_is : take (filled + r) whole ≡ front
+    front_is : take (from + r) (put_mid from k bytes shown) ≡ before ++ A.text
     front_is =
-        ap (λ (l : List ℕ). take (filled + r) (put_mid filled k before l)) shown_is
-        ∙ (ap (take (filled + r))
-        (ap (λ (l : List ℕ). take filled before ++ l) (append_assoc A.text (drop (length A.text) over) (drop k (drop filled before)))
-        ∙ sym (append_assoc (take filled before) A.text (drop (length A.text) over ++ drop k (drop filled before))))
-        ∙ take_at front (drop (length A.text) over ++ drop k (drop filled before)) (filled + r) front_long)
+        ap₂ (λ (f l : List ℕ). take (from + r) (f ++ (l ++ drop k (drop from bytes)))) front shown_is
+        ∙ (ap (take (from + r))
+        (ap (λ (l : List ℕ). before ++ l) (append_assoc A.text (drop (length A.text) over) (drop k (drop from bytes)))
+        ∙ sym (append_assoc before A.text (drop (length A.text) over ++ drop k (drop from bytes))))
+        ∙ take_at (before ++ A.text) (drop (length A.text) over ++ drop k (drop from bytes)) (from + r) front_long)
+
+    is : after ≡ before ++ (A.text ++ newline ∷ [])
+    is =
+        e
+        ∙ (ap (λ (l : List ℕ). take room (l ++ newline ∷ [])) front_is
+        ∙ (take_all room ((before ++ A.text) ++ newline ∷ []) (omega (arith, most, waits, length-append before A.text, length-append (before ++ A.text) (newline ∷ [])))
+        ∙ append_assoc before A.text (newline ∷ [])))
 
 -- Outputs behind one another.
 pub output_append : {ls ms : List (List ℕ)} {s t : List ℕ} → Output ls s → Output ms t → Output (ls ++ ms) (s ++ t)
@@ -194,118 +198,101 @@ pub output_more : {ls : List (List ℕ)} {s : List ℕ} (line text : List ℕ) �
     → Output (ls ++ line ∷ []) (s ++ (text ++ newline ∷ []))
 output_more line text o a = output_append o (next line text [] [] a none)
 
+-- The line that is kept gets the answer of the line that it begins.
+pub line_answered : (room : ℕ) → most_characters < room → (line text kept : List ℕ) → kept ≡ take room line → Answers kept text → Answers line text
+line_answered room h line text kept e a = answers_kept room h line text (subst (λ (l : List ℕ). Answers l text) e a)
+
+-- A line grows by what came of it at most.
+pub kept_few : (room end : ℕ) (line rest kept : List ℕ) → kept ≡ take room (line ++ take end rest) → length kept ≤ min room (length line) + end
+kept_few room end line rest kept e =
+    omega (arith, ap length e, length-take room (line ++ take end rest), length-append line (take end rest), length-take end rest)
+
+-- Where `begun` of a line came before it, a text was read but for `rest`: `line` is kept, and the answers to the lines that ended are the output.
+pub record Reached (room : ℕ) (begun text line rest output : List ℕ) : Type 0 where
+  pub now_begun : List ℕ
+  pub done : List (List ℕ)
+  pub kept : Kept now_begun (kept_line room line)
+  pub answered : Output done output
+  pub lines : lines_of begun text ≡ done ++ lines_of now_begun rest
+  pub last : rest_of begun text ≡ rest_of now_begun rest
+
 -- Nothing was read yet.
-pub reached_none : (begun buffer area : List ℕ) (held : ℕ) (output : List ℕ) → Holds begun area held → Reached begun (take 0 buffer) area held output 0
-unfolding lines_of rest_of
-reached_none begun buffer area held output H = record { kept = H; answered = none }
+pub reached_none : (room : ℕ) (begun text line output : List ℕ) → Kept begun (kept_line room line) → output ≡ [] → Reached room begun text line text output
+reached_none room begun text line output K e =
+    record { now_begun = begun; done = []; kept = K; answered = subst (Output []) (sym e) none; lines = refl; last = refl }
 
--- The code looks for the next newline from `from` on, and keeps what comes before it.
-module _ (begun buffer : List ℕ) (from : ℕ) (area : List ℕ) (held : ℕ) (output : List ℕ) (filled : ℕ)
-    (R : Reached begun (take from buffer) area held output filled)
-    (to : ℕ) (found_in : to ≡ from + index_of newline (slice_range buffer from (length buffer))) (area' : List ℕ) (held' : ℕ)
-    (H : Holds (rest_of begun (take from buffer) ++ take (to - from) (drop from buffer)) area' held') where
-  before : List ℕ
-  before = take from buffer
+pub found : (l : List ℕ) (end : ℕ) → position is_newline l ≡ Some end → (position_or_len is_newline l ≡ end) × (end < length l)
+found l end e = at (nat_lt (position_or_len is_newline l) (length l)) refl e
+  where
+    at : (b : Bool) → nat_lt (position_or_len is_newline l) (length l) ≡ b → cond b (Some (position_or_len is_newline l)) None ≡ Some end
+        → (position_or_len is_newline l ≡ end) × (end < length l)
+    at true h e = let here : position_or_len is_newline l ≡ end = cc in (here, omega (arith, ltb-true _ _ h))
+    at false h e = absurd (let z : ◌≡◌ {A = ℕ} 0 1 = cc in omega arith)
 
-  part : List ℕ
-  part = take (index_of newline (drop from buffer)) (drop from buffer)
+not_found : (l : List ℕ) → position is_newline l ≡ None → position_or_len is_newline l ≡ length l
+not_found l e = at (nat_lt (position_or_len is_newline l) (length l)) refl e
+  where
+    at : (b : Bool) → nat_lt (position_or_len is_newline l) (length l) ≡ b → cond b (Some (position_or_len is_newline l)) None ≡ None
+        → position_or_len is_newline l ≡ length l
+    at true h e = absurd (let z : ◌≡◌ {A = ℕ} 0 1 = cc in omega arith)
+    at false h e = omega (arith, ltb-false _ _ h, prefix_len-le-length (λ c. not (is_newline c)) l)
 
-  found_at : to ≡ from + index_of newline (drop from buffer)
-  found_at =
-      found_in
-      ∙ ap (λ (l : List ℕ). from + index_of newline l) (take_all (length buffer - from) (drop from buffer) (omega (arith, length-drop from buffer)))
+-- Up to the next newline, which ends a line; it was answered.
+pub reached_ended : (room : ℕ) → most_characters < room → (begun text line rest output output' : List ℕ) (end : ℕ) → Reached room begun text line rest output
+    → position is_newline rest ≡ Some end → (kept line' : List ℕ) → kept ≡ take room (line ++ take end rest) → Behind kept output output' → line' ≡ []
+    → Reached room begun text line' (take (length rest - (end + 1)) (drop (end + 1) rest)) output'
+reached_ended room h begun text line rest output output' end R e kept line' kept_is B none_kept =
+    record {
+      now_begun = [];
+      done = R.done ++ whole ∷ [];
+      kept = none_kept ∙ sym (take-nil room);
+      answered = subst (Output (R.done ++ whole ∷ [])) (sym B.is) (output_more whole B.text R.answered (line_answered room h whole B.text kept whole_kept B.answers));
+      lines =
+          R.lines
+          ∙ (ap (λ (l : List (List ℕ)). R.done ++ l) (lines_ended R.now_begun rest end (found rest end e).0 (found rest end e).1)
+          ∙ (sym (append_assoc R.done (whole ∷ []) (lines_of [] (drop (suc end) rest)))
+          ∙ ap (λ (l : List ℕ). (R.done ++ whole ∷ []) ++ lines_of [] l) (sym others)));
+      last = R.last ∙ (rest_ended R.now_begun rest end (found rest end e).0 (found rest end e).1 ∙ ap (rest_of []) (sym others));
+    }
+  where
+    whole : List ℕ
+    whole = R.now_begun ++ take end rest
 
-  keeps : Holds (rest_of begun before ++ part) area' held'
-  unfolding before part
-  keeps =
-      let long : to - from ≡ index_of newline (drop from buffer) = omega (arith, found_at) in
-      subst (λ (n : ℕ). Holds (rest_of begun (take from buffer) ++ take n (drop from buffer)) area' held') long H
+    whole_kept : kept ≡ take room whole
+    whole_kept = kept_is ∙ (ap (λ (l : List ℕ). take room (l ++ take end rest)) R.kept ∙ kept_more room R.now_begun (take end rest))
 
-  text_is : take to buffer ≡ before ++ part
-  unfolding before part
-  text_is = ap (λ (k : ℕ). take k buffer) found_at ∙ take-add from (index_of newline (drop from buffer)) buffer
+    others : take (length rest - (end + 1)) (drop (end + 1) rest) ≡ drop (suc end) rest
+    others = take_rest rest (end + 1) ∙ ap (λ (i : ℕ). drop i rest) (add-one end)
 
-  lines_same : lines_of begun (take to buffer) ≡ lines_of begun before
-  unfolding before part
-  lines_same =
-      ap (lines_of begun) text_is
-      ∙ (lines_append begun before part ∙ (ap (λ (l : List (List ℕ)). lines_of begun before ++ l) (lines_before (rest_of begun before) (drop from buffer))
-      ∙ append-nil (lines_of begun before)))
+-- To the end of the text, in which no newline is left.
+pub reached_all : (room : ℕ) (begun text line rest output part line' : List ℕ) → Reached room begun text line rest output → position is_newline rest ≡ None
+    → part ≡ rest → line' ≡ take room (line ++ part) → Output (lines_of begun text) output × Kept (rest_of begun text) (kept_line room line')
+reached_all room begun text line rest output part line' R e whole kept_is = (
+  subst (λ (l : List (List ℕ)). Output l output)
+      (sym (R.lines ∙ (ap (λ (l : List (List ℕ)). R.done ++ l) (lines_unended R.now_begun rest (not_found rest e)) ∙ append-nil R.done))) R.answered,
+  kept_is
+      ∙ ap₂ (λ (l p : List ℕ). take room (l ++ p)) R.kept whole
+      ∙ (kept_more room R.now_begun rest ∙ ap (take room) (sym (R.last ∙ rest_unended R.now_begun rest (not_found rest e)))),
+)
 
-  rest_longer : rest_of begun (take to buffer) ≡ rest_of begun before ++ part
-  unfolding before part
-  rest_longer = ap (rest_of begun) text_is ∙ (rest_append begun before part ∙ rest_before (rest_of begun before) (drop from buffer))
-
-  -- The buffer ends in the line.
-  pub reached_unended : Reached begun (take to buffer) area' held' output filled
-  unfolding before part
-  reached_unended =
-      record {
-        kept = subst (λ (l : List ℕ). Holds l area' held') (sym rest_longer) keeps;
-        answered = subst (λ (l : List (List ℕ)). Output l (take filled output)) (sym lines_same) R.answered;
-      }
-
-  -- The line ends, and was answered.
-  pub reached_ended : (output' : List ℕ) (filled' : ℕ) → most_characters + 1 < length area' → to < length buffer
-      → Behind (take (held' - 0) area') output filled output' filled'
-      → Reached begun (take (to + 1) buffer) area' 0 output' filled'
-  unfolding before part lines_of rest_of
-  reached_ended output' filled' room inside B =
-      record {
-        kept = subst (λ (l : List ℕ). Holds l area' 0) (sym rest_new) (record { within = omega arith; kept = sym (take-nil (length area' - 1)) });
-        answered = subst (λ (l : List (List ℕ)). Output l (take filled' output')) (sym lines_new)
-            (subst (Output (lines_of begun before ++ (rest_of begun before ++ part) ∷ [])) (sym B.is)
-            (output_more (rest_of begun before ++ part) B.text R.answered answered));
-      }
-    where
-      answered : Answers (rest_of begun before ++ part) B.text
-      answered =
-          let whole : held' - 0 ≡ held' = omega arith in
-          answers_kept (length area' - 1) (omega arith) (rest_of begun before ++ part) B.text
-          (subst (λ (l : List ℕ). Answers l B.text) (ap (λ (n : ℕ). take n area') whole ∙ keeps.kept) B.answers)
-
-      one_more : take (to + 1) buffer ≡ take to buffer ++ newline ∷ []
-      one_more =
-          let here : index_of newline (drop from buffer) < length (drop from buffer) = omega (arith, found_at, length-drop from buffer) in
-          ap (λ (k : ℕ). take k buffer) (add-one to)
-          ∙ (take-suc buffer to 0 inside
-          ∙ ap (λ (c : ℕ). take to buffer ++ c ∷ [])
-          (ap (λ (k : ℕ). get_or buffer k 0) found_at ∙ (sym (get_or-drop from buffer (index_of newline (drop from buffer)) 0)
-          ∙ newline_at (drop from buffer) here)))
-
-      lines_new : lines_of begun (take (to + 1) buffer) ≡ lines_of begun before ++ (rest_of begun before ++ part) ∷ []
-      lines_new =
-          ap (lines_of begun) one_more
-          ∙ (lines_append begun (take to buffer) (newline ∷ []) ∙ ap₂ (λ (l : List (List ℕ)) (r : List ℕ). l ++ r ∷ []) lines_same rest_longer)
-
-      rest_new : rest_of begun (take (to + 1) buffer) ≡ []
-      rest_new = ap (rest_of begun) one_more ∙ rest_append begun (take to buffer) (newline ∷ [])
-
--- All of the buffer was read.
-pub reached_all : (begun buffer : List ℕ) (from : ℕ) (area : List ℕ) (held : ℕ) (output : List ℕ) (filled : ℕ) → from ≡ length buffer
-    → Reached begun (take from buffer) area held output filled → Reached begun buffer area held output filled
-reached_all begun buffer from area held output filled e R =
-    subst (λ (t : List ℕ). Reached begun t area held output filled) (ap (λ (n : ℕ). take n buffer) e ∙ take-length buffer) R
-
--- The last line of an input, where no newline ends it.
-pub last_none : (line output : List ℕ) → length line ≡ 0 → Output (last_of line) (take 0 output)
+-- The last line of an input, where no newline ends it; an empty one is none.
+pub last_answered : (room : ℕ) → most_characters < room → (begun line before output : List ℕ) → Kept begun (kept_line room line) → (length line ≡ 0 → ⊥)
+    → before ≡ [] → Behind line before output → Output (last_of begun) output
 unfolding last_of
-last_none [] output e = none
-last_none (c ∷ line) output e = absurd (omega arith)
+last_answered room h [] line before output K some e B = absurd (some (ap length K ∙ ap length (take-nil room)))
+last_answered room h (c ∷ begun) line before output K some e B =
+    subst (Output ((c ∷ begun) ∷ [])) (sym (B.is ∙ ap (λ (l : List ℕ). l ++ (B.text ++ newline ∷ [])) e))
+    (next (c ∷ begun) B.text [] [] (line_answered room h (c ∷ begun) B.text line K B.answers) none)
 
-pub last_answered : (line output output' : List ℕ) (r : ℕ) → (length line ≡ 0 → ⊥) → Behind line output 0 output' r → Output (last_of line) (take r output')
+pub last_none : (room : ℕ) → most_characters < room → (begun line output : List ℕ) → Kept begun (kept_line room line) → length line ≡ 0 → output ≡ []
+    → Output (last_of begun) output
 unfolding last_of
-last_answered [] output output' r d B = absurd (d refl)
-last_answered (c ∷ line) output output' r d B =
-    subst (Output ((c ∷ line) ∷ [])) (sym B.is) (next (c ∷ line) B.text [] [] B.answers none)
+last_none room h [] line output K none_kept e = subst (Output []) (sym e) none
+last_none zero h (c ∷ begun) line output K none_kept e = absurd (omega arith)
+last_none (suc room) h (c ∷ begun) line output K none_kept e = absurd (omega (arith, ap length K))
 
--- One line that gets another's answers.
-output_one : {l m out : List ℕ} → ((text : List ℕ) → Answers l text → Answers m text) → Output (l ∷ []) out → Output (m ∷ []) out
-output_one {m = m} same (next line text lines rest a none) = next m text [] [] (same text a) none
-
--- It is answered by its beginning.
-pub last_kept : (room : ℕ) → most_characters < room → (begun : List ℕ) {out : List ℕ} → Output (last_of (take room begun)) out → Output (last_of begun) out
-unfolding last_of
-last_kept room h [] {out} o = subst (λ (l : List ℕ). Output (last_of l) out) (take-nil room) o
-last_kept zero h (c ∷ begun) o = absurd (omega arith)
-last_kept (suc room) h (c ∷ begun) o = output_one (answers_kept (suc room) h (c ∷ begun)) o
+-- A text came.
+pub came_turn : (read : Option (List ℕ)) (text : List ℕ) (line line' : KeptLine) (written : List ℕ) → read ≡ Some text → (length text ≡ 0 → ⊥)
+    → TextAnswered text line line' written → Turned read line line' written
+came_turn read [] line line' written e some all = absurd (some refl)
+came_turn read (c ∷ text) line line' written e some all = came c text e all

@@ -1,5 +1,4 @@
 -- What the desk does with a text and in one turn; in `parts`, what its functions promise one another.
-pub mod Bytes
 pub mod Texts
 pub mod Turns
 pub mod parts

@@ -1,9 +1,8 @@
--- The lines of small inputs, computed: an empty line counts, an input may be empty, and its last line may lack a newline; a line may come in two texts, and an
--- area keeps what is begun of it. Holds: `three_lines` to `kept_nothing`.
+-- The lines of small inputs, computed: an empty line counts, an input may be empty, and its last line may lack a newline; a line may come in two texts, and
+-- what is begun of it is kept. Holds: `three_lines` to `kept_nothing`.
 use Rattle.std.specs.Prelude.{◌≡◌, refl, [], ◌∷◌}
-use Rattle.desk.specs.Bytes.{index_after, index_of}
 use Rattle.desk.specs.Texts.{lines_of, rest_of, last_of, all_lines}
-use Rattle.desk.specs.Turns.{Kept}
+use Rattle.desk.specs.Turns.{kept_line, Kept}
 
 -- "a", newline, newline, "bc"
 pub three_lines : all_lines (97 ∷ 10 ∷ 10 ∷ 98 ∷ 99 ∷ []) ≡ (97 ∷ []) ∷ [] ∷ (98 ∷ 99 ∷ []) ∷ []
@@ -32,15 +31,12 @@ pub line_begun : rest_of (97 ∷ []) (98 ∷ 10 ∷ 99 ∷ []) ≡ 99 ∷ []
 unfolding rest_of
 line_begun = refl
 
--- "ab" is kept, and whatever follows the newline is not looked at; of "abc" three bytes keep as much, and of nothing nothing.
-pub kept_two : Kept (97 ∷ 98 ∷ []) (97 ∷ 98 ∷ 10 ∷ 99 ∷ [])
-unfolding index_of index_after
+-- Of "ab" three characters keep all, of "abc" two keep as much, and of nothing nothing.
+pub kept_two : Kept (97 ∷ 98 ∷ []) (kept_line 3 (97 ∷ 98 ∷ []))
 kept_two = refl
 
-pub kept_cut : Kept (97 ∷ 98 ∷ 99 ∷ []) (97 ∷ 98 ∷ 10 ∷ [])
-unfolding index_of index_after
+pub kept_cut : Kept (97 ∷ 98 ∷ 99 ∷ []) (kept_line 2 (97 ∷ 98 ∷ []))
 kept_cut = refl
 
-pub kept_nothing : Kept [] (10 ∷ 97 ∷ 98 ∷ [])
-unfolding index_of index_after
+pub kept_nothing : Kept [] (kept_line 2 [])
 kept_nothing = refl

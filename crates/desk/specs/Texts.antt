@@ -1,11 +1,14 @@
 -- The lines of a text and their answers (01, "Lines at the planning desk"). A text may come in parts.
--- Holds: `newline`; `lines_of`, `rest_of`, `last_of`, `all_lines`; `Output`.
-use Rattle.std.specs.Prelude.{List, [], ◌∷◌, ◌++◌, ℕ, eqb}
+-- Holds: `newline`, `is_newline`; `lines_of`, `rest_of`, `last_of`, `all_lines`; `Output`.
+use Rattle.std.specs.Prelude.{Bool, List, [], ◌∷◌, ◌++◌, ℕ, eqb}
 use Rattle.algebra.specs.Ops.{pick}
 use Rattle.line.specs.Answering.{Answers}
 
 abbrev pub newline : ℕ
 newline = 10
+
+abbrev pub is_newline : ℕ → Bool
+is_newline c = eqb c newline
 
 -- The lines that a text ends, where `begun` of a line came before it ..
 unfoldable pub lines_of : List ℕ → List ℕ → List (List ℕ)

@@ -2,128 +2,102 @@
 #![tactic(auto)]
 
 mod lines;
+mod text;
 
-ghost use Rattle.std.specs.Prelude.{[], ◌≤◌, ◌<◌, length};
-ghost use Rattle.line.specs.Answering.{line_areas};
-ghost use Rattle.desk.specs.Turns.{Kept, Room};
+ghost use Rattle.std.specs.Prelude.{◌≤◌, [], length, IfOk, IfSome};
+ghost use Rattle.std.specs.Option.{option_copied};
+ghost use Rattle.desk.specs.Turns.{kept_line, Kept};
 
+use lines::{Desk, LINE};
 use std::fmt;
 use std::fmt::Write as _;
 use std::io::{Error, ErrorKind, Read, Write};
-
-// Room for a message on standard error.
-const MESSAGE: usize = 256;
-
-// A text of fixed room, which leaves a place for a newline; what does not fit is dropped.
-#[derive(Drop)]
-struct Text {
-    bytes: [u8; MESSAGE],
-    filled: usize,
-    ghost room: { filled < 256 },
-}
-
-impl fmt::Write for Text {
-    fn write_str(&mut self, text: &str) -> fmt::Result {
-        for byte in text.as_bytes() {
-            if self.filled < MESSAGE - 1 {
-                self.bytes[self.filled] = *byte;
-                self.filled += 1;
-            }
-        }
-        Ok(())
-    }
-}
-
-// Where the number of an error begins in its message, or the message's end.
-fn before_number(message: &[u8]) -> usize
-    ensures { result ≤ length message.now }
-{
-    for i in 0..message.len() {
-        if message[i..].starts_with(b" (os error ") {
-            return i;
-        }
-    }
-    message.len()
-}
-
-// Says on standard error which stream failed and why, without the number of the error.
-fn fail(rt: &HostRuntime, stream: &str, error: Error) {
-    let mut text = Text {
-        bytes: [0; MESSAGE],
-        filled: 0,
-    };
-    let _ = write!(text, "desk: {stream}: {error}");
-    let end = before_number(&text.bytes[..text.filled]);
-    text.bytes[end] = b'\n';
-    let _ = rt.stderr().write_all(&text.bytes[..end + 1]);
-}
-
-// Whether a read failed. One that a signal interrupted did not: it is tried again.
-fn failed(error: &Error) -> bool {
-    error.kind() != ErrorKind::Interrupted
-}
-
-// Reads, answers and writes, turn by turn; an interrupted read is a turn that fills nothing. Nothing says that an input ends, so the turns are counted down
-// from a number that no run uses up.
-fn desk(
-    rt: &HostRuntime,
-    input: &mut [u8],
-    line: &mut [u8],
-    reception: &mut [u8],
-    message: &mut [u8],
-    transmission: &mut [u8],
-    output: &mut [u8],
-)
-    requires { Kept [] line.old × Room input.old line.old (line_areas reception.old message.old transmission.old) output.old }
-{
-    let mut turns = u64::MAX;
-    while 0 < turns {
-        let got = match rt.stdin().read(input) {
-            Ok(n) => n as isize,
-            Err(error) => {
-                if failed(&error) {
-                    fail(rt, "standard input", error);
-                    return;
-                }
-                -1
-            }
-        };
-        let filled = lines::turn(got, input, line, reception, message, transmission, output);
-        if let Err(error) = rt.stdout().write_all(&output[..filled]) {
-            fail(rt, "standard output", error);
-            return;
-        }
-        if got == 0 {
-            return;
-        }
-        turns -= 1;
-    }
-}
-
-// The line area: a line one character too long, and a newline.
-const LINE: usize = line::MOST_CHARACTERS + 2;
+use text::Text;
 
 // How much a read may give.
 const INPUT: usize = 4096;
 
-// Room for the answers to a read and to the line that it goes on with.
-const OUTPUT: usize = 7 * (LINE + INPUT);
+// Room for the answers to a read and to the line that it goes on with, each with a newline.
+const OUTPUT: usize = 7 * (LINE + 1 + INPUT);
 
-// A newline at the front of the line area: no line is begun.
+// Room for a message on standard error, and for that with a newline.
+const MESSAGE: usize = 255;
+
+const MESSAGE_LINE: usize = MESSAGE + 1;
+
+// What stands between an error's message and its number.
+const NUMBER: &[u8] = b" (os error ";
+
+// Which stream failed, and why.
+#[derive(Drop)]
+enum Failure {
+    Input(Error),
+    Output(Error),
+}
+
+impl fmt::Display for Failure {
+    fn fmt<W: fmt::Write>(&self, f: &mut fmt::Formatter<W>) -> fmt::Result {
+        match self {
+            Failure::Input(error) => write!(f, "standard input: {error}"),
+            Failure::Output(error) => write!(f, "standard output: {error}"),
+        }
+    }
+}
+
+// An error's message without its number.
+fn without_number(message: &[u8]) -> &[u8] {
+    match message
+        .windows(NUMBER.len())
+        .position(|part| part == NUMBER)
+    {
+        Some(end) => &message[..end],
+        None => message,
+    }
+}
+
+// Says on standard error what failed, without the number of the error.
+fn fail(rt: &HostRuntime, failure: Failure) {
+    let mut message = Text::<MESSAGE>::new();
+    let _ = write!(message, "desk: {failure}");
+    let mut line = Text::<MESSAGE_LINE>::new();
+    line.append(without_number(message.as_bytes()));
+    line.append(b"\n");
+    let _ = rt.stderr().write_all(line.as_bytes());
+}
+
+// What a read gives; nothing where a signal interrupted it, which is no failure: it is tried again.
+fn read<'a>(rt: &HostRuntime, input: &'a mut [u8]) -> Result<Option<&'a [u8]>, Error>
+    ensures { IfOk result (λ read. IfSome (option_copied read) (λ text. length text ≤ length input.old)) }
+{
+    match rt.stdin().read(input) {
+        Ok(n) => Ok(Some(&input[..n])),
+        Err(error) if error.kind() == ErrorKind::Interrupted => Ok(None),
+        Err(error) => Err(error),
+    }
+}
+
+// Reads, answers and writes, turn by turn; an interrupted read is a turn that fills nothing. Nothing says that an input ends, so the turns are counted up
+// to a number that no run reaches.
+fn run(rt: &HostRuntime, input: &mut [u8; INPUT], desk: &mut Desk<OUTPUT>) -> Result<(), Failure>
+    requires { Kept [] (kept_line LINE desk.old.line) }
+{
+    for _ in 0..u64::MAX {
+        let read = read(rt, input).map_err(Failure::Input)?;
+        desk.turn(read);
+        rt.stdout()
+            .write_all(desk.output.as_bytes())
+            .map_err(Failure::Output)?;
+        if read.is_some_and(|text| text.is_empty()) {
+            break;
+        }
+    }
+    Ok(())
+}
+
 fn main(rt: HostRuntime) {
-    let mut input = [0u8; INPUT];
-    let mut line = [b'\n'; LINE];
-    let mut reception = [0u8; line::MOST_SYMBOLS];
-    let mut message = [0u8; line::MOST_INFORMATION];
-    let mut transmission = [0u8; line::MOST_SYMBOLS];
-    let mut output = [0u8; OUTPUT];
-    desk(
-        &rt,
-        &mut input,
-        &mut line,
-        &mut reception,
-        &mut message,
-        &mut transmission,
-        &mut output,
-    );
+    let mut input = [0; INPUT];
+    let mut desk = Desk::new();
+    if let Err(failure) = run(&rt, &mut input, &mut desk) {
+        fail(&rt, failure);
+    }
 }

@@ -1,13 +1,21 @@
 -- Marks as bits of a number. Holds: `bit_inside` and `bit_past` (bit i of the number is the test at i for i < n, and 0 from n on), `bits_small`,
--- `bits_front` (one more test before the others), `bits_more`, `bits_whole` (as a loop makes them), `ones_bits` (as many ones as tests that hold).
-use mathlib.Core.Path.{◌≡◌, refl, sym, ap, ap₂, fun_ext, ◌∙◌}
-use mathlib.Core.Bool.{Bool}
-use Prim.Native.Nat.{ℕ, zero, suc, ◌+◌, ◌-◌, ◌*◌, ◌/◌, ◌%◌, ◌^◌, ◌≤◌, ◌<◌}
+-- `bits_agree`, `ones_bits` (as many ones as tests that hold); `bit_more`, `folded_bits` (as a fold over two lists makes them).
+use mathlib.Core.Path.{◌≡◌, refl, sym, ap, ap₂, ◌∙◌}
+use mathlib.Core.Bool.{Bool, true, false, not}
+use mathlib.Core.List.{List, [], ◌∷◌, ◌++◌, reverse}
+use Prim.Native.Nat.{ℕ, zero, suc, ◌+◌, ◌*◌, ◌/◌, ◌%◌, ◌^◌, ◌≤◌, ◌<◌}
 use native.Mathlib.Nat.{div-div-eq-div-mul, div-eq_of_lt, div-one, mul_comm, pow-suc}
 use native.Mathlib.Omega.{arith}
 use lib.Count.{ones, ones_step}
-use lib.Dec.{lit<}
+use lib.Dec.{eqb, lit<, lit≤}
+use lib.ListN.{length, get_or}
 use lib.Pow.{pow_mono}
+use Rattle.std.specs.Prelude.{bit_or}
+use Rattle.std.specs.List.{fold, zip}
+use Rattle.std.specs.Int.{from_bool}
+use Rattle.std.proofs.lemmas.Grind.{reverse_onto, fold-append}
+use Rattle.std.proofs.lemmas.List.{length-reverse}
+use Rattle.std.proofs.lemmas.Nat.{or_shifted, shl_whole}
 use Rattle.algebra.specs.Ops.{pick}
 use Rattle.algebra.specs.Weight.{total, count_of}
 use Rattle.algebra.proofs.Weights.{one_le}
@@ -46,10 +54,12 @@ bit_past n test i h =
     let high : 2 ^ n ≤ 2 ^ i = pow_mono h in
     ap (λ (t : ℕ). t % 2) (div-eq_of_lt (omega (arith, bits_small n test)))
 
--- One more test before the others.
-pub bits_front : (n : ℕ) (test : ℕ → Bool) → bits n (λ i. test (suc i)) * 2 + pick (test 0) 1 0 ≡ bits (suc n) test
+-- Tests that agree on the places there are.
+pub bits_agree : (n : ℕ) (s t : ℕ → Bool) → ((i : ℕ) → i < n → s i ≡ t i) → bits n s ≡ bits n t
 unfolding bits
-bits_front n test = omega arith
+bits_agree zero s t h = refl
+bits_agree (suc n) s t h =
+    ap₂ (λ (b : Bool) (k : ℕ). pick b 1 0 + 2 * k) (h 0 (omega arith)) (bits_agree n (λ i. s (suc i)) (λ i. t (suc i)) (λ i l. h (suc i) (omega arith)))
 
 total_first : (n : ℕ) (f : ℕ → ℕ) → total (suc n) f ≡ f 0 + total n (λ i. f (suc i))
 unfolding total
@@ -64,24 +74,46 @@ ones_bits (suc n) test =
     ∙ (ap₂ (λ (a b : ℕ). a + ones b) (lowest n test) (others n test)
     ∙ (ap (λ (t : ℕ). pick (test 0) 1 0 + t) (ones_bits n (λ i. test (suc i))) ∙ sym (total_first n (λ i. pick (test i) 1 0))))
 
--- A loop from the last test down: below the marks of the tests from `left` on comes the mark of the one before, and 64 bits suffice.
-pub bits_more : (long left : ℕ) (test : ℕ → Bool) (set mark : ℕ) → 0 < left → left ≤ long → long ≤ 64 → set ≡ bits (long - left) (λ i. test (left + i))
-    → mark ≡ pick (test (left - 1)) 1 0 → (set * 2 + mark ≡ bits (long - (left - 1)) (λ i. test (left - 1 + i))) × (set * 2 + mark < 2 ^ 64)
-bits_more long left test set mark some within small e m =
-    let size : suc (long - left) ≡ long - (left - 1) = omega arith in
-    let first : left - 1 + 0 ≡ left - 1 = omega arith in
-    let place : (i : ℕ) → left - 1 + suc i ≡ left + i = λ i. omega arith in
-    let same : set * 2 + mark ≡ bits (long - (left - 1)) (λ i. test (left - 1 + i)) =
-    ap₂ (λ (a b : ℕ). a * 2 + b)
-    (e ∙ ap (bits (long - left)) (fun_ext (λ i. ap test (sym (place i)))))
-    (m ∙ ap (λ (t : ℕ). pick (test t) 1 0) (sym first))
-    ∙ (bits_front (long - left) (λ i. test (left - 1 + i)) ∙ ap (λ (t : ℕ). bits t (λ i. test (left - 1 + i))) size) in
-    let top : long - (left - 1) ≤ 64 = omega arith in
-    let most : 2 ^ (long - (left - 1)) ≤ 2 ^ 64 = pow_mono top in
-    (same, omega (arith, bits_small (long - (left - 1)) (λ i. test (left - 1 + i))))
+-- Marks as a fold from the last place on makes them: below those of the later places comes the mark of the one before.
+abbrev pub bit_more : ℕ → ℕ × ℕ → ℕ
+bit_more set p = bit_or (set * 2 ^ 1 % 2 ^ 64) (from_bool (not (eqb p.0 p.1)))
 
-pub bits_whole : (long left : ℕ) (test : ℕ → Bool) → left ≡ 0 → bits (long - left) (λ i. test (left + i)) ≡ bits long test
-bits_whole long left test e =
-    let size : long - left ≡ long = omega arith in
-    let place : (i : ℕ) → left + i ≡ i = λ i. omega arith in
-    ap (λ (t : ℕ). bits t (λ i. test (left + i))) size ∙ ap (bits long) (fun_ext (λ i. ap test (place i)))
+-- No mark is shifted out while there is room.
+bit_more_is : (set : ℕ) (a b : ℕ) → set < 2 ^ 63 → bit_more set (a, b) ≡ set * 2 + pick (not (eqb a b)) 1 0
+bit_more_is set a b h =
+    ap (λ (t : ℕ). bit_or t (from_bool (not (eqb a b)))) (shl_whole set 63 1 64 h (lit≤ tt))
+    ∙ (or_shifted set 1 (from_bool (not (eqb a b))) (small (not (eqb a b))) ∙ ap (λ (t : ℕ). set * 2 + t) (same (not (eqb a b))))
+  where
+    small : (t : Bool) → from_bool t < 2 ^ 1
+    small true = lit< tt
+    small false = lit< tt
+
+    same : (t : Bool) → from_bool t ≡ pick t 1 0
+    same true = refl
+    same false = refl
+
+-- Pairs of two lists that end in x and y end in that pair.
+zip_last : (a b : List ℕ) (x y : ℕ) → length a ≡ length b → zip (a ++ x ∷ []) (b ++ y ∷ []) ≡ zip a b ++ (x, y) ∷ []
+zip_last [] [] x y e = refl
+zip_last [] (v ∷ b) x y e = absurd (omega arith)
+zip_last (u ∷ a) [] x y e = absurd (omega arith)
+zip_last (u ∷ a) (v ∷ b) x y e = ap (λ (t : List (ℕ × ℕ)). (u, v) ∷ t) (zip_last a b x y (omega arith))
+
+pub folded_bits : (a b : List ℕ) → length b ≡ length a → length a ≤ 64
+    → fold bit_more 0 (zip (reverse a) (reverse b)) ≡ bits (length a) (λ i. not (eqb (get_or a i 0) (get_or b i 0)))
+unfolding bits
+folded_bits [] [] e h = refl
+folded_bits [] (y ∷ b) e h = absurd (omega arith)
+folded_bits (x ∷ a) [] e h = absurd (omega arith)
+folded_bits (x ∷ a) (y ∷ b) e h =
+    let test : ℕ → Bool = λ i. not (eqb (get_or a i 0) (get_or b i 0)) in
+    let same : length (reverse a) ≡ length (reverse b) = omega (arith, length-reverse a, length-reverse b) in
+    let later : fold bit_more 0 (zip (reverse a) (reverse b)) ≡ bits (length a) test = folded_bits a b (omega arith) (omega arith) in
+    let few : length a ≤ 63 = omega arith in
+    let room : 2 ^ length a ≤ 2 ^ 63 = pow_mono few in
+    let small : bits (length a) test < 2 ^ 63 = omega (arith, bits_small (length a) test, room) in
+    let last : bits (length a) test * 2 + pick (not (eqb x y)) 1 0 ≡ pick (not (eqb x y)) 1 0 + 2 * bits (length a) test = omega arith in
+    ap₂ (λ (s t : List ℕ). fold bit_more 0 (zip s t)) (reverse_onto a x []) (reverse_onto b y [])
+    ∙ (ap (fold bit_more 0) (zip_last (reverse a) (reverse b) x y same)
+    ∙ (fold-append bit_more 0 (zip (reverse a) (reverse b)) ((x, y) ∷ [])
+    ∙ (ap (λ (t : ℕ). bit_more t (x, y)) later ∙ (bit_more_is (bits (length a) test) x y small ∙ last))))

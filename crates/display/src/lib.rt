@@ -1,15 +1,23 @@
 // What is shown of a window: window j of a reception, as that part of the caller's own bytes, and where it differs from a transmission (module `mark`).
+// The calls take any number for the setting: the questions are asked here.
 #![tactic(auto)]
 
 pub mod mark;
 
-ghost use Rattle.std.specs.Prelude.{◌≡◌, length};
+ghost use Rattle.std.specs.Prelude.{◌≡◌, ◌+◌, ◌*◌, ◌<◌, length, take, drop};
+ghost use Rattle.code.specs.parts.SettingNumbers.{parameters_of};
+ghost use Rattle.code.specs.Windows.{window_length};
 ghost use Rattle.question.specs.Questions.{first_no, display_questions};
+ghost use Rattle.question.specs.Refusals.{asked};
 ghost use Rattle.display.specs.Display.{window_of};
+ghost use Rattle.display.specs.Marks.{marks_answer};
 
-use question::Answer;
+use mark::Differences;
+use question::answer::Answer;
+use question::refusal::Refusal;
+use question::shape::Shape;
 
-// The differences in a window, one bit a symbol, the earliest lowest, and how many are set.
+// The marks of a window as C programs get them, which have no `Result`: the answer, and the differences.
 #[repr(C)]
 #[derive(Clone, Copy)]
 pub struct Marks {
@@ -18,25 +26,47 @@ pub struct Marks {
     pub set: u32,
 }
 
-// Window j, the m+1 blocks from block j on; empty where one of questions 1, 2, 3 and 12 gets "no".
-pub fn window(setting: u64, reception: &[u8], j: u64) -> &[u8]
-    ensures { result.now ≡ window_of setting reception.now j }
-{
-    let answer = question::display_questions(setting, reception.len(), j);
-    if answer.number != 0 {
-        return &reception[..0];
+// "Refused marks and their number set are 0."
+impl From<Result<Differences, Refusal>> for Marks {
+    ghost from_gives = { λ outcome r. r ≡ marks_answer outcome };
+
+    fn from(outcome: Result<Differences, Refusal>) -> Marks {
+        let answer = Answer::from(outcome.map(|_| 0));
+        let found = outcome.unwrap_or(Differences { marks: 0, set: 0 });
+        Marks {
+            answer,
+            marks: found.marks,
+            set: found.set,
+        }
     }
-    let p = code::setting_of(setting);
-    let n = p.n;
-    let m = p.m;
-    let from = (j as usize) * n;
-    let to = from + (m + 1) * n;
-    &reception[from..to]
 }
 
-// The answer of `window` on the same input.
-pub fn window_answer(setting: u64, reception: &[u8], j: u64) -> Answer
-    ensures { result ≡ first_no (display_questions setting (length reception.now) j) }
+// Window j of a frame of this shape: the m+1 blocks from block j on.
+fn part(shape: Shape, frame: &[u8], j: u64) -> &[u8]
+    requires inside { j < shape.blocks }
+    requires long { length frame.now ≡ (shape.blocks + (parameters_of shape.setting).m) * (parameters_of shape.setting).n }
+    ensures { result.now ≡ take (window_length (parameters_of shape.setting)) (drop (j * (parameters_of shape.setting).n) frame.now) }
 {
-    question::display_questions(setting, reception.len(), j)
+    let p = shape.parameters();
+    let from = (j as usize) * p.n;
+    let to = from + (p.m + 1) * p.n;
+    &frame[from..to]
+}
+
+// Window j of a reception; where one of questions 1, 2, 3 and 12 gets "no", empty and no `Err`: 01 wants the part, and `window_answer` says why.
+pub fn window(number: u64, reception: &[u8], j: u64) -> &[u8]
+    ensures { result.now ≡ window_of number reception.now j }
+{
+    let Ok(shape) = question::display_questions(number, reception.len(), j) else {
+        return &reception[..0];
+    };
+    part(shape, reception, j)
+}
+
+// Whether `window` shows the window, or why it does not.
+pub fn window_answer(number: u64, reception: &[u8], j: u64) -> Result<(), Refusal>
+    ensures { asked result ≡ first_no (display_questions number (length reception.now) j) }
+{
+    question::display_questions(number, reception.len(), j)?;
+    Ok(())
 }

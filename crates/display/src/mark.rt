@@ -1,55 +1,42 @@
 // Marks: where a reception and a transmission differ in a window.
-ghost use Rattle.std.specs.Prelude.{◌≡◌, not, ◌+◌, ◌*◌, ◌≤◌, ◌<◌, eqb, length, get_or};
-ghost use Rattle.algebra.specs.Ops.{pick};
-ghost use Rattle.display.specs.Marks.{bits, Marked};
+ghost use Rattle.std.specs.Prelude.{◌≡◌, not, ◌≤◌, eqb, length, get_or};
+ghost use Rattle.display.specs.Marks.{bits, marks_answer, Marked};
 
-use super::Marks;
+use super::part;
+use question::refusal::Refusal;
 
-// 1 where two symbols differ, 0 where they are the same.
-fn differ(a: u8, b: u8) -> u64
-    ensures { result ≡ pick (not (eqb a b)) 1 0 }
-{
-    if a == b {
-        return 0;
-    }
-    1
+// The differences in a window, one bit a symbol, the earliest lowest, and how many are set.
+#[derive(Clone, Copy)]
+pub struct Differences {
+    pub marks: u64,
+    pub set: u32,
 }
 
-// The differences in `long` places, one bit a place, the first lowest: made from the last place on.
-fn differences(reception: &[u8], transmission: &[u8], from: usize, long: usize) -> u64
-    requires { (long ≤ 64) × (from + long ≤ length reception.now) × (from + long ≤ length transmission.now) }
-    ensures { result ≡ bits long (λ i. not (eqb (get_or reception.now (from + i) 0) (get_or transmission.now (from + i) 0))) }
+// The differences of two parts of one length, one bit a place, the first lowest: made from the last place on.
+fn difference_bits(received: &[u8], sent: &[u8]) -> u64
+    requires same { length sent.now ≡ length received.now }
+    requires short { length received.now ≤ 64 }
+    ensures { result ≡ bits (length received.now) (λ i. not (eqb (get_or received.now i 0) (get_or sent.now i 0))) }
 {
-    let mut set: u64 = 0;
-    let mut left = long;
-    while 0 < left {
-        left -= 1;
-        let mark = differ(reception[from + left], transmission[from + left]);
-        set = set * 2 + mark;
-    }
-    set
+    let from_last = received.iter().rev().zip(sent.iter().rev());
+    from_last.fold(0, |set, (a, b)| set << 1 | u64::from(a != b))
 }
 
-// The marks of window j and how many are set; 0 and 0 where one of questions 1, 2, 3, 12 and 13 gets "no".
-pub fn marks(setting: u64, reception: &[u8], transmission: &[u8], j: u64) -> Marks
-    ensures { Marked setting reception.now transmission.now j result }
+// The marks of window j and how many are set, or the first of questions 1, 2, 3, 12 and 13 that gets "no".
+pub fn marks(
+    number: u64,
+    reception: &[u8],
+    transmission: &[u8],
+    j: u64,
+) -> Result<Differences, Refusal>
+    ensures { Marked number reception.now transmission.now j (marks_answer result) }
 {
-    let answer = question::marks_questions(setting, reception.len(), transmission.len(), j);
-    if answer.number != 0 {
-        return Marks {
-            answer: answer,
-            marks: 0,
-            set: 0,
-        };
-    }
-    let p = code::setting_of(setting);
-    let n = p.n;
-    let m = p.m;
-    let from = (j as usize) * n;
-    let found = differences(reception, transmission, from, (m + 1) * n);
-    Marks {
-        answer: answer,
-        marks: found,
-        set: u64::count_ones(found),
-    }
+    let shape = question::marks_questions(number, reception.len(), transmission.len(), j)?;
+    let received = part(shape, reception, j);
+    let sent = part(shape, transmission, j);
+    let marks = difference_bits(received, sent);
+    Ok(Differences {
+        marks,
+        set: marks.count_ones(),
+    })
 }

@@ -3,13 +3,14 @@
 // memory, and lends it down.
 #![tactic(auto)]
 
-ghost use Rattle.std.specs.Prelude.{◌<◌, ◌≤◌, length, drop};
+ghost use Rattle.std.specs.Prelude.{◌≡◌, ℕ, ◌<◌, ◌≤◌, length, drop};
 ghost use Rattle.algebra.specs.Ops.{sub};
 ghost use Rattle.algebra.specs.Polynomial as polynomial;
 ghost use Rattle.field.specs.parts.Operations.{Good, Is};
 ghost use Rattle.field.specs.Fields.{ops_of};
 ghost use Rattle.field.specs.Symbols.{Symbols};
-ghost use Rattle.field.specs.parts.Products.{ListsOf, MultiplesOf, InversesOf, ProductsOf};
+ghost use Rattle.field.specs.parts.Products.{ListsOf, ProductsOf};
+ghost use Rattle.field.specs.parts.Sequences.{at};
 
 // The powers of α from α^0 on, and the exponents: place α^i holds i. 0 is no power of α, and its place is never read.
 const POWERS_5: [u8; 4] = [1, 2, 4, 3];
@@ -30,181 +31,210 @@ pub type Products = [[u8; 16]; 17];
 // The row of the inverses.
 const INVERSES: usize = 16;
 
-// a × b from the lists: the power at the sum of the exponents, counted round the list. Products with zero are zero.
-fn product_by_exponents(q: usize, powers: &[u8], exponents: &[u8], a: u8, b: u8) -> u8
-    requires { Good q × ListsOf q powers.now exponents.now × (a < q) × (b < q) }
-    ensures { Is q result ((ops_of q).mul a b) }
+// How many coefficients a call of `value` takes where there are so many. As a constant it lets the compiler write the loop over them out.
+const PART: usize = 7;
+
+// A row of the table: what the closure gives of each symbol, in its place.
+fn row<F: Fn(u8) -> u8>(q: usize, of: F) -> [u8; 16]
+    requires few { q ≤ 16 }
+    requires given { (a : ℕ) → a < q → F.pre of a }
+    ensures { (a : ℕ) → a < q → F.post of a (at result a) }
 {
-    if a == 0 {
-        return 0;
+    let mut row = [0; 16];
+    for a in 0..q {
+        row[a] = of(a as u8);
     }
-    if b == 0 {
-        return 0;
-    }
-    let n = q - 1;
-    let sum = area::wide(exponents[a as usize]) + area::wide(exponents[b as usize]);
-    if sum < n {
-        powers[sum]
-    } else {
-        powers[sum - n]
-    }
+    row
 }
 
-// Lays the multiples of a out: a × b at place b.
-fn lay_multiples(q: usize, powers: &[u8], exponents: &[u8], a: u8, row: &mut [u8])
-    requires { Good q × ListsOf q powers.now exponents.now × (a < q) × (q ≤ length row.old) }
-    ensures { MultiplesOf q a row.new }
-{
-    let mut b: usize = 0;
-    while b < q {
-        row[b] = product_by_exponents(q, powers, exponents, a, b as u8);
-        b += 1;
-    }
+// The read-only lists of the field with q elements: the powers of α, and their exponents.
+struct Lists<'a> {
+    q: usize,
+    powers: &'a [u8],
+    exponents: &'a [u8],
+    ghost good: { Good q },
+    ghost lists: { ListsOf q powers.now exponents.now },
 }
 
-// 1/a from the lists: the power whose exponent and that of a add up to q - 1, since α^(q - 1) is 1. 0 counts as its own inverse, and 1 is its own.
-fn inverse_by_exponent(q: usize, powers: &[u8], exponents: &[u8], a: u8) -> u8
-    requires { Good q × ListsOf q powers.now exponents.now × (a < q) }
-    ensures { Is q result ((ops_of q).inv a) }
-{
-    if a < 2 {
-        return a;
+impl Lists<'_> {
+    // a × b: the power at the sum of the exponents, counted round the list. Products with zero are zero.
+    fn product(&self, a: u8, b: u8) -> u8
+        requires { (a < self.now.q) × (b < self.now.q) }
+        ensures { Is self.now.q result ((ops_of self.now.q).mul a b) }
+    {
+        if a == 0 {
+            return 0;
+        }
+        if b == 0 {
+            return 0;
+        }
+        let n = self.q - 1;
+        let sum = self.exponents[a as usize] as usize + self.exponents[b as usize] as usize;
+        if sum < n {
+            self.powers[sum]
+        } else {
+            self.powers[sum - n]
+        }
     }
-    let exponent = area::wide(exponents[a as usize]);
-    powers[q - 1 - exponent]
-}
 
-// Lays the inverses out: 1/a at place a, and 0 at place 0.
-fn lay_inverses(q: usize, powers: &[u8], exponents: &[u8], row: &mut [u8])
-    requires { Good q × ListsOf q powers.now exponents.now × (q ≤ length row.old) }
-    ensures { InversesOf q row.new }
-{
-    let mut a: usize = 0;
-    while a < q {
-        row[a] = inverse_by_exponent(q, powers, exponents, a as u8);
-        a += 1;
+    // 1/a: the power whose exponent and that of a add up to q - 1, since α^(q - 1) is 1. 0 counts as its own inverse, and 1 is its own.
+    fn inverse(&self, a: u8) -> u8
+        requires { a < self.now.q }
+        ensures { Is self.now.q result ((ops_of self.now.q).inv a) }
+    {
+        if a < 2 {
+            return a;
+        }
+        let exponent = self.exponents[a as usize] as usize;
+        self.powers[self.q - 1 - exponent]
     }
-}
 
-// The table of products and inverses from the lists.
-fn products_from(q: usize, powers: &[u8], exponents: &[u8]) -> Products
-    requires { Good q × ListsOf q powers.now exponents.now }
-    ensures { ProductsOf q result }
-{
-    let mut products: Products = [[0; 16]; 17];
-    let mut a: usize = 0;
-    while a < q {
-        lay_multiples(q, powers, exponents, a as u8, &mut products[a]);
-        a += 1;
+    // The table: row a holds the multiples of a, the last the inverses.
+    fn table(&self) -> Products
+        ensures { ProductsOf self.now.q result }
+    {
+        let mut products: Products = [[0; 16]; 17];
+        for a in 0..self.q {
+            products[a] = row(self.q, |b| self.product(a as u8, b));
+        }
+        products[INVERSES] = row(self.q, |b| self.inverse(b));
+        products
     }
-    lay_inverses(q, powers, exponents, &mut products[INVERSES]);
-    products
 }
 
 // The table of the field with q elements: the one place that tells the fields' lists apart. Each call has its q as a constant: from constants the compiler
 // works small tables out itself (docs/PERFORMANCE.md, "Products from lists").
-pub fn products(q: usize) -> Products
+fn products(q: usize) -> Products
     requires { Good q }
     ensures { ProductsOf q result }
 {
     if q == 5 {
-        return products_from(5, &POWERS_5, &EXPONENTS_5);
+        return Lists {
+            q: 5,
+            powers: &POWERS_5,
+            exponents: &EXPONENTS_5,
+        }
+        .table();
     }
     if q == 8 {
-        return products_from(8, &POWERS_8, &EXPONENTS_8);
+        return Lists {
+            q: 8,
+            powers: &POWERS_8,
+            exponents: &EXPONENTS_8,
+        }
+        .table();
     }
-    products_from(16, &POWERS_16, &EXPONENTS_16)
-}
-
-// a + b
-pub fn add(q: usize, a: u8, b: u8) -> u8
-    requires { Good q × (a < q) × (b < q) }
-    ensures { Is q result ((ops_of q).add a b) }
-{
-    if q != 5 {
-        return a ^ b;
+    Lists {
+        q: 16,
+        powers: &POWERS_16,
+        exponents: &EXPONENTS_16,
     }
-    let sum = a + b;
-    if sum < 5 { sum } else { sum - 5 }
+    .table()
 }
 
-// -a
-pub fn negate(q: usize, a: u8) -> u8
-    requires { Good q × (a < q) }
-    ensures { Is q result ((ops_of q).neg a) }
-{
-    if q != 5 {
-        return a;
+// A field at run time: its q, and its table of products and inverses. The outermost call makes it and lends it down.
+#[derive(Drop)]
+pub struct Field {
+    pub q: usize,
+    pub products: Products,
+    pub ghost good: { Good q },
+    pub ghost table: { ProductsOf q products },
+}
+
+impl Field {
+    // The field with q elements.
+    pub fn new(q: usize) -> Field
+        requires { Good q }
+        ensures { result.q ≡ q }
+    {
+        Field {
+            q,
+            products: products(q),
+        }
     }
-    if a == 0 { 0 } else { 5 - a }
-}
 
-// a - b
-pub fn subtract(q: usize, a: u8, b: u8) -> u8
-    requires { Good q × (a < q) × (b < q) }
-    ensures { Is q result (sub (ops_of q) a b) }
-{
-    let negative = negate(q, b);
-    add(q, a, negative)
-}
-
-// a × b
-pub fn multiply(q: usize, products: &Products, a: u8, b: u8) -> u8
-    requires { Good q × ProductsOf q products.now × (a < q) × (b < q) }
-    ensures { Is q result ((ops_of q).mul a b) }
-{
-    products[a as usize][b as usize]
-}
-
-// 1 / a, and 0 for a = 0
-pub fn inverse(q: usize, products: &Products, a: u8) -> u8
-    requires { Good q × ProductsOf q products.now × (a < q) }
-    ensures { Is q result ((ops_of q).inv a) }
-{
-    products[INVERSES][a as usize]
-}
-
-// a + x × b
-pub fn add_product(q: usize, products: &Products, a: u8, x: u8, b: u8) -> u8
-    requires { Good q × ProductsOf q products.now × (a < q) × (x < q) × (b < q) }
-    ensures { Is q result ((ops_of q).add a ((ops_of q).mul x b)) }
-{
-    let product = multiply(q, products, x, b);
-    add(q, a, product)
-}
-
-// How many coefficients a call of `value` takes where there are so many. As a constant it lets the compiler write the loop over them out.
-const PART: usize = 7;
-
-// The value of the polynomial c at x from that of its rest, the coefficients from `count` on: those before them are taken from the last down.
-fn value_from_rest(q: usize, products: &Products, c: &[u8], count: usize, x: u8, rest: u8) -> u8
-    requires { Good q × ProductsOf q products.now × Symbols q c.now × (count ≤ length c.now) × (x < q) × Is q rest (polynomial.value (ops_of q) (drop count c.now) x) }
-    ensures { Is q result (polynomial.value (ops_of q) c.now x) }
-{
-    let mut sum = rest;
-    let mut i = count;
-    while 0 < i {
-        i -= 1;
-        sum = add_product(q, products, c[i], x, sum);
+    // a + b
+    pub fn add(&self, a: u8, b: u8) -> u8
+        requires { (a < self.now.q) × (b < self.now.q) }
+        ensures { Is self.now.q result ((ops_of self.now.q).add a b) }
+    {
+        if self.q != 5 {
+            return a ^ b;
+        }
+        let sum = a + b;
+        if sum < 5 { sum } else { sum - 5 }
     }
-    sum
-}
 
-// The value of the polynomial with the coefficients c, lowest power first, at x: "The value of a polynomial without coefficients is 0;
-// otherwise it is the first coefficient plus the point times the value of the rest." Where there are seven or more, a call takes seven: a call for each costs
-// more than its product (docs/PERFORMANCE.md, "Before and after").
-pub fn value(q: usize, products: &Products, c: &[u8], x: u8) -> u8
-    requires { Good q × ProductsOf q products.now × Symbols q c.now × (x < q) }
-    ensures { Is q result (polynomial.value (ops_of q) c.now x) }
-{
-    if c.len() == 0 {
-        return 0;
+    // -a
+    pub fn negate(&self, a: u8) -> u8
+        requires { a < self.now.q }
+        ensures { Is self.now.q result ((ops_of self.now.q).neg a) }
+    {
+        if self.q != 5 {
+            return a;
+        }
+        if a == 0 { 0 } else { 5 - a }
     }
-    if c.len() < PART {
-        let first = c[0];
-        let rest = value(q, products, &c[1..], x);
-        return add_product(q, products, first, x, rest);
+
+    // a - b
+    pub fn subtract(&self, a: u8, b: u8) -> u8
+        requires { (a < self.now.q) × (b < self.now.q) }
+        ensures { Is self.now.q result (sub (ops_of self.now.q) a b) }
+    {
+        self.add(a, self.negate(b))
     }
-    let rest = value(q, products, &c[PART..], x);
-    value_from_rest(q, products, c, PART, x, rest)
+
+    // a × b
+    pub fn multiply(&self, a: u8, b: u8) -> u8
+        requires { (a < self.now.q) × (b < self.now.q) }
+        ensures { Is self.now.q result ((ops_of self.now.q).mul a b) }
+    {
+        self.products[a as usize][b as usize]
+    }
+
+    // 1 / a, and 0 for a = 0
+    pub fn inverse(&self, a: u8) -> u8
+        requires { a < self.now.q }
+        ensures { Is self.now.q result ((ops_of self.now.q).inv a) }
+    {
+        self.products[INVERSES][a as usize]
+    }
+
+    // a + x × b
+    pub fn add_product(&self, a: u8, x: u8, b: u8) -> u8
+        requires { (a < self.now.q) × (x < self.now.q) × (b < self.now.q) }
+        ensures { Is self.now.q result ((ops_of self.now.q).add a ((ops_of self.now.q).mul x b)) }
+    {
+        self.add(a, self.multiply(x, b))
+    }
+
+    // The value of the polynomial c at x from that of its rest, the coefficients from `count` on: those before them are taken from the last down.
+    fn value_from_rest(&self, c: &[u8], count: usize, x: u8, rest: u8) -> u8
+        requires { Symbols self.now.q c.now × (count ≤ length c.now) × (x < self.now.q) × Is self.now.q rest (polynomial.value (ops_of self.now.q) (drop count c.now) x) }
+        ensures { Is self.now.q result (polynomial.value (ops_of self.now.q) c.now x) }
+    {
+        let mut sum = rest;
+        for i in (0..count).rev() {
+            sum = self.add_product(c[i], x, sum);
+        }
+        sum
+    }
+
+    // The value of the polynomial with the coefficients c, lowest power first, at x: "The value of a polynomial without coefficients is 0;
+    // otherwise it is the first coefficient plus the point times the value of the rest." Where there are seven or more, a call takes seven: a call for each costs
+    // more than its product (docs/PERFORMANCE.md, "Before and after").
+    pub fn value(&self, c: &[u8], x: u8) -> u8
+        requires { Symbols self.now.q c.now × (x < self.now.q) }
+        ensures { Is self.now.q result (polynomial.value (ops_of self.now.q) c.now x) }
+    {
+        if c.len() == 0 {
+            return 0;
+        }
+        if c.len() < PART {
+            let rest = self.value(&c[1..], x);
+            return self.add_product(c[0], x, rest);
+        }
+        let rest = self.value(&c[PART..], x);
+        self.value_from_rest(c, PART, x, rest)
+    }
 }

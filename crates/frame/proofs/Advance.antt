@@ -1,14 +1,12 @@
 -- One turn at the frame: from what window j says to how far the guess is settled.
--- Holds: `window_clean` (a window near zeros); `search_below`, `search_few`; `advance_none`, `advance_clean`, `advance_found`; `advance_more`,
--- `advance_stopped`, `stopped_none`.
+-- Holds: `window_clean` (a window near zeros); `search_some`, `search_few`, `search_below`; `advance_none`, `advance_clean`, `advance_found`; `advance_more`, `stopped_none`.
 use mathlib.Core.Path.{◌≡◌, refl, sym, ap, subst}
-use mathlib.Core.Bool.{Bool, true, false, not}
+use mathlib.Core.Bool.{Bool, true, false}
 use mathlib.Core.List.{List}
 use Prim.Native.Nat.{ℕ, ◌+◌, ◌-◌, ◌*◌, ◌<◌, ◌≤◌}
 use native.Mathlib.Omega.{arith}
-use lib.Dec.{ltb}
 use lib.ListN.{length, get_or, take, drop}
-use borrow.Author.Tests.{lt-ltb}
+use Rattle.std.specs.Prelude.{Some, None}
 use Rattle.algebra.proofs.Tests.{false_not_true}
 use Rattle.field.specs.Symbols.{Symbols}
 use Rattle.field.specs.parts.Sequences.{AllBelow}
@@ -21,6 +19,7 @@ use Rattle.code.specs.parts.InformationBlocks.{BlocksBelow}
 use Rattle.code.specs.parts.Residual.{window_at}
 use Rattle.code.proofs.CodeBelow.{positive}
 use Rattle.code.proofs.WindowBelow.{zero_cost_lem, first_certain}
+use Rattle.frame.specs.declared.window.Found.{Found}
 use Rattle.frame.specs.parts.Window.{Near, LevelSearch, served, none_serves}
 use Rattle.frame.specs.parts.Frame.{Settled, Added, NoneFits, Advanced, advanced, stopped}
 use Rattle.frame.proofs.Guesses.{added_zero}
@@ -33,20 +32,16 @@ window_clean p S window long few y Y near r l =
     let same : zero_cost p.q window ≡ window_cost p window p.m (λ s r. 0) = zero_cost_lem p S window long in
     first_certain p S window y (λ s r. 0) Y (λ s r. positive p S) p.m (omega arith) near (omega arith) r l
 
-module _ {p : Setting} {window information : List ℕ} where
-  pub search_below : {found : ℕ} → LevelSearch p window information found → (found ≡ 0 → ⊥) → AllBelow p.q information
-  search_below (served found some few below first) d = below
-  search_below (none_serves far) d = absurd (d refl)
+-- What the levels found: at least one block, no more than the window has, of symbols below q.
+module _ {p : Setting} {window : List ℕ} {found : Found} where
+  pub search_some : LevelSearch p window (Some found) → 1 ≤ found.blocks
+  search_some (served some few below first) = some
 
-  pub search_few : {found : ℕ} → LevelSearch p window information found → found ≤ p.m + 1
-  search_few (served found some few below first) = few
-  search_few (none_serves far) = omega arith
+  pub search_few : LevelSearch p window (Some found) → found.blocks ≤ p.m + 1
+  search_few (served some few below first) = few
 
--- Windows were read, and some blocks are settled.
-advanced_some : {p : Setting} {T : ℕ} {reception : List ℕ} {j : ℕ} {message residual : List ℕ} (count : ℕ) → 0 < count
-    → Settled p T reception j message residual → Advanced p T reception j message residual (ltb 0 count)
-advanced_some {p} {T} {reception} {j} {message} {residual} count some settled =
-    subst (Advanced p T reception j message residual) (sym (lt-ltb 0 count some)) (advanced settled)
+  pub search_below : LevelSearch p window (Some found) → AllBelow p.q found.information
+  search_below (served some few below first) = below
 
 module _ {p : Setting} (S : Sound p) {T : ℕ} {reception : List ℕ} (R : Symbols p.q reception)
     {j : ℕ} {message residual : List ℕ} (P : Settled p T reception j message residual) (l : j < T) where
@@ -59,42 +54,34 @@ module _ {p : Setting} (S : Sound p) {T : ℕ} {reception : List ℕ} (R : Symbo
       ap (λ (t : ℕ). take t (drop (j * p.n) residual)) wide
 
   -- No information is near: no message fits, whatever the areas hold.
-  pub advance_none : {i found : ℕ} {information message' residual' : List ℕ} → LevelSearch p window information found → found ≡ 0
-      → Advanced p T reception i message' residual' false
-  advance_none (served found some few area first) e = absurd (omega arith)
-  advance_none (none_serves far) e =
+  pub advance_none : {i : ℕ} {message' residual' : List ℕ} → LevelSearch p window None → Advanced p T reception i message' residual' false
+  advance_none (none_serves far) =
       stopped (settled_none p S T reception R j message residual P l
       (λ y Y near. far y Y (subst (λ (w : List ℕ). Near p w p.m y) (sym same_window) near)))
 
   -- The residual of the window is light: the guess of its first block is right.
   pub advance_clean : length window ≡ window_length p → {cost : ℕ} → cost ≡ zero_cost p.q window → cost < distances_to p.n p.k p.m
-      → Advanced p T reception (j + 1) message residual (ltb 0 (p.m + 1))
+      → Advanced p T reception (j + 1) message residual true
   advance_clean long_window counted few =
-      advanced_some (p.m + 1) (omega arith) (settled_found p S T reception R j message residual P (λ r. 0) message residual l
+      advanced (settled_found p S T reception R j message residual P (λ r. 0) message residual l
       (λ y Y near r u. window_clean p S window long_window (omega arith) y Y (subst (λ (w : List ℕ). Near p w p.m y) (sym same_window) near) r u)
       (added_zero S P.areas (λ r. refl)))
 
   -- What was found went into the message.
-  pub advance_found : {found : ℕ} {information message' residual' : List ℕ} → LevelSearch p window information found → (found ≡ 0 → ⊥)
-      → Added p T j (λ r. get_or information r 0) message residual message' residual'
-      → Advanced p T reception (j + 1) message' residual' (ltb 0 found)
-  advance_found {information = information} {message' = message'} {residual' = residual'} (served found some few area first) e D =
-      advanced_some found some (settled_found p S T reception R j message residual P (λ r. get_or information r 0) message' residual' l
+  pub advance_found : {found : Found} {message' residual' : List ℕ} → LevelSearch p window (Some found)
+      → Added p T j (λ r. get_or found.information r 0) message residual message' residual'
+      → Advanced p T reception (j + 1) message' residual' true
+  advance_found {found} {message' = message'} {residual' = residual'} (served some few below first) D =
+      advanced (settled_found p S T reception R j message residual P (λ r. get_or found.information r 0) message' residual' l
       (λ y Y near r u. first y Y (subst (λ (w : List ℕ). Near p w p.m y) (sym same_window) near) r u) D)
-  advance_found (none_serves far) e D = absurd (e refl)
 
 module _ {p : Setting} {T : ℕ} {reception : List ℕ} {j : ℕ} {message residual : List ℕ} where
   -- A turn that did not stop has advanced..
-  pub advance_more : {r : Bool} → Advanced p T reception j message residual r → not r ≡ false → Settled p T reception j message residual
-  advance_more (advanced settled) h = settled
-  advance_more (stopped far) h = absurd (false_not_true (sym h))
+  pub advance_more : {r : Bool} → Advanced p T reception j message residual r → r ≡ true → Settled p T reception j message residual
+  advance_more (advanced settled) e = settled
+  advance_more (stopped far) e = absurd (false_not_true e)
 
   -- .. and one that stopped shows that no message fits, whatever the areas hold.
-  pub advance_stopped : {r : Bool} {i : ℕ} {message' residual' : List ℕ} → Advanced p T reception j message residual r → not r ≡ true
-      → Advanced p T reception i message' residual' false
-  advance_stopped (advanced settled) h = absurd (false_not_true h)
-  advance_stopped (stopped far) h = stopped far
-
-  pub stopped_none : {r : Bool} → Advanced p T reception j message residual r → not r ≡ true → NoneFits p T reception
-  stopped_none (advanced settled) h = absurd (false_not_true h)
-  stopped_none (stopped far) h = far
+  pub stopped_none : {r : Bool} → Advanced p T reception j message residual r → r ≡ false → NoneFits p T reception
+  stopped_none (advanced settled) e = absurd (false_not_true (sym e))
+  stopped_none (stopped far) e = far

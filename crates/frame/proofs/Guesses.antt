@@ -1,11 +1,11 @@
 -- Changes of the guessed message, and the residual after them.
--- Holds: `window_room`, `symbol_room`, `block_room`, `blocks_few`; `revised_none`, `revised_then`; `adjusted`, `adjusted_exact`; `Adding` (the first r
--- symbols of a block were added) and its steps to `adding_all`; `added_past`, `added_zero`, `added_then`.
+-- Holds: `window_room`, `symbol_room`; `revised_none`, `revised_then`; `adjusted`, `adjusted_exact`; `Adding` (the first r symbols of a block were added) and its
+-- steps to `adding_all`; `added_zero`, `added_same`, `added_then`.
 use mathlib.Core.Path.{◌≡◌, refl, sym, ap, ap₂, subst, ◌∙◌}
 use mathlib.Core.Bool.{Bool, true, false}
 use mathlib.Core.List.{List}
 use Prim.Native.Nat.{ℕ, ◌+◌, ◌-◌, ◌*◌, ◌≤◌, ◌<◌}
-use native.Mathlib.Nat.{mul-le-mul, mul-le-mul_right}
+use native.Mathlib.Nat.{mul-le-mul_right}
 use native.Mathlib.Omega.{arith}
 use native.Mathlib.Decide.{dec_lt, dec_le, ℕ_discrete}
 use lib.Arith.{digits_lt}
@@ -29,7 +29,6 @@ use Rattle.code.specs.parts.Sound.{Sound}
 use Rattle.code.specs.Windows.{window_length}
 use Rattle.code.specs.parts.InformationBlocks.{only}
 use Rattle.code.proofs.CodeBelow.{laws, positive, row_symbol_below}
-use Rattle.code.proofs.Settings.{block_positive}
 use Rattle.code.proofs.Residuals.{add_opposite}
 use Rattle.code.proofs.ResidualSteps.{times_g_only, lessened, residual_step}
 use Rattle.tables.specs.parts.RowsAdded.{plus_row, RowsAdded}
@@ -44,18 +43,6 @@ window_room p T j message residual A l =
 pub symbol_room : (p : Setting) (T j r : ℕ) (message residual : List ℕ) → FrameAreas p T message residual → j < T → r < p.k → j * p.k + r < length message
 symbol_room p T j r message residual A l u =
     subst (λ (t : ℕ). j * p.k + r < t) (sym A.message_long) (digits_lt l u)
-
--- Block j lies within the residual.
-pub block_room : (p : Setting) (T j : ℕ) (message residual : List ℕ) → FrameAreas p T message residual → j < T → j * p.n + p.n ≤ length residual
-block_room p T j message residual A l =
-    let one : 1 ≤ p.m + 1 = omega arith in
-    omega (arith, window_room p T j message residual A l, mul-le-mul_right p.n one)
-
--- There are no more blocks than symbols of the residual.
-pub blocks_few : (p : Setting) → Sound p → (T : ℕ) (message residual : List ℕ) → FrameAreas p T message residual → T + p.m ≤ length residual
-blocks_few p S T message residual A =
-    let same : T + p.m ≤ T + p.m = omega arith in
-    omega (arith, mul-le-mul same (block_positive p S), A.residual_long)
 
 module _ {p : Setting} {T : ℕ} where
   pub revised_none : {i : ℕ} {message residual : List ℕ} → FrameAreas p T message residual → Revised p T i message residual message residual
@@ -206,9 +193,6 @@ pub record Adding (p : Setting) (T j : ℕ) (x : ℕ → ℕ) (r : ℕ) (message
   pub rest : (a : ℕ) → j * p.k + r ≤ a → get_or message' a 0 ≡ get_or message a 0
 
 module _ {p : Setting} {T j : ℕ} {x : ℕ → ℕ} {message residual : List ℕ} where
-  pub adding_none : FrameAreas p T message residual → Adding p T j x 0 message residual message residual
-  adding_none A = record { revised = revised_none A; symbol = λ a l. absurd (omega arith); rest = λ a l. refl }
-
   -- A zero symbol changes nothing.
   pub adding_zero : (S : Sound p) {r : ℕ} {message' residual' : List ℕ} → FrameAreas p T message residual
       → Adding p T j x r message residual message' residual' → x r ≡ 0 → Adding p T j x (r + 1) message residual message' residual'
@@ -236,13 +220,10 @@ module _ {p : Setting} {T j : ℕ} {x : ℕ → ℕ} {message residual : List �
         rest = λ a l. ap (λ (t : List ℕ). get_or t a 0) B.added ∙ get_or-set_other message' (j * p.k + r) a _ 0 (omega arith) ∙ D.rest a (omega arith);
       }
 
+  -- All k symbols were added.
   pub adding_all : {r : ℕ} {message' residual' : List ℕ} → Adding p T j x r message residual message' residual' → p.k ≤ r
       → Added p T j x message residual message' residual'
   adding_all D all = record { revised = D.revised; symbol = λ a l u. D.symbol a (omega arith) }
-
-  -- There is no block j.
-  pub added_past : FrameAreas p T message residual → T ≤ j → Added p T j x message residual message residual
-  added_past A past = record { revised = revised_none A; symbol = λ a l u. absurd (omega arith) }
 
   -- A zero block changes nothing.
   pub added_zero : Sound p → FrameAreas p T message residual → ((r : ℕ) → x r ≡ 0) → Added p T j x message residual message residual
@@ -252,6 +233,12 @@ module _ {p : Setting} {T j : ℕ} {x : ℕ → ℕ} {message residual : List �
         symbol = λ r l u. sym (ap ((ops_of p.q).add (get_or message (j * p.k + r) 0)) (zeros r)
             ∙ (laws p S).plus_zero (get_or message (j * p.k + r) 0) (symbol_below p.q message A.message_symbols (positive p S) (j * p.k + r)));
       }
+
+  -- The block is known by its k symbols.
+  pub added_same : {y : ℕ → ℕ} {message' residual' : List ℕ} → Added p T j x message residual message' residual' → ((r : ℕ) → r < p.k → x r ≡ y r)
+      → Added p T j y message residual message' residual'
+  added_same D same =
+      record { revised = D.revised; symbol = λ r l u. D.symbol r l u ∙ ap ((ops_of p.q).add (get_or message (j * p.k + r) 0)) (same r u) }
 
   -- Later changes leave block j as it is.
   pub added_then : {i : ℕ} {message' residual' message'' residual'' : List ℕ}

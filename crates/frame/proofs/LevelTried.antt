@@ -1,14 +1,14 @@
 -- One level of a window, from the block step's answer and the cost of the rebuilt blocks.
--- Holds: `step_below`, `tried_far`, `tried_compared`.
-use mathlib.Core.Path.{◌≡◌, refl, sym}
-use mathlib.Core.Bool.{Bool, true, false, not}
+-- Holds: `step_below`, `step_long`, `tried_far`, `tried_near`, `tried_costly`.
+use mathlib.Core.Path.{◌≡◌, refl, sym, ◌∙◌}
+use mathlib.Core.Bool.{Bool, true, false}
 use mathlib.Core.List.{List}
-use Prim.Native.Nat.{ℕ, ◌+◌, ◌-◌, ◌*◌, ◌≤◌, ◌<◌}
+use Prim.Native.Nat.{ℕ, ◌+◌, ◌-◌, ◌*◌, ◌≤◌}
 use native.Mathlib.Omega.{arith}
 use lib.Dec.{ltb}
-use lib.ListN.{take, drop}
+use lib.ListN.{length, take, drop}
 use borrow.Author.Tests.{ltb-true, ltb-false}
-use Rattle.algebra.proofs.Tests.{false_not_true}
+use Rattle.std.specs.Prelude.{Some, None}
 use Rattle.area.specs.Lists.{view}
 use Rattle.field.specs.parts.Sequences.{AllBelow}
 use Rattle.code.specs.declared.Setting.{Setting}
@@ -20,35 +20,36 @@ use Rattle.block.specs.parts.Step.{Step, near, far}
 use Rattle.frame.specs.parts.Window.{LevelTried, serves, fails}
 use Rattle.frame.proofs.RebuiltCost.{part_cost}
 
--- The block step's information has symbols below q, if it answered "near".
-pub step_below : {p : Setting} {l : ℕ} {block information : List ℕ} {r : Bool} → Step p l block information r → not r ≡ false → AllBelow p.q information
-step_below (near below close) h = below
-step_below (far none) h = absurd (false_not_true (sym h))
+-- The block step's information has symbols below q, and holds the level's blocks.
+pub step_below : {p : Setting} {l : ℕ} {block information : List ℕ} → Step p l block (Some information) → AllBelow p.q information
+step_below (near below long close) = below
+
+pub step_long : {p : Setting} {l : ℕ} {block information : List ℕ} → Step p l block (Some information) → (l + 1) * p.k ≤ length information
+step_long (near below long close) = long
 
 -- Block l of a window, as it is lent.
 abbrev block_at : Setting → List ℕ → ℕ → List ℕ
 block_at p window l = take (l * p.n + p.n - l * p.n) (drop (l * p.n) window)
 
-module _ {p : Setting} (S : Sound p) {window : List ℕ} {l : ℕ} (level : l ≤ p.m) {information : List ℕ} where
-  pub tried_far : {r : Bool} → Step p l (block_at p window l) information r → not r ≡ true → LevelTried p window l information false
-  tried_far (near below close) e = absurd (false_not_true e)
-  tried_far (far none) e = fails (λ y Y h. rw (part_cost p l (l * p.n) l window y refl) at (none y (λ b r u v. Y b r)))
+module _ {p : Setting} (S : Sound p) {window : List ℕ} {l : ℕ} (level : l ≤ p.m) where
+  pub tried_far : Step p l (block_at p window l) None → LevelTried p window l None
+  tried_far (far none) = fails (λ y Y h. rw (part_cost p l (l * p.n) l window y refl) at (none y (λ b r u v. Y b r)))
 
-  tried_refused : {r : Bool} → Step p l (block_at p window l) information r → not r ≡ false
-      → distances_to p.n p.k l ≤ window_cost p window l (view p.k information) → LevelTried p window l information false
-  tried_refused (near below close) h bad =
+  tried_refused : {information : List ℕ} → Step p l (block_at p window l) (Some information)
+      → distances_to p.n p.k l ≤ window_cost p window l (view p.k information) → LevelTried p window l None
+  tried_refused {information} (near below long close) bad =
       fails (λ y Y good. level_refused p S window y (view p.k information) Y (λ s r. below (s * p.k + r)) l level good
       (rw (part_cost p l (l * p.n) l window (view p.k information) refl) at close) bad)
-  tried_refused (far none) h bad = absurd (false_not_true (sym h))
-
-  tried_serves : {r : Bool} → Step p l (block_at p window l) information r → not r ≡ false
-      → window_cost p window l (view p.k information) < distances_to p.n p.k l → LevelTried p window l information true
-  tried_serves step h good = serves (step_below step h) good
 
   -- Whether the rebuilt blocks cost less than d_0 + .. + d_l decides.
-  pub tried_compared : {r b : Bool} {bound : ℕ} → Step p l (block_at p window l) information r → not r ≡ false → bound ≡ distances_to p.n p.k l
-      → b ≡ ltb (window_cost p window l (view p.k information)) bound → LevelTried p window l information b
-  tried_compared {b = true} {bound = bound} step h same e =
-      tried_serves step h (omega (arith, ltb-true (window_cost p window l (view p.k information)) bound (sym e)))
-  tried_compared {b = false} {bound = bound} step h same e =
-      tried_refused step h (omega (arith, ltb-false (window_cost p window l (view p.k information)) bound (sym e)))
+  module _ {information : List ℕ} (step : Step p l (block_at p window l) (Some information)) {b : Bool} {bound : ℕ}
+      (same : bound ≡ distances_to p.n p.k l) (e : b ≡ ltb (window_cost p window l (view p.k information)) bound) where
+    pub tried_near : b ≡ true → LevelTried p window l (Some information)
+    tried_near h =
+        let less = ltb-true (window_cost p window l (view p.k information)) bound (sym e ∙ h) in
+        serves (step_below step) (omega (arith, less, same))
+
+    pub tried_costly : b ≡ false → LevelTried p window l None
+    tried_costly h =
+        let least = ltb-false (window_cost p window l (view p.k information)) bound (sym e ∙ h) in
+        tried_refused step (omega (arith, least, same))

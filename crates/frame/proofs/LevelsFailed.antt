@@ -2,13 +2,12 @@
 -- Holds: `LevelsFailed` (how far every near y has come once the levels from l on failed), `levels_failed_start`, `levels_failed_next`,
 -- `levels_failed_served`, `levels_failed_none`.
 use mathlib.Core.Path.{◌≡◌, sym, ap, subst, ◌∙◌}
-use mathlib.Core.Bool.{Bool, true, false}
 use mathlib.Core.List.{List}
 use Prim.Native.Nat.{ℕ, zero, suc, ◌+◌, ◌*◌, ◌≤◌}
 use native.Mathlib.Numerals.{add-one}
 use native.Mathlib.Omega.{arith}
 use lib.ListN.{get_or}
-use Rattle.algebra.proofs.Tests.{false_not_true}
+use Rattle.std.specs.Prelude.{Some, None}
 use Rattle.area.specs.Lists.{view}
 use Rattle.code.specs.declared.Setting.{Setting}
 use Rattle.code.specs.parts.Sound.{Sound}
@@ -28,23 +27,21 @@ pub levels_failed_start : (p : Setting) (window : List ℕ) → LevelsFailed p w
 unfolding LevelsFailed reach
 levels_failed_start p window = subst (LevelsFailed p window) (sym (add-one p.m)) (λ y Y near. near)
 
-module _ (p : Setting) (S : Sound p) (window information : List ℕ) where
-  pub levels_failed_next : (l : ℕ) {r : Bool} → LevelTried p window l information r → r ≡ false → LevelsFailed p window (suc l) → LevelsFailed p window l
+module _ (p : Setting) (S : Sound p) (window : List ℕ) where
+  pub levels_failed_next : (l : ℕ) → LevelTried p window l None → LevelsFailed p window (suc l) → LevelsFailed p window l
   unfolding LevelsFailed reach
-  levels_failed_next l (serves below good) e reached = absurd (false_not_true (sym e))
-  levels_failed_next zero (fails heavy) e reached = λ y Y near. level_ends p S window y (reached y Y near) (heavy y Y (reached y Y near))
-  levels_failed_next (suc l) (fails heavy) e reached = λ y Y near. level_drops p S window y l (reached y Y near) (heavy y Y (reached y Y near))
+  levels_failed_next zero (fails heavy) reached = λ y Y near. level_ends p S window y (reached y Y near) (heavy y Y (reached y Y near))
+  levels_failed_next (suc l) (fails heavy) reached = λ y Y near. level_drops p S window y l (reached y Y near) (heavy y Y (reached y Y near))
 
-  pub levels_failed_served : (l : ℕ) {r : Bool} → l ≤ p.m → LevelTried p window l information r → r ≡ true → LevelsFailed p window (suc l)
-      → LevelSearch p window information (suc l)
+  pub levels_failed_served : (l : ℕ) {information : List ℕ} → l ≤ p.m → LevelTried p window l (Some information) → LevelsFailed p window (suc l)
+      → LevelSearch p window (Some (record { information = information; blocks = l + 1 }))
   unfolding LevelsFailed reach
-  levels_failed_served l low (serves below good) e reached =
-      served (suc l) (omega arith) (omega arith) below (λ y Y near r h.
+  levels_failed_served l {information} low (serves below good) reached =
+      served (omega arith) (omega arith) below (λ y Y near r h.
       first_certain p S window y (view p.k information) Y (λ s t. below (s * p.k + t)) l low
       (reached y Y near) good r h
       ∙ (let place : 0 * p.k + r ≡ r = omega arith in ap (λ (t : ℕ). get_or information t 0) place))
-  levels_failed_served l low (fails heavy) e reached = absurd (false_not_true e)
 
-pub levels_failed_none : (p : Setting) (window information : List ℕ) → LevelsFailed p window 0 → LevelSearch p window information 0
+pub levels_failed_none : (p : Setting) (window : List ℕ) → LevelsFailed p window 0 → LevelSearch p window None
 unfolding LevelsFailed reach
-levels_failed_none p window information reached = none_serves (λ y Y near. reached y Y near)
+levels_failed_none p window reached = none_serves (λ y Y near. reached y Y near)

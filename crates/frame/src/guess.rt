@@ -1,18 +1,16 @@
 // The guessed message. What is added to it is taken out of the residual, so that this stays the reception less the guess's transmission.
-ghost use Rattle.std.specs.Prelude.{◌+◌, ◌*◌, ◌≤◌, ◌<◌, length, get_or};
+// The two areas stay two parameters: a struct of two `&mut` would need two clauses more in each contract, that its references stay the same.
+ghost use Rattle.std.specs.Prelude.{◌≡◌, ◌+◌, ◌*◌, ◌≤◌, ◌<◌, length, get_or};
 ghost use Rattle.field.specs.Symbols.{Symbols};
-ghost use Rattle.code.specs.parts.Sound.{Sound};
-ghost use Rattle.tables.specs.parts.Rows.{Ready};
 ghost use Rattle.frame.specs.parts.Frame.{FrameAreas, Revised, Adjusted, Added};
 
+use super::window::Found;
 use code::Setting;
-use field::Products;
+use tables::Tables;
 
 // Adds v to symbol r of block i of the message, and takes what it sends out of the residual.
 fn adjust(
-    p: Setting,
-    products: &Products,
-    rows: &[u8],
+    tables: &Tables,
     blocks: usize,
     i: usize,
     r: usize,
@@ -20,141 +18,140 @@ fn adjust(
     message: &mut [u8],
     residual: &mut [u8],
 )
-    requires { Ready p products.now rows.now × (i < blocks) × (r < p.k) × (v < p.q) × FrameAreas p blocks message.old residual.old }
-    ensures { Adjusted p blocks i r v message.old residual.old message.new residual.new }
+    requires { (i < blocks) × (r < tables.now.setting.k) × (v < tables.now.setting.q) × FrameAreas tables.now.setting blocks message.old residual.old }
+    ensures { Adjusted tables.now.setting blocks i r v message.old residual.old message.new residual.new }
 {
-    let q = p.q;
-    let n = p.n;
+    let p = tables.setting;
     let place = i * p.k + r;
-    let size = (p.m + 1) * n;
-    let start = i * n;
+    let size = (p.m + 1) * p.n;
+    let start = i * p.n;
     let end = start + size;
-    let sum = field::add(q, message[place], v);
+    let sum = tables.field.add(message[place], v);
     message[place] = sum;
-    let less = field::negate(q, v);
-    tables::combine::add_rows(p, products, rows, r, less, &mut residual[start..end]);
+    let less = tables.field.negate(v);
+    tables.add_rows(r, less, &mut residual[start..end]);
 }
 
 // Adds an information block to block i of the message, if it has such a block.
 fn add_block(
-    p: Setting,
-    products: &Products,
-    rows: &[u8],
+    tables: &Tables,
     blocks: usize,
     i: usize,
-    information: &[u8],
-    from: usize,
+    block: &[u8],
     message: &mut [u8],
     residual: &mut [u8],
 )
-    requires { Ready p products.now rows.now × Symbols p.q information.now × (from + p.k ≤ length information.now) × FrameAreas p blocks message.old residual.old }
-    ensures { Added p blocks i (λ r. get_or information.now (from + r) 0) message.old residual.old message.new residual.new }
+    requires { Symbols tables.now.setting.q block.now × (length block.now ≡ tables.now.setting.k) × FrameAreas tables.now.setting blocks message.old residual.old }
+    ensures { Added tables.now.setting blocks i (λ r. get_or block.now r 0) message.old residual.old message.new residual.new }
 {
     if blocks <= i {
         return;
     }
-    let k = p.k;
-    let mut next: usize = 0;
-    while next < k {
-        let r = next;
-        let v = information[from + r];
-        next += 1;
+    for (r, &v) in block.iter().enumerate() {
         if v == 0 {
             continue;
         }
-        adjust(p, products, rows, blocks, i, r, v, message, residual);
+        adjust(tables, blocks, i, r, v, message, residual);
     }
 }
 
 // Adds the information found at window j: its first block is certain, the others are guesses that later windows check.
 pub fn add_found(
-    p: Setting,
-    products: &Products,
-    rows: &[u8],
+    tables: &Tables,
     blocks: usize,
     j: usize,
-    information: &[u8],
-    found: usize,
+    found: &Found,
     message: &mut [u8],
     residual: &mut [u8],
 )
-    requires { Ready p products.now rows.now × Symbols p.q information.now × (found ≤ p.m + 1) × ((p.m + 1) * p.k ≤ length information.now) × (j < blocks) × FrameAreas p blocks message.old residual.old }
-    ensures { Added p blocks j (λ r. get_or information.now r 0) message.old residual.old message.new residual.new }
+    requires { Symbols tables.now.setting.q found.now.information × (found.now.blocks ≤ tables.now.setting.m + 1) × (j < blocks) × FrameAreas tables.now.setting blocks message.old residual.old }
+    ensures { Added tables.now.setting blocks j (λ r. get_or found.now.information r 0) message.old residual.old message.new residual.new }
 {
-    let k = p.k;
+    let k = tables.setting.k;
     add_block(
-        p,
-        products,
-        rows,
+        tables,
         blocks,
         j,
-        information,
-        0,
+        &found.information[..k],
         message,
         residual,
     );
-    let mut a: usize = 1;
-    while a < found {
-        add_block(
-            p,
-            products,
-            rows,
-            blocks,
-            j + a,
-            information,
-            a * k,
-            message,
-            residual,
-        );
-        a += 1;
+    for a in 1..found.blocks {
+        let start = a * k;
+        let block = &found.information[start..start + k];
+        add_block(tables, blocks, j + a, block, message, residual);
     }
 }
 
-// Which of k symbols comes in this turn: upwards from the first, or downwards from the last.
-fn symbol_in_turn(down: bool, k: usize, turn: usize) -> usize
-    requires { turn < k }
-    ensures { result < k }
-{
-    if down {
-        return k - 1 - turn;
-    }
-    turn
+// The end of a block whose symbols a guess goes by.
+#[derive(Clone, Copy)]
+enum End {
+    First,
+    Last,
 }
 
-// Guesses block i of the message from the k symbols at `first` of the residual of its block: any guess will do. From the first symbols upwards, and from the
-// last ones downwards, it is right where they were not altered: row r of G_0 is zero before place r and has the symbol 1/scale there, and it is zero after
-// place n - k + r and has the symbol 1 there.
+impl End {
+    // Where the k symbols at this end begin in a block.
+    fn start(self, p: Setting) -> usize
+        requires { p.k ≤ p.n }
+        ensures { result + p.k ≤ p.n }
+    {
+        match self {
+            End::First => 0,
+            End::Last => p.n - p.k,
+        }
+    }
+
+    // Which of them comes in this turn: upwards from the first, or downwards from the last.
+    fn symbol_in_turn(self, k: usize, turn: usize) -> usize
+        requires { turn < k }
+        ensures { result < k }
+    {
+        match self {
+            End::First => turn,
+            End::Last => k - 1 - turn,
+        }
+    }
+
+    // What such a symbol is multiplied with to guess the message's: row r of G_0 is zero before place r and has the rows' first symbol there, and it is zero after
+    // place n - k + r and has the symbol 1 there.
+    fn scale(self, tables: &Tables) -> u8
+        ensures { result < tables.now.setting.q }
+    {
+        match self {
+            End::First => tables.field.inverse(tables.rows[0]),
+            End::Last => 1,
+        }
+    }
+}
+
+// Guesses block i of the message from the k symbols at an end of the residual of its block: any guess will do. It is right where they were not altered.
 fn guess_from(
-    p: Setting,
-    products: &Products,
-    rows: &[u8],
-    scale: u8,
-    first: usize,
-    down: bool,
+    tables: &Tables,
+    end: End,
     blocks: usize,
     i: usize,
     message: &mut [u8],
     residual: &mut [u8],
 )
-    requires { Ready p products.now rows.now × (scale < p.q) × (first + p.k ≤ p.n) × (i < blocks) × FrameAreas p blocks message.old residual.old }
-    ensures { Revised p blocks i message.old residual.old message.new residual.new }
+    requires { (i < blocks) × FrameAreas tables.now.setting blocks message.old residual.old }
+    ensures { Revised tables.now.setting blocks i message.old residual.old message.new residual.new }
 {
-    let q = p.q;
-    let k = p.k;
-    let start = i * p.n + first;
-    let mut turn: usize = 0;
-    while turn < k {
-        let r = symbol_in_turn(down, k, turn);
-        let v = field::multiply(q, products, scale, residual[start + r]);
-        adjust(p, products, rows, blocks, i, r, v, message, residual);
-        turn += 1;
+    let p = tables.setting;
+    let scale = end.scale(tables);
+    let start = i * p.n + end.start(p);
+    for turn in 0..p.k {
+        let r = end.symbol_in_turn(p.k, turn);
+        let v = tables.field.multiply(scale, residual[start + r]);
+        adjust(tables, blocks, i, r, v, message, residual);
     }
 }
 
 // Whether the residual of block i costs at most d_0.
-fn is_light(p: Setting, i: usize, residual: &[u8]) -> bool
-    requires { Sound p × (i * p.n + p.n ≤ length residual.now) }
+fn is_light(tables: &Tables, i: usize, residual: &[u8]) -> bool
+    requires { i * tables.now.setting.n + tables.now.setting.n ≤ length residual.now }
 {
+    let p = tables.setting;
     let start = i * p.n;
     let end = start + p.n;
     let distance = code::level_distance(p, 0);
@@ -162,56 +159,36 @@ fn is_light(p: Setting, i: usize, residual: &[u8]) -> bool
 }
 
 // Guesses block i of the message again, if it has such a block and its residual is too heavy: from the first symbols, or else from the last ones.
-fn guess_block(
-    p: Setting,
-    products: &Products,
-    rows: &[u8],
-    scale: u8,
-    blocks: usize,
-    i: usize,
-    message: &mut [u8],
-    residual: &mut [u8],
-)
-    requires { Ready p products.now rows.now × (scale < p.q) × FrameAreas p blocks message.old residual.old }
-    ensures { Revised p blocks i message.old residual.old message.new residual.new }
+fn guess_block(tables: &Tables, blocks: usize, i: usize, message: &mut [u8], residual: &mut [u8])
+    requires { FrameAreas tables.now.setting blocks message.old residual.old }
+    ensures { Revised tables.now.setting blocks i message.old residual.old message.new residual.new }
 {
     if blocks <= i {
         return;
     }
-    if is_light(p, i, residual) {
+    if is_light(tables, i, residual) {
         return;
     }
-    guess_from(
-        p, products, rows, scale, 0, false, blocks, i, message, residual,
-    );
-    if is_light(p, i, residual) {
+    guess_from(tables, End::First, blocks, i, message, residual);
+    if is_light(tables, i, residual) {
         return;
     }
-    let last = p.n - p.k;
-    guess_from(
-        p, products, rows, 1, last, true, blocks, i, message, residual,
-    );
+    guess_from(tables, End::Last, blocks, i, message, residual);
 }
 
 // Guesses blocks j + first .. j + m. Which blocks are guessed is free: nothing rests on a guess.
 pub fn guess_window(
-    p: Setting,
-    products: &Products,
-    rows: &[u8],
-    scale: u8,
+    tables: &Tables,
     blocks: usize,
     j: usize,
     first: usize,
     message: &mut [u8],
     residual: &mut [u8],
 )
-    requires { Ready p products.now rows.now × (scale < p.q) × (j < blocks) × FrameAreas p blocks message.old residual.old }
-    ensures { Revised p blocks j message.old residual.old message.new residual.new }
+    requires { (j < blocks) × FrameAreas tables.now.setting blocks message.old residual.old }
+    ensures { Revised tables.now.setting blocks j message.old residual.old message.new residual.new }
 {
-    let m = p.m;
-    let mut s: usize = first;
-    while s <= m {
-        guess_block(p, products, rows, scale, blocks, j + s, message, residual);
-        s += 1;
+    for s in first..tables.setting.m + 1 {
+        guess_block(tables, blocks, j + s, message, residual);
     }
 }

@@ -5,12 +5,17 @@ ghost use Rattle.field.specs.Symbols.{Symbols};
 ghost use Rattle.field.specs.parts.Sequences.{AllBelow};
 ghost use Rattle.code.specs.Windows.{window_length};
 ghost use Rattle.code.specs.parts.Cost.{window_cost, zero_cost};
-ghost use Rattle.tables.specs.parts.Rows.{Ready};
-ghost use Rattle.block.specs.parts.BlockAreas.{BlockAreas};
 ghost use Rattle.frame.specs.parts.Window.{LevelTried, LevelSearch};
 
-use code::Setting;
-use field::Products;
+use block::Information;
+use tables::Tables;
+
+// The information near a window: so many blocks from its front.
+#[derive(Clone, Copy)]
+pub struct Found {
+    pub information: Information,
+    pub blocks: usize,
+}
 
 // What the symbols cost against zeros, whatever the field.
 pub fn zero_cost(symbols: &[u8]) -> usize
@@ -21,111 +26,54 @@ pub fn zero_cost(symbols: &[u8]) -> usize
 
 // Whether blocks 0 .. l of the window cost less than the bound against the blocks rebuilt from the information. Most wrong information shows in the first
 // block.
-fn is_near(
-    p: Setting,
-    products: &Products,
-    rows: &[u8],
-    information: &[u8],
-    l: usize,
-    window: &[u8],
-    bound: usize,
-) -> bool
-    requires { Ready p products.now rows.now × AllBelow p.q information.now × ((l + 1) * p.k ≤ length information.now) × (l ≤ p.m) × (length window.now ≡ window_length p) }
-    ensures { result ≡ ltb (window_cost p window.now l (view p.k information.now)) bound }
+fn is_near(tables: &Tables, information: &[u8], l: usize, window: &[u8], bound: usize) -> bool
+    requires { AllBelow tables.now.setting.q information.now × ((l + 1) * tables.now.setting.k ≤ length information.now) × (l ≤ tables.now.setting.m) × (length window.now ≡ window_length tables.now.setting) }
+    ensures { result ≡ ltb (window_cost tables.now.setting window.now l (view tables.now.setting.k information.now)) bound }
 {
-    let n = p.n;
+    let n = tables.setting.n;
     // What the blocks so far leave of the bound.
     let mut left = bound;
-    let mut start: usize = 0;
-    let mut s: usize = 0;
-    while s <= l {
+    for s in 0..l + 1 {
+        let start = s * n;
         let end = start + n;
-        let cost = block::information::cost(
-            p,
-            products,
-            rows,
-            information,
-            s,
-            &window[start..end],
-            left,
-        );
+        let cost = block::information::cost(tables, information, s, &window[start..end], left);
         if left <= cost {
             return false;
         }
         left -= cost;
-        start = end;
-        s += 1;
     }
     true
 }
 
-// One level: the code block near block l of the window, if its information rebuilds blocks 0 .. l near enough.
-fn try_level(
-    p: Setting,
-    products: &Products,
-    rows: &[u8],
-    window: &[u8],
-    l: usize,
-    series: &mut [u8],
-    locator: &mut [u8],
-    values: &mut [u8],
-    information: &mut [u8],
-) -> bool
-    requires { Ready p products.now rows.now × (length window.now ≡ window_length p) × Symbols p.q window.now × (l ≤ p.m) × BlockAreas p series.old locator.old values.old information.old }
-    ensures { LevelTried p window.now l information.new result }
+// One level: the information of the code block near block l of the window, if it rebuilds blocks 0 .. l near enough.
+fn try_level(tables: &Tables, window: &[u8], l: usize) -> Option<Information>
+    requires { (length window.now ≡ window_length tables.now.setting) × Symbols tables.now.setting.q window.now × (l ≤ tables.now.setting.m) }
+    ensures { LevelTried tables.now.setting window.now l result }
 {
-    let n = p.n;
-    let start = l * n;
-    let end = start + n;
-    let near = block::repair(
-        p,
-        products,
-        rows,
-        &window[start..end],
-        l,
-        series,
-        locator,
-        values,
-        information,
-    );
-    if !near {
-        return false;
-    }
+    let p = tables.setting;
+    let start = l * p.n;
+    let end = start + p.n;
+    let information = block::repair(tables, &window[start..end], l)?;
     let bound = code::distances_to(p, l);
-    is_near(p, products, rows, information, l, window, bound)
+    if is_near(tables, &information, l, window, bound) {
+        Some(information)
+    } else {
+        None
+    }
 }
 
-// The information near a window by the levels from m down to 0, until one serves: how many blocks of it were found, or 0 if none is near.
-pub fn find_level(
-    p: Setting,
-    products: &Products,
-    rows: &[u8],
-    window: &[u8],
-    series: &mut [u8],
-    locator: &mut [u8],
-    values: &mut [u8],
-    information: &mut [u8],
-) -> usize
-    requires { Ready p products.now rows.now × (length window.now ≡ window_length p) × Symbols p.q window.now × BlockAreas p series.old locator.old values.old information.old }
-    ensures { LevelSearch p window.now information.new result }
+// The information near a window by the levels from m down to 0, until one serves; or none, if none is near.
+pub fn find_level(tables: &Tables, window: &[u8]) -> Option<Found>
+    requires { (length window.now ≡ window_length tables.now.setting) × Symbols tables.now.setting.q window.now }
+    ensures { LevelSearch tables.now.setting window.now result }
 {
-    let mut blocks = p.m + 1;
-    while 0 < blocks {
-        let l = blocks - 1;
-        if try_level(
-            p,
-            products,
-            rows,
-            window,
-            l,
-            series,
-            locator,
-            values,
-            information,
-        ) {
-            return blocks;
+    for l in (0..tables.setting.m + 1).rev() {
+        if let Some(information) = try_level(tables, window, l) {
+            return Some(Found {
+                information,
+                blocks: l + 1,
+            });
         }
-        blocks = l;
     }
-    0
+    None
 }

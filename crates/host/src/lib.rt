@@ -1,4 +1,5 @@
 // The functions that a C program calls (include/orderlink.h), thin over the proved library: the three of 01 here, those of 02 each in a module of its own.
+// They take and give what C has: numbers, areas of bytes and structs, where the library has enums and results.
 #![tactic(auto)]
 
 pub mod woven;
@@ -8,7 +9,7 @@ ghost use Rattle.link.specs.Encoding.{Encoded};
 ghost use Rattle.link.specs.Decoding.{Decoded};
 
 use display::Marks;
-use question::Answer;
+use question::answer::Answer;
 
 // struct orderlink_answer orderlink_encode(uint64_t setting, const uint8_t *message, size_t message_len,
 //                                          uint8_t *transmission, size_t transmission_len);
@@ -17,7 +18,7 @@ use question::Answer;
 pub extern "C" fn orderlink_encode(setting: u64, message: &[u8], transmission: &mut [u8]) -> Answer
     ensures { Encoded setting message.now transmission.old result transmission.new }
 {
-    link::encode::encode(setting, message, transmission)
+    Answer::from(link::encode::encode(setting, message, transmission).map(|()| 0))
 }
 
 // struct orderlink_answer orderlink_decode(uint64_t setting, const uint8_t *reception, size_t reception_len,
@@ -33,7 +34,7 @@ pub extern "C" fn orderlink_decode(
 ) -> Answer
     ensures { Decoded setting reception.now message.old transmission.old result message.new transmission.new }
 {
-    link::decode::decode(setting, reception, message, transmission)
+    Answer::from(link::decode::decode(setting, reception, message, transmission))
 }
 
 // struct orderlink_marks orderlink_marks(uint64_t setting, const uint8_t *reception, size_t reception_len,
@@ -48,5 +49,5 @@ pub extern "C" fn orderlink_marks(
 ) -> Marks
     ensures { Marked setting reception.now transmission.now j result }
 {
-    display::mark::marks(setting, reception, transmission, j)
+    Marks::from(display::mark::marks(setting, reception, transmission, j))
 }

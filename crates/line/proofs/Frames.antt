@@ -1,6 +1,7 @@
 -- The frame of a line that holds one (questions 11, 9, 1, 3 and 10 got "yes"), from decoding to the line's answer.
 -- Holds: `symbols_count`, `symbols_read`, `symbols_long`, `blocks_is` (the reception and T); `decoding_asked` (decoding's questions ask what is left, 4);
--- `refusal_line`, `success_line`; `frame_answered` (what decoding gives), `frame_left`; `any_room`, `room_is` (the working areas); `head_refused`;
+-- `refusal_line`; `frame_answered` (what decoding gives); `any_room`, `room_is` (the working areas); `shape_message`, `shape_most`, `digits_behind`;
+-- `frame_left`, `frame_said`;
 -- `most_answer` with its number, `answers_most`, `answers_sevenfold` (an output line's length); `answered_shown` (with room for every frame);
 -- `answers_kept` (a line too long is answered by its beginning).
 use mathlib.Core.Path.{◌≡◌, refl, sym, ap, ap₂, subst, ◌∙◌}
@@ -15,24 +16,28 @@ use lib.Dec.{T as Passes, eqb, leb, lit≤, leb→le, eqb→eq}
 use lib.ListN.{length, take, drop, length-map, length-drop}
 use lib.Seq.{length-take-le, take_at, take_all}
 use borrow.Author.Tests.{eq-eqb, ne_eqb, le-leb, lt-leb}
+use Rattle.std.proofs.lemmas.List.Elements.{All-take, All-drop}
 use Rattle.algebra.specs.Ops.{pick}
 use Rattle.algebra.proofs.Tests.{and_left, and_right, false_not_true}
 use Rattle.field.specs.Symbols.{Symbols}
 use Rattle.code.specs.declared.Setting.{Setting}
 use Rattle.code.specs.Settings.{is_setting, setting_of}
 use Rattle.code.specs.Windows.{window_length}
-use Rattle.code.proofs.Settings.{sound_of, information_fits, Sizes, sizes_of, largest_of}
-use Rattle.question.specs.declared.Answer.{Answer}
+use Rattle.code.specs.parts.SettingNumbers.{number_of, parameters_of}
+use Rattle.code.proofs.Settings.{sound_of, number_known, information_fits, Sizes, sizes_of, largest_of}
+use Rattle.question.specs.declared.answer.Answer.{Answer}
+use Rattle.question.specs.declared.shape.Shape.{Shape}
 use Rattle.question.specs.Questions.{Question, ask, answer, first_no, most_blocks, most_symbols, most_information, blocks_of, symbol_question, transmission_question}
 use Rattle.question.specs.Questions.{frame_questions, decoding_questions}
 use Rattle.question.proofs.Questions.{true_of, first_no_lem, all_yes, append_yes, message_most, transmission_most}
 use Rattle.link.specs.Decoding.{FrameDecoded, found, none_fits, DecodedIn, Decoded, refused as decoding_refused, well_formed as decoding_well_formed}
 use Rattle.link.proofs.Determined.{parts_long, message_front}
 use Rattle.line.specs.Characters.{digit_of}
-use Rattle.line.specs.Questions.{most_characters, setting_in, blocks_in, symbols_in, digits_to, character_questions, head_questions, HoldsFrame, line_questions}
+use Rattle.line.specs.Questions.{most_characters, setting_in, blocks_in, symbols_in, digits_to, HoldsFrame, line_questions}
 use Rattle.line.specs.Answering.{refusal, success, output_line, message_length, message_in, Answers, refused, well_formed, AnswerShown, LineAreas}
 use Rattle.line.specs.Answering.{line_areas, has_room, room_in, RoomForAll, FrameLeft, Answered, no_frame, no_room, decoded}
-use Rattle.line.proofs.Asked.{HeadYes, head_yes, after_head, in_head}
+use Rattle.line.specs.parts.Heads.{Digits, FrameOf}
+use Rattle.line.proofs.Asked.{HeadYes, head_yes, after_head}
 use Rattle.line.proofs.Placed.{refusal_long, success_long}
 
 -- A frame of T+m blocks of n symbols.
@@ -97,12 +102,9 @@ module _ (line : List ℕ) (yes : HeadYes line) where
       last : (x : Question) (a b : Bool) → a ≡ true → b ≡ true → first_no (x ∷ ask 5 a ∷ ask 6 b ∷ []) ≡ first_no (x ∷ [])
       last x a b ea eb = simp (ea, eb)
 
--- The output line of an answer.
+-- The output line of a refusal.
 pub refusal_line : (line : List ℕ) (r : Answer) (x : List ℕ) → (r.number ≡ 0 → ⊥) → output_line line r x ≡ refusal r
 refusal_line line r x h = ap (λ (b : Bool). pick b (success r.altered (setting_in line) (blocks_in line) x) (refusal r)) (ne_eqb r.number 0 h)
-
-pub success_line : (line : List ℕ) (r : Answer) (x : List ℕ) → r.number ≡ 0 → output_line line r x ≡ success r.altered (setting_in line) (blocks_in line) x
-success_line line r x h = ap (λ (b : Bool). pick b (success r.altered (setting_in line) (blocks_in line) x) (refusal r)) (eq-eqb r.number 0 h)
 
 -- Decoding's answer to the line's symbols is the line's, and its message is what is written.
 module _ (line : List ℕ) (holds : HoldsFrame line) where
@@ -175,6 +177,21 @@ room_is line reception message transmission e =
       leb→le (message_length line) message (and_right sent short later),
     )
 
+-- The shape of a line's frame says how long its message is, and that of its setting is no longer than any.
+module _ {line : List ℕ} {s : Shape} (frame : FrameOf line s) where
+  pub shape_message : s.blocks * (parameters_of s.setting).k ≡ message_length line
+  shape_message = ap₂ (λ (T number : ℕ). T * (setting_of number).k) frame.head.blocks frame.head.setting
+
+  pub shape_most : message_length line ≤ most_information
+  shape_most =
+      subst (λ (t : ℕ). t ≤ most_information) shape_message
+      (message_most (number_of s.setting) (parameters_of s.setting) s.blocks (number_known s.setting) refl s.few)
+
+-- The characters behind the first four are digits.
+pub digits_behind : (line : List ℕ) → HoldsFrame line → Digits (take (length line - 4) (drop 4 line))
+digits_behind line holds =
+    All-take (λ c. digit_of c < 16) (length line - 4) (drop 4 line) (All-drop (λ c. digit_of c < 16) 4 line (head_yes line holds).digits)
+
 -- The symbols were read into the front of the reception ..
 front_long : (line front : List ℕ) → front ≡ map digit_of (take (length line - 4) (drop 4 line)) → length front ≡ length line - 4
 front_long line front e = ap length (e ∙ symbols_read line) ∙ symbols_count line
@@ -195,12 +212,15 @@ frame_left line number front w r message' transmitted' n e D =
           w.transmission r message' transmitted') n D);
     }
 
--- One of questions 11, 9, 1, 3 and 10 got "no".
-pub head_refused : (line : List ℕ) (r : Answer) → r ≡ first_no (character_questions line ++ head_questions line) → (r.number ≡ 0 → ⊥) → Answers line (refusal r)
-head_refused line r e never =
-    let head : HoldsFrame line → ⊥ = λ z. never (ap (λ (a : Answer). a.number) e ∙ z) in
-    let same : first_no (line_questions line) ≡ first_no (character_questions line ++ head_questions line) = in_head line head in
-    refused (λ z. head (ap (λ (a : Answer). a.number) (sym same) ∙ z)) (ap refusal (e ∙ sym same))
+-- A frame for which there was room is decoded: its answer is the line's, and its message can be written.
+pub frame_said : {line : List ℕ} {w w' : LineAreas} {r : Answer} → HoldsFrame line → room_in line w ≡ true → FrameLeft line w r w'
+    → length w'.message ≡ length w.message
+    → Answers line (output_line line r (message_in line w'.message)) × (message_length line ≤ length w'.message)
+    × (r.number ≡ 0 → Symbols 16 (message_in line w'.message))
+frame_said {line} {w} {w'} {r} holds room left same =
+    let enough = room_is line (length w.reception) (length w.message) (length w.transmission) room in
+    let said = frame_answered line holds w.message w.transmission r w'.message w'.transmission enough.2 enough.1 left.decoded in
+    (said.0, omega (arith, enough.2, same), said.1)
 
 -- An output line is an opening of ten characters and a message, or six characters.
 output_most : (line : List ℕ) (r : Answer) (x : List ℕ) → length (output_line line r x) ≤ 10 + length x

@@ -1,5 +1,5 @@
 -- A text that is written part by part at the front of a lent area.
--- Holds: `placed_none`, `placed_part`, `placed_number`, `placed_long`; `shown_whole`, `shown_none`, `shown_success`; `number_long`, `refusal_long`,
+-- Holds: `placed_none`, `placed_part`, `placed_long`; `shown_whole`, `shown_none`, `shown_success`; `number_long`, `refusal_long`,
 -- `head_long`, `opening_long`, `success_long` (lengths of what is written).
 use mathlib.Core.Path.{◌≡◌, refl, sym, ap, ap₂, subst, ◌∙◌}
 use mathlib.Core.Bool.{Bool, true, false}
@@ -7,14 +7,14 @@ use mathlib.Core.List.{List, [], ◌++◌, map, append_assoc}
 use Prim.Native.Nat.{ℕ, ◌+◌, ◌-◌, ◌≤◌, ◌<◌}
 use native.Mathlib.Omega.{arith}
 use lib.Dec.{leb}
-use lib.ListN.{length, take, drop, length-append, length-map, length-take, length-drop}
+use lib.ListN.{length, take, drop, length-append, length-map, length-drop}
 use lib.Seq.{take_at, drop-append-add, drop-drop}
 use borrow.Author.Tests.{le-leb, lt-leb}
-use borrow.Rule.Slice.PartMut.{put_mid, Post-is, same_len_mid}
+use borrow.Rule.Slice.PartMut.{put_mid, Post-is}
 use Rattle.algebra.specs.Ops.{pick}
 use Rattle.line.specs.Characters.{character_of, hex}
 use Rattle.line.specs.Answering.{opening, success, Shown}
-use Rattle.line.specs.parts.Writing.{Placed, WrittenBehind}
+use Rattle.line.specs.parts.Writing.{Placed}
 use Rattle.line.proofs.Hex.{length_hex}
 
 pub placed_none : (before : List ℕ) → Placed [] before before
@@ -51,21 +51,6 @@ placed_part done part before area from to start long order room w =
     whole =
         ap₂ (λ (a b : List ℕ). a ++ (part ++ b)) front (Post-is from to area order ∙ rest)
         ∙ sym (append_assoc done part (drop (length (done ++ part)) before))
-
--- A number is the next part, in all the places from one to another.
-pub placed_number : (number from to : ℕ) (area : List ℕ) {part : List ℕ} → from ≤ to → to ≤ length area
-    → part ≡ hex (length (take (to - from) (drop from area))) number → WrittenBehind from (hex (to - from) number) area (put_mid from (to - from) area part)
-placed_number number from to area {part} order room e =
-    let places : length (take (to - from) (drop from area)) ≡ to - from = omega (arith, length-take (to - from) (drop from area), length-drop from area) in
-    let digits : part ≡ hex (to - from) number = e ∙ ap (λ (t : ℕ). hex t number) places in
-    let count : length part ≡ to - from = ap length digits ∙ length_hex (to - from) number in
-    record {
-      long = same_len_mid from (to - from) area part (ap length e ∙ length_hex (length (take (to - from) (drop from area))) number);
-      behind = λ {done} {start} ends w.
-          let whole : length area ≡ length start = placed_long done start area w in
-          subst (λ (t : List ℕ). Placed (done ++ t) start (put_mid from (to - from) area part)) digits
-          (placed_part done part start area from to ends count order (omega arith) w);
-    }
 
 -- The lengths of output lines, part by part.
 number_next : (done : List ℕ) (count number from : ℕ) → length done ≡ from → length (done ++ hex count number) ≡ from + count

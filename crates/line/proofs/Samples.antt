@@ -5,7 +5,7 @@ use Prim.Native.Nat.{ℕ}
 use lib.Dec.{lit≤}
 use lib.ListN.{length, replicate}
 use Rattle.code.specs.Settings.{setting_of}
-use Rattle.question.specs.declared.Answer.{Answer}
+use Rattle.question.specs.declared.answer.Answer.{Answer}
 use Rattle.question.specs.Questions.{first_no, blocks_of, symbols_to, decoding_questions}
 use Rattle.link.specs.Decoding.{FrameDecoded, DecodedIn, Decoded, well_formed}
 use Rattle.link.specs.Sample.{orders, closing_at_limit, closing_beyond_limit}

@@ -5,7 +5,7 @@ use Rattle.std.specs.Prelude.{◌≡◌, Bool, true, false, ◌&&◌, List, ◌+
 use Rattle.algebra.specs.Ops.{pick}
 use Rattle.area.specs.Lists.{overwritten}
 use Rattle.code.specs.Settings.{setting_of}
-use Rattle.question.specs.declared.Answer.{Answer}
+use Rattle.question.specs.declared.answer.Answer.{Answer}
 use Rattle.question.specs.Questions.{first_no, most_symbols, most_information}
 use Rattle.link.specs.Decoding.{FrameDecoded, Decoded}
 use Rattle.line.specs.Characters.{character_of, hex}

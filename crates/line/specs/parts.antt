@@ -1,2 +1,3 @@
 -- What functions promise one another.
+pub mod Heads
 pub mod Writing

@@ -1,16 +1,17 @@
 // One line at the planning desk: a line in, a line out.
 #![tactic(auto)]
 
-ghost use Rattle.std.specs.Prelude.{◌≡◌, true};
-ghost use Rattle.line.specs.Questions.{HoldsFrame};
-ghost use Rattle.line.specs.Answering.{output_line, message_in, Shown, line_areas, has_room, room_in, FrameLeft, Answered};
-ghost use Rattle.line.specs.parts.Writing.{Written};
+ghost use Rattle.std.specs.Prelude.{◌≡◌, List, ℕ, true};
+ghost use Rattle.question.specs.Refusals.{answered};
+ghost use Rattle.line.specs.Answering.{line_areas, has_room, room_in, FrameLeft, Answered};
+ghost use Rattle.line.specs.parts.Heads.{FrameOf};
 
 mod characters;
 mod questions;
 mod writing;
 
-use question::Answer;
+use question::refusal::Refusal;
+use question::shape::Shape;
 
 // The most symbols of a frame, and of its message, in any setting.
 pub const MOST_SYMBOLS: usize = 7725;
@@ -22,49 +23,29 @@ pub const MOST_CHARACTERS: usize = 4 + MOST_SYMBOLS;
 
 pub const MOST_ANSWER: usize = 10 + MOST_INFORMATION;
 
-// Whether working areas of these sizes have room for the frame that the line holds.
-fn has_room(line: &[u8], reception: usize, message: usize, transmission: usize) -> bool
-    requires { HoldsFrame line.now }
-    ensures { result ≡ has_room line.now reception message transmission }
+// Whether working areas of these sizes have room for a line's frame of this shape.
+fn has_room(shape: Shape, reception: usize, message: usize, transmission: usize) -> bool
+    ensures { (line : List ℕ) → FrameOf line shape → result ≡ has_room line reception message transmission }
 {
-    let long = line.len() - 4;
-    if reception < long {
-        return false;
-    }
-    if transmission < long {
-        return false;
-    }
-    questions::message_length(line) <= message
+    let long = shape.transmission_length();
+    long <= reception && long <= transmission && shape.message_length() <= message
 }
 
-// Questions 4 and 7 of a line that holds a frame: its symbols are read into the reception and decoded.
+// Questions 4 and 7 of a line that holds a frame of this shape: its symbols are read into the reception and decoded.
 fn decode_line(
     line: &[u8],
+    shape: Shape,
     reception: &mut [u8],
     message: &mut [u8],
     transmission: &mut [u8],
-) -> Answer
-    requires { HoldsFrame line.now × (room_in line.now (line_areas reception.old message.old transmission.old) ≡ true) }
-    ensures { FrameLeft line.now (line_areas reception.old message.old transmission.old) result (line_areas reception.new message.new transmission.new) }
+) -> Result<u32, Refusal>
+    requires { FrameOf line.now shape × (room_in line.now (line_areas reception.old message.old transmission.old) ≡ true) }
+    ensures { FrameLeft line.now (line_areas reception.old message.old transmission.old) (answered result) (line_areas reception.new message.new transmission.new) }
 {
-    let number = questions::setting_in(line);
+    let number = u64::from(shape.setting);
     let long = line.len() - 4;
     characters::read_digits(&line[4..], &mut reception[..long]);
     link::decode::decode(number, &reception[..long], message, transmission)
-}
-
-// The output line of an answer, with the message that was found.
-fn write_answer(line: &[u8], answer: Answer, message: &[u8], output: &mut [u8]) -> usize
-    requires { HoldsFrame line.now × Written line.now answer message.now }
-    ensures { Shown (output_line line.now answer (message_in line.now message.now)) output.old result output.new }
-{
-    if answer.number != 0 {
-        return writing::write_refusal(answer, output);
-    }
-    let number = questions::setting_in(line);
-    let blocks = questions::blocks_in(line);
-    let short = questions::message_length(line);
-    writing::write_success(answer.altered, number, blocks, &message[..short], output)
 }
 
 // The output line for one line, at the front of the output area, and its length; a line's frame is decoded in the working areas, whatever they hold.
@@ -79,13 +60,17 @@ pub fn answer_line(
 ) -> usize
     ensures { Answered line.now (line_areas reception.old message.old transmission.old) output.old result (line_areas reception.new message.new transmission.new) output.new }
 {
-    let asked = questions::first_questions(line);
-    if asked.number != 0 {
-        return writing::write_refusal(asked, output);
-    }
-    if !has_room(line, reception.len(), message.len(), transmission.len()) {
+    let shape = match questions::first_questions(line) {
+        Ok(shape) => shape,
+        Err(refusal) => return writing::write_refusal(refusal, output),
+    };
+    if !has_room(shape, reception.len(), message.len(), transmission.len()) {
         return 0;
     }
-    let answer = decode_line(line, reception, message, transmission);
-    write_answer(line, answer, message, output)
+    match decode_line(line, shape, reception, message, transmission) {
+        Ok(altered) => {
+            writing::write_success(altered, shape, &message[..shape.message_length()], output)
+        }
+        Err(refusal) => writing::write_refusal(refusal, output),
+    }
 }

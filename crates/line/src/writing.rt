@@ -1,13 +1,16 @@
 // Output lines.
-ghost use Rattle.std.specs.Prelude.{◌≡◌, map, ◌-◌, ◌≤◌, ◌<◌, ◌%◌, length};
+ghost use Rattle.std.specs.Prelude.{◌≡◌, ◌-◌, ◌≤◌, ◌%◌, length};
 ghost use Rattle.field.specs.Symbols.{Symbols};
+ghost use Rattle.code.specs.parts.SettingNumbers.{number_of};
 ghost use Rattle.question.specs.Questions.{most_information};
+ghost use Rattle.question.specs.Refusals.{answered};
 ghost use Rattle.line.specs.Characters.{character_of, hex};
-ghost use Rattle.line.specs.Answering.{refusal, opening, success, Shown};
+ghost use Rattle.line.specs.Answering.{refusal as refusal_line, opening, success, Shown};
 ghost use Rattle.line.specs.parts.Writing.{Placed, WrittenBehind};
 
 use super::characters;
-use question::Answer;
+use question::refusal::Refusal;
+use question::shape::Shape;
 
 // The last digit of a number.
 fn last_digit(number: u64) -> u8
@@ -21,12 +24,10 @@ fn write_number(number: u64, area: &mut [u8])
     ensures { area.new ≡ hex (length area.old) number }
 {
     let mut left = number;
-    let mut i = area.len();
-    while 0 < i {
-        i -= 1;
-        let character = last_digit(left);
-        area[i] = character;
-        left = left / 16;
+    // By index: of `area.iter_mut().rev()` no invariant can name what was written.
+    for i in (0..area.len()).rev() {
+        area[i] = last_digit(left);
+        left /= 16;
     }
 }
 
@@ -38,58 +39,39 @@ fn put_number(number: u64, from: usize, to: usize, output: &mut [u8])
     write_number(number, &mut output[from..to]);
 }
 
-// The symbols of a message, one digit each.
-fn write_symbols(symbols: &[u8], area: &mut [u8])
-    requires { Symbols 16 symbols.now × (length symbols.now ≡ length area.old) }
-    ensures { area.new ≡ map character_of symbols.now }
-{
-    let mut i: usize = 0;
-    while i < symbols.len() {
-        let character = characters::character(symbols[i]);
-        area[i] = character;
-        i += 1;
-    }
-}
-
-// "two digits of the question's number and four of the place"
-pub fn write_refusal(answer: Answer, output: &mut [u8]) -> usize
-    ensures { Shown (refusal answer) output.old result output.new }
+// "two digits of the question's number and four of the place"; its length, or 0 where there is no room, as 01 has `answer_line` give it.
+pub fn write_refusal(refusal: Refusal, output: &mut [u8]) -> usize
+    ensures { Shown (refusal_line (answered (Err refusal))) output.old result output.new }
 {
     if output.len() < 6 {
         return 0;
     }
-    put_number(answer.number as u64, 0, 2, output);
-    put_number(answer.place, 2, 6, output);
+    put_number(u64::from(refusal.number()), 0, 2, output);
+    put_number(refusal.place(), 2, 6, output);
     6
 }
 
 // "`00`, four digits of altered count, the setting digit, three of T"
-fn write_opening(count: u32, number: u64, blocks: u64, output: &mut [u8])
+fn write_opening(altered: u32, shape: Shape, output: &mut [u8])
     requires { 10 ≤ length output.old }
-    ensures { Placed (opening count number blocks) output.old output.new }
+    ensures { Placed (opening altered (number_of shape.setting) shape.blocks) output.old output.new }
 {
     put_number(0, 0, 2, output);
-    put_number(count as u64, 2, 6, output);
-    put_number(number, 6, 7, output);
-    put_number(blocks, 7, 10, output);
+    put_number(u64::from(altered), 2, 6, output);
+    put_number(u64::from(shape.setting), 6, 7, output);
+    put_number(shape.blocks as u64, 7, 10, output);
 }
 
-// The opening "and the message symbols".
-pub fn write_success(
-    count: u32,
-    number: u64,
-    blocks: u64,
-    message: &[u8],
-    output: &mut [u8],
-) -> usize
+// The opening "and the message symbols"; its length, or 0 as above.
+pub fn write_success(altered: u32, shape: Shape, message: &[u8], output: &mut [u8]) -> usize
     requires { Symbols 16 message.now × (length message.now ≤ most_information) }
-    ensures { Shown (success count number blocks message.now) output.old result output.new }
+    ensures { Shown (success altered (number_of shape.setting) shape.blocks message.now) output.old result output.new }
 {
     let long = 10 + message.len();
     if output.len() < long {
         return 0;
     }
-    write_opening(count, number, blocks, output);
-    write_symbols(message, &mut output[10..long]);
+    write_opening(altered, shape, output);
+    characters::write_symbols(message, &mut output[10..long]);
     long
 }

@@ -17,7 +17,7 @@ use Rattle.code.specs.parts.Sound.{Sound}
 use Rattle.code.proofs.Settings.{sound_of, block_positive}
 use Rattle.code.proofs.CodeBelow.{transmission_length}
 use Rattle.code.proofs.Demand3.{at_most_one_fits}
-use Rattle.question.specs.declared.Answer.{Answer}
+use Rattle.question.specs.declared.answer.Answer.{Answer}
 use Rattle.question.specs.Questions.{answer, blocks_of}
 use Rattle.weave.specs.Weaving.{woven}
 use Rattle.weave.specs.parts.Columns.{column_of}

@@ -10,7 +10,7 @@ use Rattle.code.specs.declared.Setting.{Setting}
 use Rattle.code.specs.Settings.{setting_of}
 use Rattle.code.specs.Windows.{most_altered}
 use Rattle.code.proofs.AlteredBound.{altered_bound}
-use Rattle.question.specs.declared.Answer.{Answer}
+use Rattle.question.specs.declared.answer.Answer.{Answer}
 use Rattle.question.specs.Questions.{Question, answer, first_no, blocks_of, decoding_questions}
 use Rattle.link.specs.Decoding.{FrameDecoded, found, none_fits, refused, well_formed, CountBound}
 

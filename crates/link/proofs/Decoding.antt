@@ -1,6 +1,6 @@
 -- From what reading a frame promises to what decoding promises.
--- Holds: `restored_none`, `restored_more`; `answered_read`, `answered_none`, `answered_symbols`, `decoded_found`, `decoded_none`; `Receiving`, `receiving`;
--- `decoded_refused`, `decoded_asked`; `decoded_alone`, `frame_alone`, in areas of just the right sizes.
+-- Holds: `restored_none`, `restored_more`; `answered_read`, `answered_none`, `answered_symbols`, `decoded_found`, `decoded_none`; `decoded_asked`;
+-- `decoded_alone`, `frame_alone`, in areas of just the right sizes.
 use mathlib.Core.Path.{◌≡◌, refl, sym, ap, subst, ◌∙◌}
 use mathlib.Core.Bool.{Bool, true, false, not}
 use mathlib.Core.List.{List, ◌++◌, append-nil}
@@ -17,13 +17,16 @@ use Rattle.field.specs.Fields.{ops_of}
 use Rattle.field.specs.Symbols.{Symbols}
 use Rattle.code.specs.declared.Setting.{Setting}
 use Rattle.code.specs.Settings.{is_setting, setting_of}
+use Rattle.code.specs.parts.SettingNumbers.{parameters_of}
 use Rattle.code.specs.parts.Sound.{Sound}
 use Rattle.code.specs.Windows.{transmission}
 use Rattle.code.proofs.CodeBelow.{transmission_length}
-use Rattle.code.proofs.Settings.{Sizes, sizes_of}
-use Rattle.question.specs.declared.Answer.{Answer}
-use Rattle.question.specs.Questions.{answer, first_no, most_blocks, blocks_of, decoding_questions}
-use Rattle.question.proofs.Questions.{FrameShape, decoding_yes, decoding_all_yes}
+use Rattle.question.specs.declared.answer.Answer.{Answer}
+use Rattle.question.specs.declared.shape.Shape.{Shape}
+use Rattle.question.specs.Questions.{answer, first_no, blocks_of, decoding_questions}
+use Rattle.question.specs.parts.Shapes.{ReceptionOf}
+use Rattle.question.proofs.Questions.{FrameShape, decoding_all_yes}
+use Rattle.question.proofs.Shapes.{asked_yes, reception_setting, reception_blocks}
 use Rattle.weave.specs.parts.Columns.{column_of}
 use Rattle.weave.proofs.Weaving.{column_one}
 use Rattle.frame.specs.parts.Frame.{FrameRead, fits, none}
@@ -81,48 +84,30 @@ module _ {p : Setting} {T : ℕ} {reception message residual : List ℕ} where
         (λ i l. back.inside i (omega (arith, back.long))
         ∙ end_back p S T reception message residual R F.message_of is_residual i (omega (arith, back.long, same, long))))
 
--- What decoding knows of the setting p in hand and the reception, once questions 1 to 6 got "yes".
-pub record Receiving (p : Setting) (reception : List ℕ) (message_room transmission_room : ℕ) : Type 0 where
-  pub sizes : Sizes p
-  pub blocks : 1 ≤ blocks_of p (length reception)
-  pub most : blocks_of p (length reception) ≤ most_blocks
-  pub long : length reception ≡ (blocks_of p (length reception) + p.m) * p.n
-  pub symbols : Symbols p.q reception
-  pub has_message_room : blocks_of p (length reception) * p.k ≤ message_room
-  pub has_transmission_room : (blocks_of p (length reception) + p.m) * p.n ≤ transmission_room
-
-module _ (number : ℕ) (reception message transmitted : List ℕ) where
-  pub receiving : (p : Setting) → p ≡ setting_of number → (first_no (decoding_questions number reception (length message) (length transmitted))).number ≡ 0
-      → Receiving p reception (length message) (length transmitted)
-  receiving p e asked =
-      let known = decoding_yes number reception (length message) (length transmitted) asked in
-      subst (λ (s : Setting). Receiving s reception (length message) (length transmitted)) (sym e)
-      (record {
-        sizes = sizes_of number known.setting;
-        blocks = known.blocks;
-        most = known.most;
-        long = known.long;
-        symbols = known.symbols;
-        has_message_room = known.has_message_room;
-        has_transmission_room = known.has_transmission_room;
-      })
-
-  -- A reception alone is one woven frame.
-  pub decoded_asked : (p : Setting) → p ≡ setting_of number → (first_no (decoding_questions number reception (length message) (length transmitted))).number ≡ 0
-      → {r : Answer} {front sent : List ℕ} → FrameDecoded (setting_of number) (blocks_of p (length reception)) (column_of 1 0 reception) r front sent
-      → Decoded number reception message transmitted r (front ++ drop (blocks_of p (length reception) * p.k) message)
-      (sent ++ drop ((blocks_of p (length reception) + p.m) * p.n) transmitted)
-  decoded_asked p e asked {r} {front} {sent} frame =
-      subst (λ (s : Setting). FrameDecoded (setting_of number) (blocks_of s (length reception)) reception r front sent
-      → Decoded number reception message transmitted r (front ++ drop (blocks_of s (length reception) * s.k) message)
-      (sent ++ drop ((blocks_of s (length reception) + s.m) * s.n) transmitted)) (sym e)
-      (λ frame. well_formed asked
-      (record { message_part = front; transmission_part = sent; decoded = frame; message_area = refl; transmission_area = refl }))
-      (subst (λ (l : List ℕ). FrameDecoded (setting_of number) (blocks_of p (length reception)) l r front sent) (column_one reception) frame)
-
-  pub decoded_refused : (r : Answer) → r ≡ first_no (decoding_questions number reception (length message) (length transmitted)) → (r.number ≡ 0 → ⊥)
-      → Decoded number reception message transmitted r message transmitted
-  decoded_refused r e h = refused (λ z. h (ap (λ (a : Answer). a.number) e ∙ z)) e refl refl
+-- A reception of the shape that the questions found. Alone it is one woven frame.
+pub decoded_asked : (number : ℕ) (reception message transmitted : List ℕ) {s : Shape} → ReceptionOf number (length reception) s
+    → answer 0 0 0 ≡ first_no (decoding_questions number reception (length message) (length transmitted)) → {short long : ℕ}
+    → short ≡ s.blocks * (parameters_of s.setting).k → long ≡ (s.blocks + (parameters_of s.setting).m) * (parameters_of s.setting).n
+    → {r : Answer} {front sent : List ℕ} → FrameDecoded (parameters_of s.setting) s.blocks (column_of 1 0 reception) r front sent
+    → Decoded number reception message transmitted r (front ++ drop short message) (sent ++ drop long transmitted)
+decoded_asked number reception message transmitted {s} shape asked {short} {long} e e' {r} {front} {sent} frame =
+    let known = reception_setting shape in
+    let count = reception_blocks shape in
+    let q = setting_of number in
+    well_formed (asked_yes asked)
+    (record {
+      message_part = front;
+      transmission_part = sent;
+      decoded =
+          subst (λ (t : ℕ). FrameDecoded q t reception r front sent) count
+          (subst (λ (p : Setting). FrameDecoded p s.blocks reception r front sent) known
+          (subst (λ (l : List ℕ). FrameDecoded (parameters_of s.setting) s.blocks l r front sent) (column_one reception) frame));
+      message_area =
+          ap (λ (t : ℕ). front ++ drop t message) (e ∙ ap (λ (p : Setting). s.blocks * p.k) known ∙ ap (λ (t : ℕ). t * q.k) count);
+      transmission_area =
+          ap (λ (t : ℕ). sent ++ drop t transmitted)
+          (e' ∙ ap (λ (p : Setting). (s.blocks + p.m) * p.n) known ∙ ap (λ (t : ℕ). (t + q.m) * q.n) count);
+    })
 
 -- Nothing of an area lies past a part of its size.
 whole_part : (part before : List ℕ) (size : ℕ) → length before ≡ size → part ≡ part ++ drop size before

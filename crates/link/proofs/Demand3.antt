@@ -12,7 +12,7 @@ use Rattle.code.specs.Settings.{setting_of}
 use Rattle.code.specs.Windows.{Fits}
 use Rattle.code.proofs.Settings.{sound_of}
 use Rattle.code.proofs.Demand3.{independent_of_later_blocks}
-use Rattle.question.specs.declared.Answer.{Answer}
+use Rattle.question.specs.declared.answer.Answer.{Answer}
 use Rattle.question.specs.Questions.{first_no, blocks_of, decoding_questions}
 use Rattle.question.proofs.Questions.{decoding_yes}
 use Rattle.link.specs.Decoding.{FrameDecoded, found, none_fits, Decoded, refused, well_formed}

@@ -13,7 +13,7 @@ use Rattle.code.specs.Windows.{transmission, altered}
 use Rattle.code.proofs.Settings.{sound_of}
 use Rattle.code.proofs.CodeBelow.{transmission_length}
 use Rattle.code.proofs.Demand3.{at_most_one_fits}
-use Rattle.question.specs.declared.Answer.{Answer}
+use Rattle.question.specs.declared.answer.Answer.{Answer}
 use Rattle.question.specs.Questions.{answer, first_no, blocks_of, decoding_questions}
 use Rattle.question.proofs.Questions.{decoding_yes}
 use Rattle.link.specs.Decoding.{FrameDecoded, found, none_fits, DecodedIn, Decoded, refused, well_formed}

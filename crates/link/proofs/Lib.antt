@@ -1,6 +1,5 @@
 -- What the proofs of the public calls share.
 pub mod Sending
-pub mod Encoding
 pub mod Decoding
 pub mod CountBound
 pub mod Determined

@@ -21,7 +21,7 @@ use Rattle.code.proofs.CodeBelow.{transmission_long, transmission_length}
 use Rattle.code.proofs.Settings.{sound_of}
 use Rattle.code.proofs.Demand3.{at_most_one_fits}
 use Rattle.code.proofs.Search.{fits_test, fits_of_test, none_fits_test, no_message_fits}
-use Rattle.question.specs.declared.Answer.{Answer}
+use Rattle.question.specs.declared.answer.Answer.{Answer}
 use Rattle.question.specs.Questions.{answer, first_no, blocks_of, decoding_questions, encoding_questions}
 use Rattle.question.proofs.Questions.{all_yes, yes_all, decoding_yes}
 use Rattle.link.specs.Encoding.{encoded_area}

@@ -1,22 +1,25 @@
 -- Woven frames: one after another decoded on its own part of the areas, and from there to decoding's promise of each.
--- Holds: `no_answers`; `frames_none`, `frames_more`, as the loop over the frames goes; `woven_known`; `alone`, `column_alone` (a frame by itself);
--- `woven_given`, `woven_decoded`.
-use mathlib.Core.Path.{◌≡◌, refl, sym, ap, subst, ◌∙◌}
+-- Holds: `frames_more`, as the loop over the frames goes; `woven_known`; `alone`, `column_alone` (a frame by itself);
+-- `woven_decoded`.
+use mathlib.Core.Path.{◌≡◌, sym, ap, subst, ◌∙◌}
 use mathlib.Core.List.{List}
 use Prim.Native.Nat.{ℕ, ◌+◌, ◌*◌, ◌/◌, ◌≤◌, ◌<◌}
-use native.Mathlib.Nat.{mul_comm}
 use native.Mathlib.Omega.{arith}
-use native.Mathlib.Decide.{dec_lt, ℕ_discrete}
-use lib.ListN.{length, get_or, set, replicate, length-replicate, get_or-replicate, get_or-eq_default}
+use native.Mathlib.Decide.{ℕ_discrete}
+use lib.ListN.{length, get_or, set}
 use lib.Seq.{get_or-set_same, get_or-set_other}
 use Rattle.area.specs.Lists.{part_at}
 use Rattle.area.proofs.Parts.{parts_apart, length_part_at, with_part, part_put, part_put_before, drop_put}
 use Rattle.field.specs.Symbols.{Symbols}
 use Rattle.code.specs.declared.Setting.{Setting}
 use Rattle.code.specs.Settings.{setting_of}
-use Rattle.question.specs.declared.Answer.{Answer}
-use Rattle.question.specs.Questions.{answer, first_no, most_blocks, blocks_of, woven_decoding_questions}
+use Rattle.code.specs.parts.SettingNumbers.{parameters_of}
+use Rattle.question.specs.declared.answer.Answer.{Answer}
+use Rattle.question.specs.declared.shape.WovenShape.{WovenShape}
+use Rattle.question.specs.Questions.{answer, first_no, blocks_of, woven_decoding_questions}
+use Rattle.question.specs.parts.Shapes.{WovenOf}
 use Rattle.question.proofs.Questions.{FrameShape, WovenDecodingYes, woven_decoding_yes}
+use Rattle.question.proofs.Shapes.{reception_setting, reception_blocks}
 use Rattle.weave.specs.Weaving.{unwoven}
 use Rattle.weave.specs.parts.Columns.{column_of}
 use Rattle.weave.proofs.Weaving.{column_length, column_symbols, column_part}
@@ -26,20 +29,7 @@ use Rattle.link.specs.Decoding.{FrameDecoded, Decoded}
 use Rattle.link.specs.Woven.{DecodedWoven, well_formed}
 use Rattle.link.proofs.Decoding.{decoded_alone, frame_alone}
 
--- Before any frame is decoded, and after a refusal, every frame's answer is zeros.
-pub no_answers : (n : ℕ) {x : Answer} → x ≡ answer 0 0 0 → (f : ℕ) → get_or (replicate n x) f (answer 0 0 0) ≡ answer 0 0 0
-no_answers n {x} e f = at (dec_lt f n)
-  where
-    at : Dec (f < n) → get_or (replicate n x) f (answer 0 0 0) ≡ answer 0 0 0
-    at (yes l) = get_or-replicate n f x (answer 0 0 0) l ∙ e
-    at (no d) = get_or-eq_default (replicate n x) (answer 0 0 0) (omega (arith, length-replicate n x))
-
 module _ (p : Setting) (T D : ℕ) (woven message transmitted : List ℕ) where
-  pub frames_none : (answers : List Answer) → ((f : ℕ) → get_or answers f (answer 0 0 0) ≡ answer 0 0 0)
-      → FramesTo p T D 0 woven message transmitted answers message transmitted
-  frames_none answers none =
-      record { frame = λ f h. absurd (omega arith); no_frame = λ f h. none f; message_past = refl; transmission_past = refl }
-
   -- One frame more, its parts of the areas of the sizes `short` and `long`.
   pub frames_more : (short long f : ℕ) (answers : List Answer) (messages sent part reread : List ℕ) (a : Answer) → short ≡ T * p.k → long ≡ (T + p.m) * p.n
       → f < length answers → f * short + short ≤ length messages → length part ≡ short → f * long + long ≤ length sent → length reread ≡ long
@@ -127,24 +117,20 @@ module _ (number D : ℕ) (reception message transmitted : List ℕ)
         (frame_alone number frame (part_at (T * p.k) f message) (part_at ((T + p.m) * p.n) f transmitted) woven_known.woven.setting frame_shape
         frame_symbols short long A))
 
-  -- What is asked of the areas of T' blocks a frame, and what comes back, where T' is this T.
-  module _ {T' : ℕ} (e : T' ≡ T) where
-    pub woven_given : (1 ≤ T') × (T' ≤ most_blocks) × (length reception ≡ (T' + p.m) * p.n * D) × (D * (T' * p.k) ≤ length message)
-        × (D * ((T' + p.m) * p.n) ≤ length transmitted)
-    woven_given =
-        let y = woven_known in
-        let shape = y.woven.frame in
-        let long : length reception ≡ (T + p.m) * p.n * D = y.woven.whole ∙ (ap (λ (t : ℕ). D * t) shape.long_is ∙ mul_comm D ((T + p.m) * p.n)) in
-        rw e (shape.blocks, shape.most, long, y.has_message_room, y.has_transmission_room)
-
-    pub woven_decoded : {r : WovenAnswer} {message' transmitted' : List ℕ} → EachDecoded p T' D reception message transmitted r message' transmitted'
-        → DecodedWoven number D reception message transmitted r message' transmitted'
-    woven_decoded {r} {message'} {transmitted'} E' =
-        let E = subst (λ (t : ℕ). EachDecoded p t D reception message transmitted r message' transmitted') e E' in
-        well_formed asked E.answered
-        (record {
-          frame = λ f below. alone f below (E.frames.frame f below);
-          no_frame = E.frames.no_frame;
-          message_past = E.frames.message_past;
-          transmission_past = E.frames.transmission_past;
-        })
+  -- All frames, of the shape that the questions found.
+  pub woven_decoded : {w : WovenShape} → WovenOf number D (length reception) w → {r : WovenAnswer} {message' transmitted' : List ℕ}
+      → EachDecoded (parameters_of w.frame.setting) w.frame.blocks w.frames reception message transmitted r message' transmitted'
+      → DecodedWoven number D reception message transmitted r message' transmitted'
+  woven_decoded {w} shape {r} {message'} {transmitted'} each =
+      let E =
+      subst (λ (t : ℕ). EachDecoded p T t reception message transmitted r message' transmitted') shape.count
+      (subst (λ (t : ℕ). EachDecoded p t w.frames reception message transmitted r message' transmitted') (reception_blocks shape.frame)
+      (subst (λ (s : Setting). EachDecoded s w.frame.blocks w.frames reception message transmitted r message' transmitted') (reception_setting shape.frame)
+      each)) in
+      well_formed asked E.answered
+      (record {
+        frame = λ f below. alone f below (E.frames.frame f below);
+        no_frame = E.frames.no_frame;
+        message_past = E.frames.message_past;
+        transmission_past = E.frames.transmission_past;
+      })

@@ -4,7 +4,7 @@ use Rattle.std.specs.Prelude.{◌≡◌, List, ◌++◌, ℕ, ◌+◌, ◌*◌, 
 use Rattle.code.specs.declared.Setting.{Setting}
 use Rattle.code.specs.Settings.{setting_of}
 use Rattle.code.specs.Windows.{transmission, altered, most_altered, Fits}
-use Rattle.question.specs.declared.Answer.{Answer}
+use Rattle.question.specs.declared.answer.Answer.{Answer}
 use Rattle.question.specs.Questions.{answer, first_no, blocks_of, decoding_questions}
 
 -- Question 7, "Does some message fit?", of a reception of T+m blocks: the answer, and what it puts in the first T × k bytes of the message area and in the

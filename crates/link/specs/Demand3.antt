@@ -3,7 +3,7 @@
 use Rattle.std.specs.Prelude.{◌≡◌, List, ℕ, ◌+◌, ◌*◌, ◌<◌, length, take}
 use Rattle.code.specs.Settings.{setting_of}
 use Rattle.code.specs.Windows.{Fits}
-use Rattle.question.specs.declared.Answer.{Answer}
+use Rattle.question.specs.declared.answer.Answer.{Answer}
 use Rattle.question.specs.Questions.{first_no, blocks_of, decoding_questions}
 use Rattle.link.specs.Decoding.{Decoded}
 

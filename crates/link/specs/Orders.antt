@@ -2,7 +2,7 @@
 -- `OrderKept`; `encodes`, `reads` and `gets_seven`, the three kinds of order. The orders themselves stand in specs/Sample.
 use Rattle.std.specs.Prelude.{◌≡◌, List, ℕ, ◌≤◌, length, replicate}
 use Rattle.area.specs.Lists.{overwritten}
-use Rattle.question.specs.declared.Answer.{Answer}
+use Rattle.question.specs.declared.answer.Answer.{Answer}
 use Rattle.question.specs.Questions.{answer}
 use Rattle.link.specs.Encoding.{Encoded}
 use Rattle.link.specs.Decoding.{Decoded}

@@ -1,16 +1,23 @@
 -- What decoding of woven frames promises (02, #104), and what follows of a burst.
--- Holds: `FramesDecoded`, the frames' own answers; `DecodedWoven`, a whole call; `OneRun`, `AllReturned`, `BurstReturned`, the promise on bursts.
-use Rattle.std.specs.Prelude.{◌≡◌, List, ℕ, ◌+◌, ◌*◌, ◌/◌, ◌≤◌, ◌<◌, length, get_or, drop}
+-- Holds: `woven_answer`, what a call's outcome stands for; `FramesDecoded`, the frames' own answers; `DecodedWoven`, a whole call; `OneRun`, `AllReturned`, `BurstReturned`, the promise on bursts.
+use Rattle.std.specs.Prelude.{◌≡◌, List, map, ℕ, ◌+◌, ◌*◌, ◌/◌, ◌≤◌, ◌<◌, Result, Ok, Err, length, get_or, drop, replicate}
 use Rattle.area.specs.Lists.{part_at, in_turn, overwritten}
 use Rattle.code.specs.declared.Setting.{Setting}
 use Rattle.code.specs.Code.{limit}
 use Rattle.code.specs.Settings.{setting_of}
 use Rattle.code.specs.Windows.{transmission, Message}
-use Rattle.question.specs.declared.Answer.{Answer}
-use Rattle.question.specs.Questions.{answer, first_no, blocks_of, woven_decoding_questions}
+use Rattle.question.specs.declared.answer.Answer.{Answer}
+use Rattle.question.specs.declared.refusal.Refusal.{Refusal}
+use Rattle.question.specs.Questions.{answer, first_no, most_frames, blocks_of, woven_decoding_questions}
+use Rattle.question.specs.Refusals.{answered}
 use Rattle.weave.specs.Weaving.{woven, unwoven}
 use Rattle.link.specs.declared.woven.WovenAnswer.{WovenAnswer}
 use Rattle.link.specs.Decoding.{Decoded}
+
+-- The answers that a call's outcome stands for: the frames' own, or that of a refusal and zeros for every frame.
+abbrev pub woven_answer : Result (List (Result ℕ Refusal)) Refusal → WovenAnswer
+woven_answer (Ok frames) = record { answer = answer 0 0 0; frame = map answered frames }
+woven_answer (Err refusal) = record { answer = answered (Err refusal); frame = replicate most_frames (answer 0 0 0) }
 
 -- "Past these, frames are answered in order, each as if decoded alone": decoding's own promise of frame f, with its part of each area: the frames' places lie
 -- one after another, T × k bytes each for the messages and (T+m) × n for the transmissions. "7 zeroes that frame's bytes only": there is nothing else in these

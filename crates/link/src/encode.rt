@@ -1,86 +1,55 @@
 // Encoding: from a message (the information word) to its transmission (the codeword).
-ghost use Rattle.std.specs.Prelude.{◌≡◌, ◌+◌, ◌*◌, ◌≤◌, ◌<◌, T as Passes, length};
-ghost use Rattle.code.specs.Settings.{is_setting, setting_of};
+ghost use Rattle.std.specs.Prelude.{◌≡◌, ◌+◌, ◌*◌, ◌<◌, length};
+ghost use Rattle.code.specs.parts.SettingNumbers.{parameters_of};
 ghost use Rattle.code.specs.Windows.{transmission, Message};
-ghost use Rattle.tables.specs.parts.Rows.{Narrow};
-ghost use Rattle.question.specs.Questions.{most_blocks};
-ghost use Rattle.link.specs.parts.Sending.{Sending, SentTo};
+ghost use Rattle.question.specs.Refusals.{asked};
+ghost use Rattle.link.specs.parts.Sending.{SentTo};
 ghost use Rattle.link.specs.Encoding.{Encoded};
 
-use code::Setting;
-use field::Products;
-use question::Answer;
+use question::refusal::Refusal;
+use question::shape::Shape;
+use tables::Tables;
 
 // Sends information block i: adds what it contributes to the m+1 blocks that it reaches.
-fn send_block(
-    p: Setting,
-    products: &Products,
-    rows: &[u8],
-    message: &[u8],
-    blocks: usize,
-    i: usize,
-    area: &mut [u8],
-)
-    requires { Sending p products.now rows.now message.now blocks × (i < blocks) × SentTo p blocks message.now (i * p.k) area.old }
-    ensures { SentTo p blocks message.now (i * p.k + p.k) area.new }
+fn send_block(tables: &Tables, message: &[u8], blocks: usize, i: usize, area: &mut [u8])
+    requires { Message tables.now.setting blocks message.now × (i < blocks) × SentTo tables.now.setting blocks message.now (i * tables.now.setting.k) area.old }
+    ensures { SentTo tables.now.setting blocks message.now (i * tables.now.setting.k + tables.now.setting.k) area.new }
 {
-    let k = p.k;
-    let n = p.n;
-    let first = i * k;
-    let start = i * n;
-    let end = start + (p.m + 1) * n;
-    let mut r: usize = 0;
-    while r < k {
-        let symbol = message[first + r];
-        tables::combine::add_rows(p, products, rows, r, symbol, &mut area[start..end]);
-        r += 1;
+    let p = tables.setting;
+    let first = i * p.k;
+    let start = i * p.n;
+    let end = start + (p.m + 1) * p.n;
+    for r in 0..p.k {
+        tables.add_rows(r, message[first + r], &mut area[start..end]);
     }
 }
 
 // The whole transmission: zeros, to which each information block adds its part.
-fn send(
-    p: Setting,
-    products: &Products,
-    rows: &[u8],
-    message: &[u8],
-    blocks: usize,
-    area: &mut [u8],
-)
-    requires { Sending p products.now rows.now message.now blocks × (length area.old ≡ (blocks + p.m) * p.n) }
-    ensures { area.new ≡ transmission p message.now }
+fn send(tables: &Tables, message: &[u8], blocks: usize, area: &mut [u8])
+    requires { Message tables.now.setting blocks message.now × (length area.old ≡ (blocks + tables.now.setting.m) * tables.now.setting.n) }
+    ensures { area.new ≡ transmission tables.now.setting message.now }
 {
-    area::clear(area);
-    let mut i: usize = 0;
-    while i < blocks {
-        send_block(p, products, rows, message, blocks, i, area);
-        i += 1;
+    area.fill(0);
+    for i in 0..blocks {
+        send_block(tables, message, blocks, i, area);
     }
 }
 
-// The transmission of a message, in an area of just its size; the tables are made here.
-fn encode_frame(setting: u64, p: Setting, message: &[u8], blocks: usize, area: &mut [u8])
-    requires { Passes (is_setting setting) × (p ≡ setting_of setting) × Narrow p × Message p blocks message.now × (blocks ≤ most_blocks) × (length area.old ≡ (blocks + p.m) * p.n) }
-    ensures { area.new ≡ transmission p message.now }
+// The transmission of a message of this shape, in an area of just its size; the tables are made here.
+fn encode_frame(shape: Shape, message: &[u8], area: &mut [u8])
+    requires { Message (parameters_of shape.setting) shape.blocks message.now × (length area.old ≡ (shape.blocks + (parameters_of shape.setting).m) * (parameters_of shape.setting).n) }
+    ensures { area.new ≡ transmission (parameters_of shape.setting) message.now }
 {
-    let mut rows = [0u8; tables::LONGEST_ROWS];
-    tables::rows(setting, &mut rows);
-    let products = field::products(p.q);
-    send(p, &products, &rows, message, blocks, area);
+    let tables = Tables::new(shape.setting);
+    send(&tables, message, shape.blocks, area);
 }
 
-// Encodes a message: the answer to questions 1, 8, 3, 4 and 6, and the transmission in the first (T+m) × n bytes of its area.
-pub fn encode(setting: u64, message: &[u8], transmission: &mut [u8]) -> Answer
-    ensures { Encoded setting message.now transmission.old result transmission.new }
+// Encodes a message: the first "no" to questions 1, 8, 3, 4 and 6, or the transmission in the first (T+m) × n bytes of its area.
+pub fn encode(number: u64, message: &[u8], transmission: &mut [u8]) -> Result<(), Refusal>
+    ensures { Encoded number message.now transmission.old (asked result) transmission.new }
 {
-    let answer = question::encoding_questions(setting, message, transmission.len());
-    if answer.number != 0 {
-        return answer;
-    }
-    let p = code::setting_of(setting);
-    let n = p.n;
-    let m = p.m;
-    let blocks = message.len() / p.k;
-    let long = (blocks + m) * n;
-    encode_frame(setting, p, message, blocks, &mut transmission[..long]);
-    answer
+    let shape = question::encoding_questions(number, message, transmission.len())?;
+    let long = shape.transmission_length();
+    encode_frame(shape, message, &mut transmission[..long]);
+    Ok(())
 }

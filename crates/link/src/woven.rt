@@ -1,92 +1,87 @@
 // Decoding of frames that were woven against bursts (02, #104).
-ghost use Rattle.std.specs.Prelude.{◌≡◌, ◌+◌, ◌*◌, ◌≤◌, T as Passes, length};
+ghost use Rattle.std.specs.Prelude.{◌≡◌, ◌+◌, ◌*◌, ◌≤◌, Ok, length};
 ghost use Rattle.field.specs.Symbols.{Symbols};
-ghost use Rattle.code.specs.Settings.{is_setting, setting_of};
-ghost use Rattle.question.specs.Questions.{most_blocks, most_frames};
+ghost use Rattle.code.specs.parts.SettingNumbers.{parameters_of};
 ghost use Rattle.link.specs.parts.WovenFrames.{EachDecoded};
-ghost use Rattle.link.specs.Woven.{DecodedWoven};
+ghost use Rattle.link.specs.Woven.{woven_answer, DecodedWoven};
 
-use question::Answer;
+use question::answer::Answer;
+use question::refusal::Refusal;
+use question::shape::{MOST_FRAMES, WovenShape};
 
 // One common answer, to the questions before 7, and the frames' own answers in order; zeros in the places of frames that there are not, and after a refusal.
 #[repr(C)]
 #[derive(Clone, Copy)]
 pub struct WovenAnswer {
     pub answer: Answer,
-    pub frame: [Answer; question::MOST_FRAMES],
+    pub frame: [Answer; MOST_FRAMES],
 }
 
-// The frames in order, each with its own part of both areas.
+// The answers that the frames' outcomes stand for, as C programs get them.
+impl From<Result<[Result<u32, Refusal>; MOST_FRAMES], Refusal>> for WovenAnswer {
+    ghost from_gives = { λ outcome r. r ≡ woven_answer outcome };
+
+    fn from(outcome: Result<[Result<u32, Refusal>; MOST_FRAMES], Refusal>) -> WovenAnswer {
+        match outcome {
+            Ok(frames) => WovenAnswer {
+                answer: Answer::from(Ok(0)),
+                frame: frames.map(|outcome| Answer::from(outcome)),
+            },
+            Err(refusal) => WovenAnswer {
+                answer: Answer::from(Err(refusal)),
+                frame: [Answer::from(Ok(0)); MOST_FRAMES],
+            },
+        }
+    }
+}
+
+// The frames in order, each with its own part of both areas; no symbol altered in the frames that there are not.
 fn decode_frames(
-    setting: u64,
-    frames: usize,
-    blocks: usize,
+    shape: WovenShape,
     woven: &[u8],
     message: &mut [u8],
     transmission: &mut [u8],
-) -> WovenAnswer
-    requires { Passes (is_setting setting) × (frames ≤ most_frames) × (1 ≤ blocks) × (blocks ≤ most_blocks) × (length woven.now ≡ (blocks + (setting_of setting).m) * (setting_of setting).n * frames) × Symbols (setting_of setting).q woven.now × (frames * (blocks * (setting_of setting).k) ≤ length message.old) × (frames * ((blocks + (setting_of setting).m) * (setting_of setting).n) ≤ length transmission.old) }
-    ensures { EachDecoded (setting_of setting) blocks frames woven.now message.old transmission.old result message.new transmission.new }
+) -> [Result<u32, Refusal>; MOST_FRAMES]
+    requires { (length woven.now ≡ (shape.frame.blocks + (parameters_of shape.frame.setting).m) * (parameters_of shape.frame.setting).n * shape.frames) × Symbols (parameters_of shape.frame.setting).q woven.now × (shape.frames * (shape.frame.blocks * (parameters_of shape.frame.setting).k) ≤ length message.old) × (shape.frames * ((shape.frame.blocks + (parameters_of shape.frame.setting).m) * (parameters_of shape.frame.setting).n) ≤ length transmission.old) }
+    ensures { EachDecoded (parameters_of shape.frame.setting) shape.frame.blocks shape.frames woven.now message.old transmission.old (woven_answer (Ok result)) message.new transmission.new }
 {
-    let p = code::setting_of(setting);
-    let n = p.n;
-    let k = p.k;
-    let m = p.m;
-    let short = blocks * k;
-    let long = (blocks + m) * n;
-    let mut answers = [question::yes(); question::MOST_FRAMES];
-    let mut f: usize = 0;
-    while f < frames {
+    let short = shape.frame.message_length();
+    let long = shape.frame.transmission_length();
+    let mut outcomes = [Ok(0); MOST_FRAMES];
+    for f in 0..shape.frames {
         let message_start = f * short;
         let message_end = message_start + short;
         let start = f * long;
         let end = start + long;
-        let answer = super::decode::decode_frame(
-            setting,
-            frames,
+        outcomes[f] = super::decode::decode_frame(
+            shape.frame,
+            shape.frames,
             f,
-            blocks,
             woven,
             &mut message[message_start..message_end],
             &mut transmission[start..end],
         );
-        answers[f] = answer;
-        f += 1;
     }
-    WovenAnswer {
-        answer: question::yes(),
-        frame: answers,
-    }
+    outcomes
 }
 
-// Decodes the frames of a woven area: the common answer to questions 1, 14, 15, 2, 3, 4, 5 and 6, and each frame's answer to 7 and altered count; the frames'
+// Decodes the frames of a woven area: the first "no" to questions 1, 14, 15, 2, 3, 4, 5 and 6, or each frame's answer to 7 and altered count; the frames'
 // messages and transmissions one after another at the front of their areas, zeros in the places of a frame that no message fits.
 pub fn decode_woven(
-    setting: u64,
+    number: u64,
     frames: u64,
     reception: &[u8],
     message: &mut [u8],
     transmission: &mut [u8],
-) -> WovenAnswer
-    ensures { DecodedWoven setting frames reception.now message.old transmission.old result message.new transmission.new }
+) -> Result<[Result<u32, Refusal>; MOST_FRAMES], Refusal>
+    ensures { DecodedWoven number frames reception.now message.old transmission.old (woven_answer result) message.new transmission.new }
 {
-    let answer = question::woven_decoding_questions(
-        setting,
+    let shape = question::woven_decoding_questions(
+        number,
         frames,
         reception,
         message.len(),
         transmission.len(),
-    );
-    if answer.number != 0 {
-        return WovenAnswer {
-            answer: answer,
-            frame: [question::yes(); question::MOST_FRAMES],
-        };
-    }
-    let p = code::setting_of(setting);
-    let n = p.n;
-    let m = p.m;
-    let count = frames as usize;
-    let blocks = reception.len() / count / n - m;
-    decode_frames(setting, count, blocks, reception, message, transmission)
+    )?;
+    Ok(decode_frames(shape, reception, message, transmission))
 }

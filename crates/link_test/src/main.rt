@@ -7,85 +7,61 @@
 
 ghost use Rattle.std.specs.Prelude.{◌≡◌, ◌≤◌, ◌<◌, length};
 
-use question::Answer;
+use display::Marks;
+use link::woven::WovenAnswer;
+use question::answer::Answer;
+use question::refusal::Refusal;
 
 // The descriptors of standard input and output.
 const STDIN: i32 = 0;
 
 const STDOUT: i32 = 1;
 
-// The value of a digit, and 0 for any other byte.
+// The most bytes of an area.
+const MOST_BYTES: usize = 10000;
+
+// The value of a digit, and 0 for any other byte. (Crate `line` has its own, private, which asks for a digit.)
 fn value(digit: u8) -> u8
     ensures { result < 16 }
 {
-    if digit < 48 {
-        return 0;
+    match digit {
+        b'0'..=b'9' => digit - b'0',
+        b'a'..=b'f' => digit - b'a' + 10,
+        _ => 0,
     }
-    if digit < 58 {
-        return digit - 48;
-    }
-    if digit < 97 {
-        return 0;
-    }
-    if digit < 103 {
-        return digit - 87;
-    }
-    0
 }
 
 // The number that the last sixteen digits of a text say.
 fn word(digits: &[u8]) -> u64 {
-    let mut word: u64 = 0;
-    let mut i: usize = 0;
-    while i < digits.len() {
-        word = word << 4 | value(digits[i]) as u64;
-        i += 1;
-    }
-    word
+    digits
+        .iter()
+        .fold(0, |word, digit| word << 4 | u64::from(value(*digit)))
 }
 
 // The bytes that the digits from `from` on say, as many as `bytes` has and the digits give.
 fn bytes(digits: &[u8], from: usize, bytes: &mut [u8]) {
-    if digits.len() < from {
+    let Some(digits) = digits.get(from..) else {
         return;
-    }
-    let mut at = from;
-    let mut i: usize = 0;
-    while i < bytes.len() {
-        if digits.len() - at < 2 {
-            return;
-        }
-        bytes[i] = value(digits[at]) << 4 | value(digits[at + 1]);
-        at += 2;
-        i += 1;
+    };
+    for (byte, pair) in bytes.iter_mut().zip(digits.chunks_exact(2)) {
+        *byte = value(pair[0]) << 4 | value(pair[1]);
     }
 }
 
-// A digit.
+// A digit. (That of crate `line` is private too.)
 fn digit(value: u8) -> u8 {
-    if value < 10 {
-        return value + 48;
+    match value {
+        0..=9 => b'0' + value,
+        10..=15 => b'a' + (value - 10),
+        _ => 0,
     }
-    if value < 16 {
-        return value + 87;
-    }
-    0
 }
 
-// Writes bytes, two digits each, by way of `digits`.
-fn show(bytes: &[u8], digits: &mut [u8]) {
-    let mut at: usize = 0;
-    let mut i: usize = 0;
-    while i < bytes.len() {
-        if digits.len() - at < 2 {
-            return;
-        }
-        digits[at] = digit(bytes[i] / 16);
-        digits[at + 1] = digit(bytes[i] % 16);
-        at += 2;
-        i += 1;
+// Writes bytes, two digits each.
+fn show(bytes: &[u8]) {
+    for byte in bytes {
+        io::write_all(STDOUT, &[digit(byte / 16), digit(byte % 16)]);
     }
-    io::write_all(STDOUT, &digits[..at]);
 }
 
 fn show_number(number: u64) {
@@ -101,82 +77,71 @@ fn end_line() {
 }
 
 fn show_answer(answer: Answer) {
-    show_number(answer.number as u64);
+    show_number(u64::from(answer.number));
     space();
     show_number(answer.place);
     space();
-    show_number(answer.altered as u64);
+    show_number(u64::from(answer.altered));
 }
 
-// A call's answer, and what it returned or left in its one area.
-fn show_with(answer: Answer, area: &[u8], digits: &mut [u8]) {
-    show_answer(answer);
+// The answer of a call that gives no count, and what it returned or left in its one area.
+fn show_outcome(outcome: Result<(), Refusal>, area: &[u8]) {
+    show_answer(Answer::from(outcome.map(|()| 0)));
     space();
-    show(area, digits);
+    show(area);
     end_line();
 }
 
 // What a call left in both of its areas.
-fn show_areas(message: &[u8], transmission: &[u8], digits: &mut [u8]) {
+fn show_areas(message: &[u8], transmission: &[u8]) {
     space();
-    show(message, digits);
+    show(message);
     space();
-    show(transmission, digits);
+    show(transmission);
     end_line();
 }
 
-fn encode(number: u64, message: &[u8], transmission: &mut [u8], digits: &mut [u8]) {
-    let answer = link::encode::encode(number, message, transmission);
-    show_with(answer, transmission, digits);
+fn encode(number: u64, message: &[u8], transmission: &mut [u8]) {
+    let outcome = link::encode::encode(number, message, transmission);
+    show_outcome(outcome, transmission);
 }
 
-fn decode(
-    number: u64,
-    reception: &[u8],
-    message: &mut [u8],
-    transmission: &mut [u8],
-    digits: &mut [u8],
-) {
-    let answer = link::decode::decode(number, reception, message, transmission);
-    show_answer(answer);
-    show_areas(message, transmission, digits);
+fn decode(number: u64, reception: &[u8], message: &mut [u8], transmission: &mut [u8]) {
+    let outcome = link::decode::decode(number, reception, message, transmission);
+    show_answer(Answer::from(outcome));
+    show_areas(message, transmission);
 }
 
-fn window(number: u64, reception: &[u8], j: u64, digits: &mut [u8]) {
-    let answer = display::window_answer(number, reception, j);
-    let part = display::window(number, reception, j);
-    show_with(answer, part, digits);
+fn window(number: u64, reception: &[u8], j: u64) {
+    let outcome = display::window_answer(number, reception, j);
+    show_outcome(outcome, display::window(number, reception, j));
 }
 
 fn marks(number: u64, reception: &[u8], transmission: &[u8], j: u64) {
-    let found = display::mark::marks(number, reception, transmission, j);
-    let answer = found.answer;
-    show_answer(answer);
+    let found = Marks::from(display::mark::marks(number, reception, transmission, j));
+    show_answer(found.answer);
     space();
     show_number(found.marks);
     space();
-    show_number(found.set as u64);
+    show_number(u64::from(found.set));
     end_line();
 }
 
-fn weave(number: u64, frames: u64, incoming: &[u8], out: &mut [u8], digits: &mut [u8]) {
-    let answer = weave::weave(number, frames, incoming, out);
-    show_with(answer, out, digits);
+fn weave(number: u64, frames: u64, incoming: &[u8], out: &mut [u8]) {
+    let outcome = weave::weave(number, frames, incoming, out);
+    show_outcome(outcome, out);
 }
 
-fn unweave(number: u64, frames: u64, incoming: &[u8], out: &mut [u8], digits: &mut [u8]) {
-    let answer = weave::unweave(number, frames, incoming, out);
-    show_with(answer, out, digits);
+fn unweave(number: u64, frames: u64, incoming: &[u8], out: &mut [u8]) {
+    let outcome = weave::unweave(number, frames, incoming, out);
+    show_outcome(outcome, out);
 }
 
 // The answers of eight frames; those that are not there are zeros.
 fn show_frames(answers: [Answer; 8]) {
-    let mut f: usize = 0;
-    while f < 8 {
+    for answer in answers {
         space();
-        let answer = answers[f];
         show_answer(answer);
-        f += 1;
     }
 }
 
@@ -186,89 +151,49 @@ fn decode_woven(
     reception: &[u8],
     message: &mut [u8],
     transmission: &mut [u8],
-    digits: &mut [u8],
 ) {
-    let woven = link::woven::decode_woven(number, frames, reception, message, transmission);
-    let answer = woven.answer;
-    let answers = woven.frame;
-    show_answer(answer);
-    show_frames(answers);
-    show_areas(message, transmission, digits);
+    let outcome = link::woven::decode_woven(number, frames, reception, message, transmission);
+    let woven = WovenAnswer::from(outcome);
+    show_answer(woven.answer);
+    show_frames(woven.frame);
+    show_areas(message, transmission);
 }
 
-// The answer to a desk line, by way of areas that it is lent.
-fn answer_in(
-    text: &[u8],
-    reception: &mut [u8],
-    message: &mut [u8],
-    transmission: &mut [u8],
-    output: &mut [u8],
-) {
-    let long = line::answer_line(text, reception, message, transmission, output);
-    if output.len() < long {
-        return;
-    }
-    io::write_all(STDOUT, &output[..long]);
-    end_line();
-}
-
-// The same; areas with room for every line are made here.
+// The answer to a desk line; areas with room for every line are made here.
 fn desk_line(text: &[u8]) {
     let mut reception = [0u8; line::MOST_SYMBOLS];
     let mut message = [0u8; line::MOST_INFORMATION];
     let mut transmission = [0u8; line::MOST_SYMBOLS];
     let mut output = [0u8; line::MOST_ANSWER];
-    answer_in(
+    let long = line::answer_line(
         text,
         &mut reception,
         &mut message,
         &mut transmission,
         &mut output,
     );
+    if let Some(answer) = output.get(..long) {
+        io::write_all(STDOUT, answer);
+        end_line();
+    }
 }
 
+// The calls get the numbers of their input, wrong ones too.
+//
 // E: encoding of the first area into the third. D: decoding of the first into the second and the third. W: window j of the first. M: marks of the first and
 // the second in window j. V: weaving of the first into the third; U: unweaving. F: decoding of woven frames, the areas as with D. L: the first as a line at
 // the planning desk. The number is the setting, `chosen` is j or D.
-fn call_on(
-    call: u8,
-    number: u64,
-    chosen: u64,
-    first: &[u8],
-    second: &mut [u8],
-    third: &mut [u8],
-    digits: &mut [u8],
-) {
-    if call == b'E' {
-        encode(number, first, third, digits);
-        return;
-    }
-    if call == b'D' {
-        decode(number, first, second, third, digits);
-        return;
-    }
-    if call == b'W' {
-        window(number, first, chosen, digits);
-        return;
-    }
-    if call == b'M' {
-        marks(number, first, second, chosen);
-        return;
-    }
-    if call == b'V' {
-        weave(number, chosen, first, third, digits);
-        return;
-    }
-    if call == b'U' {
-        unweave(number, chosen, first, third, digits);
-        return;
-    }
-    if call == b'F' {
-        decode_woven(number, chosen, first, second, third, digits);
-        return;
-    }
-    if call == b'L' {
-        desk_line(first);
+fn call_on(call: u8, number: u64, chosen: u64, first: &[u8], second: &mut [u8], third: &mut [u8]) {
+    match call {
+        b'E' => encode(number, first, third),
+        b'D' => decode(number, first, second, third),
+        b'W' => window(number, first, chosen),
+        b'M' => marks(number, first, second, chosen),
+        b'V' => weave(number, chosen, first, third),
+        b'U' => unweave(number, chosen, first, third),
+        b'F' => decode_woven(number, chosen, first, second, third),
+        b'L' => desk_line(first),
+        _ => {}
     }
 }
 
@@ -286,23 +211,18 @@ struct Head {
 fn head_of(start: &[u8]) -> Head
     requires { length start.now ≡ 51 }
 {
-    let number = word(&start[2..18]);
-    let chosen = word(&start[19..35]);
-    let first = word(&start[36..40]) as usize;
-    let second = word(&start[41..45]) as usize;
-    let third = word(&start[46..50]) as usize;
     Head {
         call: start[0],
-        number: number,
-        chosen: chosen,
-        first: first,
-        second: second,
-        third: third,
+        number: word(&start[2..18]),
+        chosen: word(&start[19..35]),
+        first: word(&start[36..40]) as usize,
+        second: word(&start[41..45]) as usize,
+        third: word(&start[46..50]) as usize,
     }
 }
 
 // The areas of a line from its digits, and its call on them.
-fn handed(head: Head, digits: &mut [u8], first: &mut [u8], second: &mut [u8], third: &mut [u8])
+fn handed(head: Head, digits: &[u8], first: &mut [u8], second: &mut [u8], third: &mut [u8])
     requires { (length first.old ≤ 10000) × (length second.old ≤ 10000) }
 {
     let second_at = 2 * first.len();
@@ -310,15 +230,7 @@ fn handed(head: Head, digits: &mut [u8], first: &mut [u8], second: &mut [u8], th
     bytes(digits, 0, first);
     bytes(digits, second_at, second);
     bytes(digits, third_at, third);
-    call_on(
-        head.call,
-        head.number,
-        head.chosen,
-        first,
-        second,
-        third,
-        digits,
-    );
+    call_on(head.call, head.number, head.chosen, first, second, third);
 }
 
 // The areas of a line, read and handed to its call; false where the input ends.
@@ -332,26 +244,11 @@ fn run(
     let a = head.first;
     let b = head.second;
     let c = head.third;
-    if 10000 < a {
-        return false;
-    }
-    if 10000 < b {
-        return false;
-    }
-    if 10000 < c {
-        return false;
-    }
-    if first.len() < a {
-        return false;
-    }
-    if second.len() < b {
-        return false;
-    }
-    if third.len() < c {
+    if MOST_BYTES < a.max(b).max(c) {
         return false;
     }
     let size = 2 * (a + b + c) + 1;
-    if digits.len() < size {
+    if first.len() < a || second.len() < b || third.len() < c || digits.len() < size {
         return false;
     }
     if io::read_full(STDIN, &mut digits[..size]) != size {
@@ -395,11 +292,9 @@ fn turn() -> bool {
 }
 
 fn main() {
-    let mut left: u32 = 1000000;
-    while 0 < left {
+    for _ in 0..1000000 {
         if !turn() {
             return;
         }
-        left -= 1;
     }
 }

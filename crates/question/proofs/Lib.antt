@@ -1,2 +1,3 @@
 -- What the proofs of everything that asks share.
 pub mod Questions
+pub mod Shapes

@@ -1,24 +1,23 @@
 -- What the first "no" of a list of questions says, and what a call knows when every answer was "yes".
 -- Holds: of one question `first_yes`, `first_no_lem`; of a list before others `append_yes`, `append_no`; `numbered`, `AllYes`, `all_yes`, `yes_all` (number 0
--- says that every answer was "yes"), `true_of`, `number_of`;
--- of each call what it asks over the setting in hand, `encoding_later`, `display_later`, `weaving_later`, `woven_decoding_later`;
--- of a call that asks in order `Left`, `left_all`, `left_yes`, `says_no`, `says_yes`, `says_rest`, `symbols_no`, `symbols_yes`,
--- `first_says_no`, `first_left`, `setting_left`, `after_first`, `after_asked`, `setting_known`, `setting_sizes`; of a share of the room `share`, `shares_left`;
--- of question 4, as a loop asks it, `Searched`, `searched_none`, `searched_more`, `searched_stop`, `searched_all`, `map_same`, `symbols_to_whole`,
--- `whole_symbols`; what a call knows, `FrameShape`, `frame_of_setting`, `FrameYes`, `DecodingYes`, `EncodingYes`, `WindowYes`, `WovenYes`, `WovenDecodingYes`,
--- `frame_yes`, `decoding_yes`, `encoding_yes`, `display_yes`, `marks_yes`, `woven_yes`, `weaving_yes`, `woven_decoding_yes`; from that the answer "yes",
--- `decoding_all_yes`, `weaving_again`; the areas' sizes, `message_most`, `transmission_most`, `transmission_small`, `window_small`.
+-- says that every answer was "yes"), `true_of`, `number_of`; what is asked of woven frames after the questions that need no setting, `weaving_later`,
+-- `woven_decoding_later`; of a share of the room `share`, `shares`; of question 4 `largest_symbols`, `symbols_to_position`, `symbols_to_whole`,
+-- `whole_symbols`, `symbols_asked`, `position_asked`; what a call knows, `FrameShape`, `DecodingYes`, `EncodingYes`, `WovenYes`, `WovenDecodingYes`,
+-- `decoding_yes`, `encoding_yes`, `marks_yes`, `weaving_yes`, `woven_decoding_yes`; from that the answer "yes", `decoding_all_yes`, `weaving_again`; the
+-- areas' sizes, `message_most`, `transmission_most`, `transmission_small`.
 use mathlib.Core.Path.{◌≡◌, refl, sym, ap, subst, ◌∙◌}
-use mathlib.Core.Bool.{Bool, true, false, not, ◌&&◌}
-use mathlib.Core.List.{List, [], ◌∷◌, ◌++◌, map}
-use Prim.Native.Nat.{ℕ, suc, ◌+◌, ◌-◌, ◌*◌, ◌/◌, ◌%◌, ◌≤◌, ◌<◌}
-use native.Mathlib.Nat.{div-add-mod, div-add-mod', le-div_iff_mul-le, le_trans, mul_comm, mul-le-mul, mul-le-mul_right, mul-mod_left}
-use native.Mathlib.Numerals.{add-one}
+use mathlib.Core.Bool.{Bool, true, false, cond, not, ◌&&◌}
+use mathlib.Core.List.{List, [], ◌∷◌, ◌++◌}
+use Prim.Native.Nat.{ℕ, zero, suc, max, ◌+◌, ◌-◌, ◌*◌, ◌/◌, ◌%◌, ◌≤◌, ◌<◌}
+use native.Mathlib.Nat.{not-suc-le-zero, le_of_suc-le-suc, div-add-mod, div-add-mod', le-div_iff_mul-le, le_trans, mul_comm, mul-le-mul, mul-le-mul_right, mul-mod_left}
 use native.Mathlib.Omega.{arith}
 use lib.Dec.{T as Passes, eqb, leb, ltb, leb→le, le→leb, ltb→lt, eqb→eq}
-use lib.ListN.{length, get_or, drop}
-use lib.Seq.{drop-cons, drop-length}
-use borrow.Author.Tests.{eq-eqb, ne_eqb, lt-ltb, le-ltb, le-leb, leb-true, ltb-true, not-false}
+use Rattle.std.specs.List.{fold, position, position_or_len}
+use Rattle.std.specs.Prelude.{Option, Some, None}
+use Rattle.std.specs.Option.{MatchOption}
+use Rattle.std.proofs.lemmas.List.Sums.{prefix_len-le-length}
+use lib.ListN.{length, get_or}
+use borrow.Author.Tests.{eq-eqb, ne_eqb, lt-ltb, le-ltb, le-leb, leb-true, leb-false, ltb-true, ltb-false}
 use Rattle.algebra.specs.Ops.{pick}
 use Rattle.algebra.proofs.Tests.{and_left, and_right}
 use Rattle.field.specs.Symbols.{Symbols}
@@ -27,10 +26,10 @@ use Rattle.code.specs.declared.Setting.{Setting}
 use Rattle.code.specs.Settings.{is_setting, setting_of}
 use Rattle.code.specs.Windows.{window_length, Message}
 use Rattle.code.proofs.Settings.{largest_of, Sizes, sizes_of}
-use Rattle.question.specs.declared.Answer.{Answer}
-use Rattle.question.specs.Questions.{Question, ask, ask_at, answer, symbol_question, transmission_question, first_no, most_blocks, most_frames}
-use Rattle.question.specs.Questions.{most_symbols, most_information, blocks_of, symbols_to, frame_questions, area_questions, decoding_questions}
-use Rattle.question.specs.Questions.{encoding_questions, display_questions, marks_questions, woven_questions, weaving_questions, woven_decoding_questions}
+use Rattle.question.specs.declared.answer.Answer.{Answer}
+use Rattle.question.specs.Questions.{Question, ask, answer, symbol_question, transmission_question, first_no, most_blocks, most_frames}
+use Rattle.question.specs.Questions.{most_symbols, most_information, blocks_of, symbols_to, area_questions, decoding_questions}
+use Rattle.question.specs.Questions.{encoding_questions, marks_questions, woven_questions, weaving_questions, woven_decoding_questions}
 
 pub true_of : (t : Bool) → Passes t → t ≡ true
 true_of true h = refl
@@ -96,18 +95,7 @@ append_yes (x ∷ a) b n e = at (append_yes a b (and_right (not (eqb x.number 0)
     at more true e = more e
     at more false e = absurd (subst (λ (t : Bool). Passes (not t)) (eq-eqb x.number 0 e) (and_left (not (eqb x.number 0)) (numbered a) n))
 
--- The questions of each call after those that need no setting, over the setting p that code holds.
-abbrev pub encoding_later : List ℕ → ℕ → Setting → List Question
-encoding_later message transmission_room p =
-    ask 8 (eqb (length message % p.k) 0 && leb p.k (length message))
-    ∷ ask 3 (leb (length message / p.k) most_blocks)
-    ∷ symbol_question p.q message
-    ∷ transmission_question p (length message / p.k) transmission_room
-    ∷ []
-
-abbrev pub display_later : ℕ → ℕ → Setting → List Question
-display_later long j p = ask 12 (ltb j (blocks_of p long)) ∷ []
-
+-- What is asked of woven frames after the questions that need no setting, of a setting p.
 abbrev pub weaving_later : List ℕ → ℕ → Setting → List Question
 weaving_later incoming room p = symbol_question p.q incoming ∷ ask 6 (leb (length incoming) room) ∷ []
 
@@ -117,66 +105,6 @@ woven_decoding_later D reception message_room transmission_room p =
     ∷ ask 5 (leb (D * (blocks_of p (length reception / D) * p.k)) message_room)
     ∷ ask 6 (leb (D * ((blocks_of p (length reception / D) + p.m) * p.n)) transmission_room)
     ∷ []
-
--- A call that asks in order: of the questions `all` those before `rest` got "yes".
-pub record Left (all rest : List Question) : Type 0 where
-  pub same : first_no all ≡ first_no rest
-
-pub left_all : (all : List Question) → Left all all
-left_all all = record { same = refl }
-
--- "Yes" leaves the rest; "no" is the call's answer; where nothing is left, "yes" is.
-pub left_yes : {all rest : List Question} {x : Question} → Left all (x ∷ rest) → x.holds ≡ true → Left all rest
-left_yes {all} {rest} {x} l e = record { same = l.same ∙ first_yes x rest e }
-
-pub says_no : {all rest : List Question} {x : Question} {r : Answer} → Left all (x ∷ rest) → x.holds ≡ false → r ≡ answer x.number x.place 0
-    → r ≡ first_no all
-says_no {all} {rest} {x} l e a = a ∙ sym (l.same ∙ first_no_lem x rest e)
-
-pub says_yes : {all : List Question} {r : Answer} → Left all [] → r ≡ answer 0 0 0 → r ≡ first_no all
-says_yes l a = a ∙ sym l.same
-
--- What is left is asked by another call.
-pub says_rest : {all rest : List Question} {r : Answer} → Left all rest → r ≡ first_no rest → r ≡ first_no all
-says_rest l a = a ∙ sym l.same
-
--- Question 4, asked of the place that a call found.
-pub symbols_no : {all rest : List Question} {place long found : ℕ} {r : Answer} → Left all (ask_at 4 place (eqb place long) ∷ rest) → found ≡ place
-    → (found ≡ long → ⊥) → r ≡ answer 4 found 0 → r ≡ first_no all
-symbols_no l e h a = says_no l (ne_eqb _ _ (λ z. h (e ∙ z))) (a ∙ ap (λ (t : ℕ). answer 4 t 0) e)
-
-pub symbols_yes : {all rest : List Question} {place long found : ℕ} → Left all (ask_at 4 place (eqb place long) ∷ rest) → found ≡ place → found ≡ long
-    → Left all rest
-symbols_yes l e h = left_yes l (eq-eqb _ _ (sym e ∙ h))
-
--- The questions a were asked before b by another call, with the answer r.
-module _ (a b : List Question) {r : Answer} (asked : r ≡ first_no a) where
-  pub first_says_no : (r.number ≡ 0 → ⊥) → r ≡ first_no (a ++ b)
-  first_says_no h = asked ∙ sym (append_no a b (λ e. h (ap (λ (t : Answer). t.number) asked ∙ e)))
-
-  pub first_left : Passes (numbered a) → r.number ≡ 0 → Left (a ++ b) b
-  first_left n e = record { same = append_yes a b n (number_of asked e) }
-
--- What is left is asked of p, which is the setting; question 1, or the questions a, got "yes" before.
-pub setting_left : {all : List Question} (number : ℕ) (p : Setting) (later : Setting → List Question) → p ≡ setting_of number
-    → Left all (later (setting_of number)) → Left all (later p)
-setting_left number p later e l = record { same = l.same ∙ ap (λ (t : Setting). first_no (later t)) (sym e) }
-
-pub after_first : (number : ℕ) (p : Setting) (later : Setting → List Question) → Passes (is_setting number) → p ≡ setting_of number
-    → Left (ask 1 (is_setting number) ∷ later (setting_of number)) (later p)
-after_first number p later known e =
-    setting_left number p later e (left_yes (left_all (ask 1 (is_setting number) ∷ later (setting_of number))) (true_of (is_setting number) known))
-
-pub after_asked : (a : List Question) (number : ℕ) (p : Setting) (later : Setting → List Question) {r : Answer} → Passes (numbered a) → r ≡ first_no a
-    → r.number ≡ 0 → p ≡ setting_of number → Left (a ++ later (setting_of number)) (later p)
-after_asked a number p later n asked zero e = setting_left number p later e (first_left a (later (setting_of number)) asked n zero)
-
--- What the test of question 1 says.
-pub setting_known : (number : ℕ) {t : Bool} → t ≡ is_setting number → not t ≡ false → Passes (is_setting number)
-setting_known number {t} e h = subst Passes (sym (not-false t h) ∙ e) tt
-
-pub setting_sizes : (number : ℕ) (p : Setting) → Passes (is_setting number) → p ≡ setting_of number → Sizes p
-setting_sizes number p known e = subst Sizes (sym e) (sizes_of number known)
 
 -- A share of the room: D frames have room where each has it in its share.
 tests_agree : (s t : Bool) → (s ≡ true → t ≡ true) → (t ≡ true → s ≡ true) → s ≡ t
@@ -190,7 +118,7 @@ share D x room h =
     (λ e. le-leb (D * x) room (subst (λ (t : ℕ). t ≤ room) (mul_comm x D) ((le-div_iff_mul-le h).0 (leb-true x (room / D) e))))
     (λ e. le-leb x (room / D) ((le-div_iff_mul-le h).1 (subst (λ (t : ℕ). t ≤ room) (mul_comm D x) (leb-true (D * x) room e))))
 
-shares : (D : ℕ) (reception : List ℕ) (message_room transmission_room : ℕ) (p : Setting) → 1 ≤ D
+pub shares : (D : ℕ) (reception : List ℕ) (message_room transmission_room : ℕ) (p : Setting) → 1 ≤ D
     → first_no (area_questions p (blocks_of p (length reception / D)) reception (message_room / D) (transmission_room / D))
     ≡ first_no (woven_decoding_later D reception message_room transmission_room p)
 shares D reception message_room transmission_room p h =
@@ -199,50 +127,32 @@ shares D reception message_room transmission_room p h =
     ap (λ (t : Bool). first_no (four ∷ ask 5 t ∷ transmission_question p T (transmission_room / D) ∷ [])) (share D (T * p.k) message_room h)
     ∙ ap (λ (t : Bool). first_no (four ∷ ask 5 (leb (D * (T * p.k)) message_room) ∷ ask 6 t ∷ [])) (share D ((T + p.m) * p.n) transmission_room h)
 
--- What is left for D frames is left for one of them with shares, T being that of the setting p in hand.
-pub shares_left : {all : List Question} (D number : ℕ) (reception : List ℕ) (message_room transmission_room : ℕ) (p : Setting) → 1 ≤ D → p ≡ setting_of number
-    → Left all (woven_decoding_later D reception message_room transmission_room (setting_of number))
-    → Left all (area_questions (setting_of number) (blocks_of p (length reception / D)) reception (message_room / D) (transmission_room / D))
-shares_left D number reception message_room transmission_room p h e l =
-    setting_left number p (λ t. area_questions (setting_of number) (blocks_of t (length reception / D)) reception (message_room / D) (transmission_room / D)) e
-    (record { same = l.same ∙ sym (shares D reception message_room transmission_room (setting_of number) h) })
+-- No byte exceeds the largest.
+at_most_largest : (l : List ℕ) (most : ℕ) → (most ≤ fold max most l) × ((i : ℕ) → i < length l → get_or l i 0 ≤ fold max most l)
+at_most_largest [] most = (omega arith, λ i h. absurd (not-suc-le-zero h))
+at_most_largest (x ∷ l) most = at (at_most_largest l (max most x))
+  where
+    at : (max most x ≤ fold max most (x ∷ l)) × ((i : ℕ) → i < length l → get_or l i 0 ≤ fold max most (x ∷ l))
+        → (most ≤ fold max most (x ∷ l)) × ((i : ℕ) → i < length (x ∷ l) → get_or (x ∷ l) i 0 ≤ fold max most (x ∷ l))
+    at rest = (omega (arith, rest.0), each)
+      where
+        each : (i : ℕ) → i < length (x ∷ l) → get_or (x ∷ l) i 0 ≤ fold max most (x ∷ l)
+        each zero h = omega (arith, rest.0)
+        each (suc i) h = rest.1 i (le_of_suc-le-suc h)
 
--- Question 4, as a loop asks it of values that it reads by f: those before place i are below q.
-pub record Searched (q : ℕ) (f : ℕ → ℕ) (l : List ℕ) (i : ℕ) : Type 0 where
-  pub place : i ≤ length l
-  pub rest : symbols_to q (map f l) ≡ i + symbols_to q (map f (drop i l))
+pub largest_symbols : (l : List ℕ) {most : ℕ} → most ≡ fold max 0 l → Symbols (most + 1) l
+largest_symbols l {most} e = record { below = λ i h. omega (arith, (at_most_largest l 0).1 i h) }
 
-pub searched_none : {q : ℕ} {f : ℕ → ℕ} {l : List ℕ} → Searched q f l 0
-searched_none = record { place = omega arith; rest = omega arith }
-
--- The value in place i is looked at.
-searched_at : {q : ℕ} {f : ℕ → ℕ} {l : List ℕ} {i : ℕ} {t : Bool} → Searched q f l i → i < length l → ltb (f (get_or l i 0)) q ≡ t
-    → symbols_to q (map f l) ≡ i + pick t (suc (symbols_to q (map f (drop (suc i) l)))) 0
+-- The first byte that is not below q.
+pub symbols_to_position : (q : ℕ) (l : List ℕ) → symbols_to q l ≡ position_or_len (λ byte. leb q byte) l
 unfolding symbols_to
-searched_at {q} {f} {l} {i} s h e =
-    s.rest ∙ ap (λ (t : ℕ). i + t)
-    (ap (λ (t : List ℕ). symbols_to q (map f t)) (drop-cons l i 0 h) ∙ ap (λ (t : Bool). pick t (suc (symbols_to q (map f (drop (suc i) l)))) 0) e)
-
-pub searched_more : {q : ℕ} {f : ℕ → ℕ} {l : List ℕ} {i : ℕ} → Searched q f l i → i < length l → f (get_or l i 0) < q → Searched q f l (i + 1)
-searched_more {q} {f} {l} {i} s h b =
-    let more = searched_at s h (lt-ltb (f (get_or l i 0)) q b) in
-    let next : symbols_to q (map f (drop (i + 1) l)) ≡ symbols_to q (map f (drop (suc i) l)) = ap (λ (t : ℕ). symbols_to q (map f (drop t l))) (add-one i) in
-    record { place = omega arith; rest = omega arith }
-
-pub searched_stop : {q : ℕ} {f : ℕ → ℕ} {l : List ℕ} {i : ℕ} → Searched q f l i → i < length l → q ≤ f (get_or l i 0) → i ≡ symbols_to q (map f l)
-searched_stop {q} {f} {l} {i} s h b = let none = searched_at s h (le-ltb (f (get_or l i 0)) q b) in omega arith
-
-pub searched_all : {q : ℕ} {f : ℕ → ℕ} {l : List ℕ} {i : ℕ} → Searched q f l i → length l ≤ i → i ≡ symbols_to q (map f l)
-unfolding symbols_to
-searched_all {q} {f} {l} {i} s h =
-    let end : i ≡ length l = omega (arith, s.place) in
-    let none : symbols_to q (map f (drop i l)) ≡ 0 = ap (λ (t : List ℕ). symbols_to q (map f t)) (ap (λ (t : ℕ). drop t l) end ∙ drop-length l) in
-    omega (arith, s.rest)
-
--- Bytes that are read as they stand.
-pub map_same : (l : List ℕ) → map (λ (x : ℕ). x) l ≡ l
-map_same [] = refl
-map_same (x ∷ l) = ap (λ (t : List ℕ). x ∷ t) (map_same l)
+symbols_to_position q [] = refl
+symbols_to_position q (x ∷ l) = at (symbols_to_position q l) (leb q x) refl
+  where
+    at : symbols_to q l ≡ position_or_len (λ byte. leb q byte) l → (t : Bool) → leb q x ≡ t
+        → pick (ltb x q) (suc (symbols_to q l)) 0 ≡ position_or_len (λ byte. leb q byte) (x ∷ l)
+    at rest true e = let h = leb-true q x e in simp (e, le-ltb x q h)
+    at rest false e = let h = leb-false q x e in simp (e, lt-ltb x q h, rest) (omega arith)
 
 -- All of them are symbols.
 pub symbols_to_whole : (q : ℕ) (l : List ℕ) → Symbols q l → symbols_to q l ≡ length l
@@ -260,6 +170,28 @@ whole_symbols q (x ∷ l) e = at (whole_symbols q l) (ltb x q) refl e
     at : (symbols_to q l ≡ length l → Symbols q l) → (t : Bool) → ltb x q ≡ t → pick t (suc (symbols_to q l)) 0 ≡ suc (length l) → Symbols q (x ∷ l)
     at more true b e = symbols_more q x l (ltb-true x q b) (more (omega arith))
     at more false b e = absurd (omega arith)
+
+-- What question 4 answers of a list of symbols, and of the first that is none, if there is one.
+pub symbols_asked : {q : ℕ} {l : List ℕ} → Symbols q l → answer 0 0 0 ≡ first_no (symbol_question q l ∷ [])
+symbols_asked {q} {l} S = sym (first_yes (symbol_question q l) [] (eq-eqb _ _ (symbols_to_whole q l S)))
+
+pub position_asked : (q : ℕ) (l : List ℕ) {found : Option ℕ} → found ≡ position (λ byte. leb q byte) l
+    → MatchOption found (answer 0 0 0 ≡ first_no (symbol_question q l ∷ [])) (λ place. answer 4 place 0 ≡ first_no (symbol_question q l ∷ []))
+position_asked q l {found} e =
+    subst asked (sym e) (subst (λ (t : ℕ). asked (cond (ltb t (length l)) (Some t) None)) place (at (ltb (symbols_to q l) (length l)) refl))
+  where
+    place : symbols_to q l ≡ position_or_len (λ byte. leb q byte) l
+    place = symbols_to_position q l
+
+    asked : Option ℕ → Type 0
+    asked t = MatchOption t (answer 0 0 0 ≡ first_no (symbol_question q l ∷ [])) (λ place. answer 4 place 0 ≡ first_no (symbol_question q l ∷ []))
+
+    at : (t : Bool) → ltb (symbols_to q l) (length l) ≡ t → asked (cond t (Some (symbols_to q l)) None)
+    at true e = let h = ltb-true _ _ e in sym (first_no_lem (symbol_question q l) [] (ne_eqb _ _ (λ whole. omega arith)))
+    at false e =
+        let h = ltb-false _ _ e in
+        let whole : symbols_to q l ≡ length l = omega (arith, place, prefix_len-le-length (λ byte. not (leb q byte)) l) in
+        sym (first_yes (symbol_question q l) [] (eq-eqb _ _ whole))
 
 -- What questions 1 to 3 say of a frame of this length, over its setting.
 pub record FrameShape (p : Setting) (long : ℕ) : Type 0 where
@@ -283,18 +215,6 @@ frame_of p long sizes shape few =
     let found = blocks_of_length p.n p.m long sizes.symbols whole room in
     record { sizes = sizes; blocks = found.0; most = leb→le (blocks_of p long) most_blocks few; long_is = found.1 }
 
-pub record FrameYes (number long : ℕ) : Type 0 where
-  pub setting : Passes (is_setting number)
-  pub frame : FrameShape (setting_of number) long
-
-pub frame_yes : (number long : ℕ) {r : Answer} → r ≡ first_no (frame_questions number long) → r.number ≡ 0 → FrameYes number long
-frame_yes number long asked e =
-    let all = all_yes (frame_questions number long) tt (number_of asked e) in
-    record { setting = all.0; frame = frame_of (setting_of number) long (sizes_of number all.0) all.1.0 all.1.1.0 }
-
-pub frame_of_setting : {s p : Setting} {long : ℕ} → FrameShape s long → p ≡ s → FrameShape p long
-frame_of_setting {s} {p} {long} frame e = subst (λ (t : Setting). FrameShape t long) (sym e) frame
-
 -- The areas that a frame of any setting needs, over the setting p in hand.
 pub message_most : (number : ℕ) (p : Setting) (blocks : ℕ) → Passes (is_setting number) → p ≡ setting_of number → blocks ≤ most_blocks
     → blocks * p.k ≤ most_information
@@ -312,9 +232,6 @@ transmission_most number p blocks known e h =
 -- Bounds of every setting there can be.
 pub transmission_small : (p : Setting) (T : ℕ) → Sizes p → T ≤ most_blocks → (T + p.m) * p.n ≤ (most_blocks + 255) * 255
 transmission_small p T s h = let top : T + p.m ≤ most_blocks + 255 = omega (arith, s.memory_most) in mul-le-mul top s.symbols_most
-
-pub window_small : (p : Setting) → Sizes p → window_length p ≤ 256 * 255
-window_small p s = let top : p.m + 1 ≤ 256 = omega (arith, s.memory_most) in mul-le-mul top s.symbols_most
 
 -- What decoding knows when questions 1 to 6 got "yes".
 pub record DecodingYes (number : ℕ) (reception : List ℕ) (message_room transmission_room : ℕ) : Type 0 where
@@ -396,31 +313,12 @@ encoding_yes number message transmission_room e =
       room = leb→le ((T + p.m) * p.n) transmission_room all.1.1.1.1.0;
     }
 
--- What the display knows when its questions got "yes".
-pub record WindowYes (number long j : ℕ) : Type 0 where
-  pub setting : Passes (is_setting number)
-  pub frame : FrameShape (setting_of number) long
-  pub inside : j < blocks_of (setting_of number) long
-
-window_of_lem : (number long j : ℕ) → Passes (is_setting number) → Passes (eqb (long % (setting_of number).n) 0 && leb (window_length (setting_of number)) long)
-    → Passes (leb (blocks_of (setting_of number) long) most_blocks) → Passes (ltb j (blocks_of (setting_of number) long)) → WindowYes number long j
-window_of_lem number long j known shape few inside = record {
-  setting = known;
-  frame = frame_of (setting_of number) long (sizes_of number known) shape few;
-  inside = ltb→lt j (blocks_of (setting_of number) long) inside;
-}
-
-pub display_yes : (number long j : ℕ) → (first_no (display_questions number long j)).number ≡ 0 → WindowYes number long j
-display_yes number long j e =
-    let all = all_yes (display_questions number long j) tt e in
-    window_of_lem number long j all.0 all.1.0 all.1.1.0 all.1.1.1.0
-
 -- What marking knows when its questions got "yes".
 pub marks_yes : (number reception_long transmission_long j : ℕ) → (first_no (marks_questions number reception_long transmission_long j)).number ≡ 0
-    → WindowYes number reception_long j × (reception_long ≡ transmission_long)
+    → (j < blocks_of (setting_of number) reception_long) × (reception_long ≡ transmission_long)
 marks_yes number reception_long transmission_long j e =
     let all = all_yes (marks_questions number reception_long transmission_long j) tt e in
-    (window_of_lem number reception_long j all.0 all.1.0 all.1.1.0 all.1.1.1.0, eqb→eq reception_long transmission_long all.1.1.1.1.0)
+    (ltb→lt j (blocks_of (setting_of number) reception_long) all.1.1.1.0, eqb→eq reception_long transmission_long all.1.1.1.1.0)
 
 -- What is known of D woven frames of together this length, when 1, 14, 15, 2 and 3 got "yes".
 pub record WovenYes (number D long : ℕ) : Type 0 where
@@ -438,9 +336,6 @@ woven_of number D long all = record {
   whole = omega (arith, div-add-mod long D, eqb→eq (long % D) 0 all.1.1.0);
   frame = frame_of (setting_of number) (long / D) (sizes_of number all.0) all.1.1.1.0 all.1.1.1.1.0;
 }
-
-pub woven_yes : (number D long : ℕ) → (first_no (woven_questions number D long)).number ≡ 0 → WovenYes number D long
-woven_yes number D long e = woven_of number D long (all_yes (woven_questions number D long) tt e)
 
 -- Before other questions.
 all_of_first : (a b : List Question) → AllYes (a ++ b) → AllYes a × AllYes b

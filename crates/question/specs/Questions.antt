@@ -8,7 +8,7 @@ use Rattle.algebra.specs.Ops.{pick}
 use Rattle.code.specs.declared.Setting.{Setting}
 use Rattle.code.specs.Settings.{settings, is_setting, setting_of, largest}
 use Rattle.code.specs.Windows.{window_length}
-use Rattle.question.specs.declared.Answer.{Answer}
+use Rattle.question.specs.declared.answer.Answer.{Answer}
 
 -- A question: its number, its place if the answer is "no", and whether the answer is "yes".
 pub record Question : Type 0 where

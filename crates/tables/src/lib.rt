@@ -1,12 +1,22 @@
 // The generator of each setting as a nested table, and its rows laid out: made once in a library call and lent down.
 #![tactic(auto)]
 
-ghost use Rattle.std.specs.Prelude.{◌≡◌, ◌+◌, ◌≤◌, ◌<◌, T as Passes, length};
-ghost use Rattle.std.proofs.Math.Seq.{paste};
-ghost use Rattle.code.specs.Settings.{is_setting, setting_of};
-ghost use Rattle.tables.specs.parts.Rows.{generator_of, generator_row, rows_length, RowsOf};
+ghost use Rattle.std.specs.Prelude.{◌≡◌, ◌+◌, ◌*◌, ◌≤◌, ◌<◌, length, get_or};
+ghost use Rattle.area.specs.Lists.{view};
+ghost use Rattle.field.specs.parts.Operations.{Is};
+ghost use Rattle.field.specs.Symbols.{Symbols};
+ghost use Rattle.code.specs.Generator.{times_g};
+ghost use Rattle.code.specs.Level as level;
+ghost use Rattle.code.specs.parts.SettingNumbers.{parameters_of};
+ghost use Rattle.code.specs.Settings.{code_of};
+ghost use Rattle.code.specs.Windows.{window_length};
+ghost use Rattle.tables.specs.parts.Rows.{rows_length, Narrow, LaidOut, RowsOf, Ready};
+ghost use Rattle.tables.specs.parts.RowsAdded.{RowsAdded};
 
-pub mod combine;
+pub mod multiples;
+
+use code::{Setting, SettingNumber};
+use field::Field;
 
 // The most symbols of any setting's rows, and of a block: what a call that makes these areas makes room for.
 pub const LONGEST_ROWS: usize = 225;
@@ -82,85 +92,103 @@ const GENERATOR_5: [[[u8; 15]; 5]; 3] = [
     ],
 ];
 
-pub fn generator_1() -> [[[u8; 4]; 1]; 3]
-    ensures { result ≡ generator_of (setting_of 1) }
-{
-    GENERATOR_1
+// The tables of a setting: its field, and the generator's rows one after the other. Made once in a library call and lent down.
+#[derive(Drop)]
+pub struct Tables {
+    pub setting: Setting,
+    pub field: Field,
+    pub rows: [u8; LONGEST_ROWS],
+    pub ghost same_field: { setting.q ≡ field.q },
+    pub ghost ready: { Ready setting field.products rows },
+    pub ghost narrow: { Narrow setting },
 }
 
-pub fn generator_2() -> [[[u8; 7]; 2]; 3]
-    ensures { result ≡ generator_of (setting_of 2) }
+// Lays a generator out, at the front of the area: row 0 of G_0, .., G_m, then row 1 of them and so on. So what one information symbol is multiplied with stands
+// together.
+fn lay_generator<const N: usize, const K: usize, const POWERS: usize>(
+    generator: &[[[u8; N]; K]; POWERS],
+    area: &mut [u8],
+)
+    requires { (1 ≤ N) × (K * POWERS * N ≤ length area.old) × (length area.old ≤ LONGEST_ROWS) }
+    ensures long { length area.new ≡ length area.old }
+    ensures laid { LaidOut N K POWERS generator.now area.new }
 {
-    GENERATOR_2
-}
-
-pub fn generator_3() -> [[[u8; 7]; 3]; 2]
-    ensures { result ≡ generator_of (setting_of 3) }
-{
-    GENERATOR_3
-}
-
-pub fn generator_4() -> [[[u8; 15]; 3]; 4]
-    ensures { result ≡ generator_of (setting_of 4) }
-{
-    GENERATOR_4
-}
-
-pub fn generator_5() -> [[[u8; 15]; 5]; 3]
-    ensures { result ≡ generator_of (setting_of 5) }
-{
-    GENERATOR_5
-}
-
-// Lays a row of the table out, from a place of the area on.
-fn lay_row(row: &[u8], at: usize, area: &mut [u8])
-    requires { at + length row.now ≤ length area.old }
-    ensures { area.new ≡ paste area.old at row.now (length row.now) }
-{
-    let mut i: usize = 0;
-    while i < row.len() {
-        area[at + i] = row[i];
-        i += 1;
+    for a in 0..K * POWERS {
+        let start = a * N;
+        let end = start + N;
+        area[start..end].copy_from_slice(&generator[a % POWERS][a / POWERS]);
     }
 }
 
-// Lays row r of G_j of a setting out, from a place of the area on: the one place that tells the settings' tables apart.
-fn lay_generator_row(number: u64, j: usize, r: usize, at: usize, area: &mut [u8])
-    requires { Passes (is_setting number) × (j < (setting_of number).m + 1) × (r < (setting_of number).k) × (at + (setting_of number).n ≤ length area.old) }
-    ensures { area.new ≡ paste area.old at (generator_row (setting_of number) j r) (setting_of number).n }
+// Lays a setting's rows out: the one place that tells the settings' generators apart.
+fn lay_rows(number: SettingNumber, area: &mut [u8])
+    requires { (rows_length (parameters_of number) ≤ length area.old) × (length area.old ≤ LONGEST_ROWS) }
+    ensures long { length area.new ≡ length area.old }
+    ensures rows { RowsOf (parameters_of number) area.new }
 {
-    if number < 2 {
-        lay_row(&generator_1()[j][r], at, area);
-        return;
+    match number {
+        SettingNumber::One => lay_generator(&GENERATOR_1, area),
+        SettingNumber::Two => lay_generator(&GENERATOR_2, area),
+        SettingNumber::Three => lay_generator(&GENERATOR_3, area),
+        SettingNumber::Four => lay_generator(&GENERATOR_4, area),
+        SettingNumber::Five => lay_generator(&GENERATOR_5, area),
     }
-    if number < 3 {
-        lay_row(&generator_2()[j][r], at, area);
-        return;
-    }
-    if number < 4 {
-        lay_row(&generator_3()[j][r], at, area);
-        return;
-    }
-    if number < 5 {
-        lay_row(&generator_4()[j][r], at, area);
-        return;
-    }
-    lay_row(&generator_5()[j][r], at, area);
 }
 
-// A setting's rows one after the other, at the front of the area: row 0 of G_0, .., G_m, then row 1 of them and so on. So what one information symbol is
-// multiplied with stands together.
-pub fn rows(number: u64, area: &mut [u8])
-    requires { Passes (is_setting number) × (rows_length (setting_of number) ≤ length area.old) }
-    ensures { RowsOf (setting_of number) area.new }
-{
-    let p = code::setting_of(number);
-    let n = p.n;
-    let powers = p.m + 1;
-    let count = p.k * powers;
-    let mut a: usize = 0;
-    while a < count {
-        lay_generator_row(number, a % powers, a / powers, a * n, area);
-        a += 1;
+impl Tables {
+    // The tables of the setting with a number.
+    pub fn new(number: SettingNumber) -> Tables
+        ensures { result.setting ≡ parameters_of number }
+    {
+        let setting = Setting::from(number);
+        let mut rows = [0u8; LONGEST_ROWS];
+        lay_rows(number, &mut rows);
+        Tables {
+            setting,
+            field: Field::new(setting.q),
+            rows,
+        }
+    }
+
+    // Symbol i of (the k information symbols at `from`) × G_j.
+    pub fn times_g(&self, information: &[u8], from: usize, j: usize, i: usize) -> u8
+        requires { Symbols self.now.setting.q information.now × (from + self.now.setting.k ≤ length information.now) × (j ≤ self.now.setting.m) × (i < self.now.setting.n) }
+        ensures { Is self.now.setting.q result (times_g (code_of self.now.setting) (λ a. get_or information.now (from + a) 0) j i) }
+    {
+        let p = self.setting;
+        let powers = p.m + 1;
+        let mut sum: u8 = 0;
+        for r in 0..p.k {
+            let row = (r * powers + j) * p.n;
+            sum = self
+                .field
+                .add_product(sum, information[from + r], self.rows[row + i]);
+        }
+        sum
+    }
+
+    // Symbol i of the level-l combination of the l + 1 information blocks.
+    pub fn combination(&self, information: &[u8], l: usize, i: usize) -> u8
+        requires { Symbols self.now.setting.q information.now × ((l + 1) * self.now.setting.k ≤ length information.now) × (l ≤ self.now.setting.m) × (i < self.now.setting.n) }
+        ensures { Is self.now.setting.q result (level.combination (code_of self.now.setting) l (view self.now.setting.k information.now) i) }
+    {
+        let k = self.setting.k;
+        let mut sum: u8 = 0;
+        for j in 0..l + 1 {
+            let part = self.times_g(information, (l - j) * k, j, i);
+            sum = self.field.add(sum, part);
+        }
+        sum
+    }
+
+    // Adds v × row r of G_0, .., G_m to the blocks of a window: what one information symbol contributes.
+    pub fn add_rows(&self, r: usize, v: u8, window: &mut [u8])
+        requires { (r < self.now.setting.k) × (v < self.now.setting.q) × (length window.old ≡ window_length self.now.setting) × Symbols self.now.setting.q window.old }
+        ensures { RowsAdded self.now.setting r v window.old window.new }
+    {
+        let size = (self.setting.m + 1) * self.setting.n;
+        let start = r * size;
+        let end = start + size;
+        multiples::add_multiple(&self.field, v, &self.rows[start..end], window);
     }
 }

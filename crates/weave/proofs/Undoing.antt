@@ -9,7 +9,7 @@ use lib.Seq.{take_at}
 use borrow.Author.Tests.{eq-eqb}
 use Rattle.field.specs.Symbols.{Symbols}
 use Rattle.code.specs.Settings.{setting_of}
-use Rattle.question.specs.declared.Answer.{Answer}
+use Rattle.question.specs.declared.answer.Answer.{Answer}
 use Rattle.question.specs.Questions.{answer, first_no, weaving_questions}
 use Rattle.question.proofs.Questions.{number_of, weaving_yes, weaving_again}
 use Rattle.weave.specs.Weaving.{woven, unwoven, CallUndone}

@@ -2,7 +2,7 @@
 -- Holds: `whole_frames` (the size of a frame); `length_transposed`, `transposed_symbol`, `transposed_twice`, `transposed_symbols`; `length_woven`,
 -- `length_unwoven`, `woven_place`, `undone`, `rewoven`; of a column `column_length`, `column_symbol`, `column_symbols`, `column_part` (it is a frame of the
 -- unwoven area), `column_one`; of the loops over its symbols and over the columns `column_of_symbols`, `column_size`, `column_room`,
--- `transposed_of_columns`; of the calls `Movable`, `movable`, `laid_refused`, `laid_moved`.
+-- `transposed_of_columns`; of the calls `Movable`, `movable`, `unwoven_columns`, `laid_moved`.
 use mathlib.Core.Path.{◌≡◌, sym, ap, ◌∙◌, subst}
 use mathlib.Core.List.{List, ◌++◌}
 use Prim.Native.Nat.{ℕ, ◌+◌, ◌*◌, ◌/◌, ◌%◌, ◌≤◌, ◌<◌}
@@ -11,14 +11,15 @@ use native.Mathlib.Omega.{arith}
 use lib.Arith.{digits_div, digits_mod, digits_lt}
 use lib.ListN.{length, get_or, take, drop}
 use lib.Seq.{length-take-le}
-use borrow.Author.Tests.{eq-eqb, ne_eqb}
 use Rattle.area.specs.Lists.{part_at}
 use Rattle.area.proofs.Lists.{length_tabulate, get_d_tabulate, tabulated, place_in_blocks, blocks_hold, equal_blocks}
 use Rattle.area.proofs.Parts.{parts_apart, length_part_at, part_at_symbol}
 use Rattle.field.specs.Symbols.{Symbols}
-use Rattle.question.specs.declared.Answer.{Answer}
-use Rattle.question.specs.Questions.{first_no, weaving_questions}
-use Rattle.question.proofs.Questions.{number_of, weaving_yes}
+use Rattle.code.specs.parts.SettingNumbers.{parameters_of}
+use Rattle.question.specs.declared.shape.WovenShape.{WovenShape}
+use Rattle.question.specs.Questions.{answer, first_no, weaving_questions}
+use Rattle.question.specs.parts.Shapes.{WovenOf}
+use Rattle.question.proofs.Shapes.{reception_long, weaving_known}
 use Rattle.weave.specs.Weaving.{transposed, woven, unwoven, WovenPlace, Undone, Rewoven, Laid}
 use Rattle.weave.specs.parts.Columns.{column_of}
 
@@ -156,28 +157,35 @@ module _ (rows columns : ℕ) (area : List ℕ) (same : length area ≡ rows * c
       sym (part_at_symbol rows c area i hi)
       ∙ (ap (λ (t : List ℕ). get_or t i 0) (parts c hc) ∙ (column_symbol columns c l i inside ∙ sym (transposed_symbol rows columns l c i hc hi))))
 
--- What the calls know when every answer was "yes": frames of one size, and room for all of them.
-pub record Movable (D : ℕ) (incoming before : List ℕ) : Type 0 where
-  pub some : 1 ≤ D
-  pub whole : length incoming ≡ D * (length incoming / D)
-  pub room : length incoming ≤ length before
-  pub front : length (take (length incoming) before) ≡ length incoming
+-- What the calls know when every answer was "yes", of the shape w that the questions found and the length of one of its frames: the sizes are those of the
+-- incoming symbols, and there is room for all of them.
+pub record Movable (D : ℕ) (incoming before : List ℕ) (w : WovenShape) (size : ℕ) : Type 0 where
+  pub frames : w.frames ≡ D
+  pub size_is : size ≡ length incoming / D
+  pub whole : length incoming ≡ w.frames * size
+  pub front : length (take (length incoming) before) ≡ w.frames * size
 
--- The calls: refused, the area as it was; or the symbols laid in front of what the area held.
-module _ (number D : ℕ) (incoming before : List ℕ) (r : Answer) (e : r ≡ first_no (weaving_questions number D incoming (length before))) where
-  pub movable : r.number ≡ 0 → Movable D incoming before
-  movable h =
-      let yes = weaving_yes number D incoming (length before) (number_of e h) in
+-- Unweaving lays the columns of the woven symbols.
+pub unwoven_columns : {D size : ℕ} {incoming before front : List ℕ} {w : WovenShape} → Movable D incoming before w size
+    → front ≡ transposed size w.frames incoming → front ≡ unwoven D incoming
+unwoven_columns {D} {size} {incoming} known e =
+    e ∙ (ap (λ (t : ℕ). transposed size t incoming) known.frames ∙ ap (λ (t : ℕ). transposed t D incoming) known.size_is)
+
+-- The calls: the symbols laid in front of what the area held.
+module _ {number D : ℕ} {incoming before : List ℕ} where
+  pub movable : {w : WovenShape} {size : ℕ} → WovenOf number D (length incoming) w
+      → answer 0 0 0 ≡ first_no (weaving_questions number D incoming (length before))
+      → size ≡ (w.frame.blocks + (parameters_of w.frame.setting).m) * (parameters_of w.frame.setting).n → Movable D incoming before w size
+  movable {w} {size} r asked s =
+      let known = weaving_known incoming (length before) r asked in
+      let whole : length incoming ≡ w.frames * size = known.0.long ∙ ap (λ (t : ℕ). w.frames * t) (sym s) in
       record {
-        some = omega (arith, yes.0.least);
-        whole = yes.0.whole;
-        room = yes.1.1;
-        front = length-take-le (length incoming) before yes.1.1;
+        frames = r.count;
+        size_is = s ∙ sym (reception_long r.frame);
+        whole = whole;
+        front = length-take-le (length incoming) before known.1 ∙ whole;
       }
 
-  module _ (laid : List ℕ) where
-    pub laid_refused : (r.number ≡ 0 → ⊥) → Laid number D incoming laid before r before
-    laid_refused h = record { answered = e; area = simp (ne_eqb r.number 0 h) }
-
-    pub laid_moved : r.number ≡ 0 → {front : List ℕ} → front ≡ laid → Laid number D incoming laid before r (front ++ drop (length incoming) before)
-    laid_moved h f = record { answered = e; area = simp (f, eq-eqb r.number 0 h) }
+  pub laid_moved : {laid front : List ℕ} → answer 0 0 0 ≡ first_no (weaving_questions number D incoming (length before)) → front ≡ laid
+      → Laid number D incoming laid before (answer 0 0 0) (front ++ drop (length incoming) before)
+  laid_moved a f = record { answered = a; area = ap (λ (l : List ℕ). l ++ drop (length incoming) before) f }

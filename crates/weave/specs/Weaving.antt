@@ -4,7 +4,7 @@
 use Rattle.std.specs.Prelude.{◌≡◌, refl, List, [], ◌∷◌, ◌++◌, ℕ, ◌+◌, ◌*◌, ◌/◌, ◌%◌, ◌≤◌, ◌<◌, eqb, length, get_or, take, drop}
 use Rattle.algebra.specs.Ops.{pick}
 use Rattle.area.specs.Lists.{tabulate}
-use Rattle.question.specs.declared.Answer.{Answer}
+use Rattle.question.specs.declared.answer.Answer.{Answer}
 use Rattle.question.specs.Questions.{answer, first_no, weaving_questions}
 
 -- Rows of `columns` symbols, one after another, taken column by column: symbol i of row f goes to i × rows + f.

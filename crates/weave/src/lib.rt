@@ -1,22 +1,20 @@
-// Frames woven against bursts (02, #104): symbol i of frame f of D goes to i × D + f.
+// Frames woven against bursts (02, #104): symbol i of frame f of D goes to i × D + f. The calls take any numbers for the setting and D: the questions are asked here.
 #![tactic(auto)]
 
 ghost use Rattle.std.specs.Prelude.{◌≡◌, ◌*◌, ◌<◌, length};
+ghost use Rattle.question.specs.Refusals.{asked};
 ghost use Rattle.weave.specs.Weaving.{transposed, woven, unwoven, Laid};
 ghost use Rattle.weave.specs.parts.Columns.{column_of};
 
-use question::Answer;
+use question::refusal::Refusal;
 
 // Column c of rows of `columns` symbols, a symbol of each row. Of a woven area: frame c.
 pub fn take_column(columns: usize, c: usize, rows: &[u8], out: &mut [u8])
     requires { (c < columns) × (length rows.now ≡ length out.old * columns) }
     ensures { out.new ≡ column_of columns c rows.now }
 {
-    let mut i: usize = 0;
-    while i < out.len() {
-        let symbol = rows[i * columns + c];
-        out[i] = symbol;
-        i += 1;
+    for (i, symbol) in out.iter_mut().enumerate() {
+        *symbol = rows[i * columns + c];
     }
 }
 
@@ -25,41 +23,30 @@ fn transpose(rows: usize, columns: usize, incoming: &[u8], out: &mut [u8])
     requires { (length incoming.now ≡ rows * columns) × (length out.old ≡ rows * columns) }
     ensures { out.new ≡ transposed rows columns incoming.now }
 {
-    let mut c: usize = 0;
-    while c < columns {
+    // By index: after `chunks_exact_mut` a proof knows the length of the area and none of its symbols.
+    for c in 0..columns {
         let start = c * rows;
-        let end = start + rows;
-        take_column(columns, c, incoming, &mut out[start..end]);
-        c += 1;
+        take_column(columns, c, incoming, &mut out[start..start + rows]);
     }
 }
 
-// Weaves frames that come one after another: the answer to questions 1, 14, 15, 2, 3, 4 and 6, and the woven symbols at the front of the out area.
-pub fn weave(setting: u64, frames: u64, incoming: &[u8], out: &mut [u8]) -> Answer
-    ensures { Laid setting frames incoming.now (woven frames incoming.now) out.old result out.new }
+// Weaves frames that come one after another: refused by one of questions 1, 14, 15, 2, 3, 4 and 6, or the woven symbols at the front of the out area.
+pub fn weave(number: u64, frames: u64, incoming: &[u8], out: &mut [u8]) -> Result<(), Refusal>
+    ensures { Laid number frames incoming.now (woven frames incoming.now) out.old (asked result) out.new }
 {
-    let answer = question::weaving_questions(setting, frames, incoming, out.len());
-    if answer.number != 0 {
-        return answer;
-    }
-    let long = incoming.len();
-    let count = frames as usize;
-    let size = long / count;
-    transpose(count, size, incoming, &mut out[..long]);
-    answer
+    let shape = question::weaving_questions(number, frames, incoming, out.len())?;
+    let size = shape.frame.transmission_length();
+    transpose(shape.frames, size, incoming, &mut out[..incoming.len()]);
+    Ok(())
 }
 
-// Unweaves: the same answer, and the frames one after another at the front of the out area.
-pub fn unweave(setting: u64, frames: u64, incoming: &[u8], out: &mut [u8]) -> Answer
-    ensures { Laid setting frames incoming.now (unwoven frames incoming.now) out.old result out.new }
+// Unweaves: refused by the same questions, or the frames one after another at the front of the out area. It differs from `weave` only in which size is the
+// rows', so that one function for both would take a switch for that, and say less.
+pub fn unweave(number: u64, frames: u64, incoming: &[u8], out: &mut [u8]) -> Result<(), Refusal>
+    ensures { Laid number frames incoming.now (unwoven frames incoming.now) out.old (asked result) out.new }
 {
-    let answer = question::weaving_questions(setting, frames, incoming, out.len());
-    if answer.number != 0 {
-        return answer;
-    }
-    let long = incoming.len();
-    let count = frames as usize;
-    let size = long / count;
-    transpose(size, count, incoming, &mut out[..long]);
-    answer
+    let shape = question::weaving_questions(number, frames, incoming, out.len())?;
+    let size = shape.frame.transmission_length();
+    transpose(size, shape.frames, incoming, &mut out[..incoming.len()]);
+    Ok(())
 }

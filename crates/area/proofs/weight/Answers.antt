@@ -1,39 +1,23 @@
--- `area::weight`: the weight of the first `from` symbols; each part adds its own.
-use mathlib.Core.Path.{◌≡◌, ap₂, ◌∙◌}
-use mathlib.Core.Bool.{not}
-use mathlib.Core.List.{List}
-use Prim.Native.Nat.{ℕ, ◌+◌, ◌-◌, ◌≤◌}
-use native.Mathlib.Omega.{arith}
-use lib.Dec.{eqb}
-use lib.ListN.{length, get_or, take, drop}
-use Rattle.algebra.proofs.Weights.{total_none, count_of_le}
-use Rattle.area.specs.parts.Weights.{weight_to, weight_of}
-use Rattle.area.proofs.Parts.{part_weight}
+-- `area::weight`: the parts' weights add up to the weight.
+use Rattle.std.proofs.Common.{rules, ◌∙◌, arith}
+use Rattle.std.proofs.lemmas.Iterator.{YieldsList-from_map}
+use Rattle.std.proofs.lemmas.Iterator.Consumers.{YieldsList-at, sum_from_yields_List, fits_from_yields_list}
+use Rattle.area.specs.parts.Weights.{weight_of}
+use Rattle.area.proofs.Weights.{weight_le, chunks_give, parts_weigh}
 use Rattle.area.proofs.weight.Goals as goal
 
--- One part more counted.
-counted : (symbols : List ℕ) (from part count more : ℕ) → from + part ≤ length symbols → count ≡ weight_to symbols from
-    → more ≡ weight_of (take (from + part - from) (drop from symbols)) → count + more ≡ weight_to symbols (from + part)
-counted symbols from part count more inside e m = ap₂ ◌+◌ e m ∙ part_weight part from symbols inside
-
-pub loop-from-init : goal.loop-from-init
-loop-from-init c = (omega arith, total_none _)
-
-pub overflow_add-count : goal.overflow_add-count
-overflow_add-count c =
+pub sum-requires-clause-fits : goal.sum-requires-clause-fits
+sum-requires-clause-fits c =
     let symbols = c.args.symbols.now in
-    let l = c.loop-from in
-    let to = l.from + c.smaller.result in
-    let inside : to ≤ length symbols = omega (arith, c.smaller.ensures) in
-    omega (
-      arith,
-      counted symbols l.from _ _ _ inside l.invariant.1 (c.wide-count.ensures ∙ c.short_weight.ensures),
-      count_of_le to (λ i. not (eqb (get_or symbols i 0) 0)),
-    )
+    fits_from_yields_list _ _
+    (YieldsList-from_map _ weight_of (YieldsList-at c.map.ensures.source (chunks_give 255 symbols (omega arith) c.chunks.ensures.rest c.chunks.ensures.size))
+    c.map.ensures.closure (λ x r q k. search rules))
+    (omega (arith, parts_weigh 255 symbols (omega arith), weight_le symbols))
 
-pub loop-from-preserved : goal.loop-from-preserved
-loop-from-preserved c =
+pub returns : goal.returns
+returns c =
     let symbols = c.args.symbols.now in
-    let l = c.loop-from in
-    let inside : l.from + c.smaller.result ≤ length symbols = omega (arith, c.smaller.ensures) in
-    (inside, counted symbols l.from _ _ _ inside l.invariant.1 (c.wide-count.ensures ∙ c.short_weight.ensures))
+    sum_from_yields_List _ _ c.sum.ensures.ran
+    (YieldsList-from_map _ weight_of (YieldsList-at c.map.ensures.source (chunks_give 255 symbols (omega arith) c.chunks.ensures.rest c.chunks.ensures.size))
+    c.map.ensures.closure (λ x r q k. search rules))
+    ∙ parts_weigh 255 symbols (omega arith)

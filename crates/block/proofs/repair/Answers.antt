@@ -1,46 +1,42 @@
 -- `block::repair` meets its contract: what its parts promise gives the two answers.
-use mathlib.Core.Path.{◌∙◌}
+use mathlib.Core.Path.{◌≡◌}
+use mathlib.Core.List.{List}
+use Prim.Native.Nat.{ℕ, ◌+◌, ◌*◌, ◌≤◌}
 use native.Mathlib.Omega.{arith}
-use Rattle.code.proofs.Settings.{sizes, level_fits}
-use Rattle.block.proofs.BlockAreas.{block_areas_kept}
+use lib.ListN.{length}
+use Rattle.code.proofs.Settings.{level_fits}
+use Rattle.tables.specs.declared.Tables.{Tables}
 use Rattle.block.proofs.Step.{step_long, step_clean, step_near, step_far}
 use Rattle.block.proofs.repair.Goals as goal
 
-pub overflow_mul-start : goal.overflow_mul-start
-overflow_mul-start c =
-    let located = c.begin-start.ensures.located.pair.located in
-    omega (arith, located.grown, located.placed, (sizes c.args.p c.requires.0.sound).symbols_most)
+-- The information blocks of a level have room in their area.
+blocks_fit : (t : Tables) (l : ℕ) → l ≤ t.setting.m → (information : List ℕ) → length information ≡ 16 → (l + 1) * t.setting.k ≤ length information
+blocks_fit t l h information long = omega (arith, long, level_fits _ t.ready.sound l h, t.narrow.block)
 
-pub returns-then-distance-start : goal.returns-then-distance-start
-returns-then-distance-start c = step_long c.requires.0.sound c.requires.3 c.requires.1 c.requires.2 c.begin-start.ensures (omega arith)
+pub returns-then-distance-degree : goal.returns-then-distance-degree
+returns-then-distance-degree c =
+    let p = c.requires in
+    step_long c.args.tables.now.ready.sound p.2 p.0 p.1 c.begin-start.ensures (omega arith)
 
-pub read_candidate-requires : goal.read_candidate-requires
-read_candidate-requires c = (
-  c.requires.0,
-  c.requires.2,
-  c.requires.3,
-  block_areas_kept c.requires.4 c.begin-start.auto.series c.begin-start.auto.locator c.begin-start.auto.former c.begin-start.auto.spare,
-  c.begin-start.ensures,
-)
-
-pub returns-then-start-eq0 : goal.returns-then-start-eq0
-returns-then-start-eq0 c =
-    step_clean c.requires.0.sound c.requires.3 c.requires.1 c.requires.2 c.begin-start.ensures
-    c.read_candidate.ensures c.if-start-eq0.true
-
-pub cost-cost-requires : goal.cost-cost-requires
-cost-cost-requires c =
-    let fits = level_fits c.args.p c.requires.0.sound c.args.l c.requires.3 in
-    let long = c.read_candidate.auto.information
-    ∙ (c.begin-start.auto.spare ∙ c.requires.4.information_long) in
-    (c.requires.0, c.read_candidate.ensures.reads.below, omega (arith, fits, long), c.requires.3, c.requires.1)
+pub returns-then-degree-eq0 : goal.returns-then-degree-eq0
+returns-then-degree-eq0 c =
+    let p = c.requires in
+    let t = c.args.tables.now in
+    let room = blocks_fit t c.args.l p.2 c.read_candidate-information.result (omega (arith, c.read_candidate-information.type_inv)) in
+    step_clean c.args.tables.now.ready.sound p.2 p.0 p.1 c.begin-start.ensures c.read_candidate-information.ensures room c.if-degree-eq0.true
 
 pub returns-then-cost-distance : goal.returns-then-cost-distance
 returns-then-cost-distance c =
-    step_near c.requires.0.sound c.requires.3 c.requires.1 c.requires.2 c.begin-start.ensures
-    c.read_candidate.ensures c.level_distance-distance.ensures c.cost-cost.ensures (omega arith)
+    let p = c.requires in
+    let t = c.args.tables.now in
+    let room = blocks_fit t c.args.l p.2 c.read_candidate-information.result (omega (arith, c.read_candidate-information.type_inv)) in
+    step_near c.args.tables.now.ready.sound p.2 p.0 p.1 c.begin-start.ensures
+    c.read_candidate-information.ensures room c.level_distance-distance.ensures c.cost-cost.ensures (omega arith)
 
 pub returns : goal.returns
 returns c =
-    step_far c.requires.0.sound c.requires.3 c.requires.1 c.requires.2 c.begin-start.ensures
-    c.read_candidate.ensures c.level_distance-distance.ensures c.cost-cost.ensures (omega arith)
+    let p = c.requires in
+    let t = c.args.tables.now in
+    let room = blocks_fit t c.args.l p.2 c.read_candidate-information.result (omega (arith, c.read_candidate-information.type_inv)) in
+    step_far c.args.tables.now.ready.sound p.2 p.0 p.1 c.begin-start.ensures
+    c.read_candidate-information.ensures room c.level_distance-distance.ensures c.cost-cost.ensures (omega arith)

@@ -1,8 +1,9 @@
--- The locator in areas: what the functions that make it promise, as records over the areas they write.
--- Holds: `UnitSeries`, `Multiple`, `LocatorPair`, `LocatorFound`.
-use Rattle.std.specs.Prelude.{◌≡◌, List, ℕ, ◌-◌, ◌<◌}
+-- The locator in areas: what the functions that make it promise.
+-- Holds: `UnitSeries`, `Multiple`, `LocatorPair`, `Locates`.
+use Rattle.std.specs.Prelude.{◌≡◌, List, ℕ, ◌<◌}
 use Rattle.field.specs.Fields.{ops_of}
 use Rattle.field.specs.parts.Sequences.{AllBelow, at}
+use Rattle.block.specs.declared.locator.Locator.{Locator}
 use Rattle.block.specs.parts.Locator.{Subtracted, Located}
 
 -- The series 1, 0, 0, ..
@@ -22,8 +23,6 @@ pub record LocatorPair (q : ℕ) (series : List ℕ) (s L place scale : ℕ) (lo
   pub scale_below : scale < q
   pub located : Located (ops_of q) (at series) s L place scale (at locator) (at former)
 
--- A locator of this degree was found for the first `known` terms of the series, beside the former one.
-pub record LocatorFound (q : ℕ) (series : List ℕ) (known L : ℕ) (locator former : List ℕ) : Type 0 where
-  pub place : ℕ
-  pub scale : ℕ
-  pub pair : LocatorPair q series (known - 1) L place scale locator former
+-- The same of a locator as the code has it.
+abbrev pub Locates : ℕ → List ℕ → ℕ → Locator → Type 0
+Locates q series s σ = LocatorPair q series s σ.degree σ.place σ.scale σ.coefficients σ.former

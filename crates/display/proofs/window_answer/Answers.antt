@@ -2,4 +2,4 @@
 use Rattle.display.proofs.window_answer.Goals as goal
 
 pub returns : goal.returns
-returns c = c.display_questions.ensures
+returns c = c.in_ok-display_questions.ensures.answer

@@ -7,14 +7,14 @@ use Rattle.field.specs.Fields.{five, eight, sixteen, ops_of}
 use Rattle.field.proofs.ByExponents.{lists_by_tests}
 use Rattle.field.proofs.products.Goals as goal
 
-pub products_from-requires : goal.products_from-requires
+pub invariant_of-table : goal.invariant_of-table
 unfolding all ops_of five modular
-products_from-requires c = lists_by_tests _ _ _ tt refl refl tt tt tt
+invariant_of-table c = let l = lists_by_tests _ _ _ tt refl refl tt tt tt in record { good = l.0; lists = l.1 }
 
-pub products_from-requires-then-q-eq8 : goal.products_from-requires-then-q-eq8
+pub invariant_of-table-then-q-eq8 : goal.invariant_of-table-then-q-eq8
 unfolding all ops_of eight binary times_bits times_alpha
-products_from-requires-then-q-eq8 c = lists_by_tests _ _ _ tt refl refl tt tt tt
+invariant_of-table-then-q-eq8 c = let l = lists_by_tests _ _ _ tt refl refl tt tt tt in record { good = l.0; lists = l.1 }
 
-pub products_from-requires-2 : goal.products_from-requires-2
+pub invariant_of-table-2 : goal.invariant_of-table-2
 unfolding all ops_of sixteen binary times_bits times_alpha
-products_from-requires-2 c = lists_by_tests _ _ _ tt refl refl tt tt tt
+invariant_of-table-2 c = let l = lists_by_tests _ _ _ tt refl refl tt tt tt in record { good = l.0; lists = l.1 }

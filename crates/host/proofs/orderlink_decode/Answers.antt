@@ -2,4 +2,4 @@
 use Rattle.host.proofs.orderlink_decode.Goals as goal
 
 pub returns : goal.returns
-returns c = c.decode.ensures
+returns c = rw c.from.ensures c.decode.ensures

@@ -2,4 +2,4 @@
 use Rattle.host.proofs.orderlink_marks.Goals as goal
 
 pub returns : goal.returns
-returns c = c.marks.ensures
+returns c = rw c.from.ensures c.marks.ensures

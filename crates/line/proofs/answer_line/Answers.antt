@@ -1,36 +1,73 @@
 -- `line::answer_line`: a line that holds no frame, no room for its frame, or what decoding the frame says.
-use mathlib.Core.Path.{◌≡◌, sym, ◌∙◌}
-use mathlib.Core.Bool.{true}
+use mathlib.Core.Path.{◌≡◌, refl, sym, ap, ap₂, subst, ◌∙◌}
 use mathlib.Core.List.{List}
-use Prim.Native.Nat.{ℕ}
+use Prim.Native.Nat.{ℕ, ◌≤◌}
 use native.Mathlib.Omega.{arith}
-use lib.ListN.{length}
-use Rattle.question.specs.declared.Answer.{Answer}
-use Rattle.question.proofs.Questions.{number_of}
-use Rattle.line.specs.Questions.{HoldsFrame}
-use Rattle.line.specs.Answering.{Answers, output_line, message_in, LineAreas, room_in, FrameLeft, decoded}
-use Rattle.line.specs.parts.Writing.{Written}
-use Rattle.line.proofs.Frames.{room_is, frame_answered}
+use lib.ListN.{length, take, length-take}
+use Rattle.field.specs.Symbols.{Symbols}
+use Rattle.question.proofs.Shapes.{refusal_numbered}
+use Rattle.line.specs.Questions.{setting_in, blocks_in}
+use Rattle.line.specs.Answering.{Answers, success, Shown, message_length, message_in, decoded}
+use Rattle.line.proofs.Frames.{refusal_line, shape_message, shape_most, frame_said}
 use Rattle.line.proofs.answer_line.Goals as goal
+use Rattle.line.proofs.answer_line.Goals.{After-message_length}
 
--- A frame for which there was room is decoded: its answer is the line's, and its message can be written.
-frame_said : {line : List ℕ} {w w' : LineAreas} {r : Answer} → HoldsFrame line → room_in line w ≡ true → FrameLeft line w r w'
-    → length w'.message ≡ length w.message → Answers line (output_line line r (message_in line w'.message)) × Written line r w'.message
-frame_said {line} {w} {w'} {r} holds room left same =
-    let enough = room_is line (length w.reception) (length w.message) (length w.transmission) room in
-    let said = frame_answered line holds w.message w.transmission r w'.message w'.transmission enough.2 enough.1 left.decoded in
-    (said.0, record { room = omega (arith, enough.2, same); symbols = said.1 })
+-- The frame was decoded, and its message is that of the line.
+message_long : (c : After-message_length) → c.message_length.result ≡ message_length c.args.line.now
+message_long c = c.message_length.ensures ∙ shape_message c.in-Ok.ensures.shape
 
-pub write_answer-requires : goal.write_answer-requires
-write_answer-requires c =
-    let holds = number_of c.first_questions-asked.ensures c.if-asked-ne0.false in
-    let room = sym c.has_room.ensures ∙ c.if-not-has_room.false in
-    (holds, (frame_said holds room c.decode_line-answer.ensures c.decode_line-answer.auto.message).1)
+message_said : (c : After-message_length)
+    → Answers c.args.line.now
+    (success c.in-Ok-decode_line.altered (setting_in c.args.line.now) (blocks_in c.args.line.now) (message_in c.args.line.now c.decode_line.new.message))
+    × (message_length c.args.line.now ≤ length c.decode_line.new.message)
+    × (◌≡◌ {A = ℕ} 0 0 → Symbols 16 (message_in c.args.line.now c.decode_line.new.message))
+message_said c =
+    let frame = c.in-Ok.ensures.shape in
+    let room = sym (c.has_room.ensures c.args.line.now frame) ∙ c.if-not-has_room.false in
+    frame_said frame.holds room c.in-Ok-decode_line.ensures c.decode_line.auto.message
 
-pub returns : goal.returns
-returns c =
-    let holds = number_of c.first_questions-asked.ensures c.if-asked-ne0.false in
-    let room = sym c.has_room.ensures ∙ c.if-not-has_room.false in
-    let said = frame_said holds room c.decode_line-answer.ensures c.decode_line-answer.auto.message in
-    decoded holds room c.decode_line-answer.result c.decode_line-answer.ensures
-    (record { text = _; answers = said.0; shown = c.write_answer.ensures })
+pub returns-in-Err-decode_line : goal.returns-in-Err-decode_line
+returns-in-Err-decode_line c =
+    let line = c.args.line.now in
+    let frame = c.in-Ok.ensures.shape in
+    let room = sym (c.has_room.ensures line frame) ∙ c.if-not-has_room.false in
+    let found = frame_said frame.holds room c.in-Err-decode_line.ensures c.decode_line.auto.message in
+    decoded frame.holds room _ c.in-Err-decode_line.ensures
+    (record {
+      text = _;
+      answers = subst (Answers line) (refusal_line line _ _ (refusal_numbered c.in-Err-decode_line.refusal)) found.0;
+      shown = c.write_refusal-in-Err-decode_line.ensures;
+    })
+
+pub slice_bounds-write_success-end : goal.slice_bounds-write_success-end
+slice_bounds-write_success-end c = omega (arith, message_long c, (message_said c).1)
+
+pub slice_bounds-write_success-end-in-Ok-decode_line : goal.slice_bounds-write_success-end-in-Ok-decode_line
+slice_bounds-write_success-end-in-Ok-decode_line c =
+    omega (arith, message_long c, (message_said c).1, length-take c.message_length.result c.decode_line.new.message)
+
+pub write_success-requires : goal.write_success-requires
+write_success-requires c =
+    let found = (goal.at.write_success-requires c).After-message_length in
+    let message = c.decode_line.new.message in (
+      subst (λ (t : ℕ). Symbols 16 (take t message)) (sym (message_long found)) ((message_said found).2 refl),
+      omega (arith, message_long found, shape_most c.in-Ok.ensures.shape, length-take c.message_length.result message),
+    )
+
+pub returns-in-Ok-decode_line : goal.returns-in-Ok-decode_line
+returns-in-Ok-decode_line c =
+    let found = (goal.at.returns-in-Ok-decode_line c).After-message_length in
+    let line = c.args.line.now in
+    let message = c.decode_line.new.message in
+    let altered = c.in-Ok-decode_line.altered in
+    let frame = c.in-Ok.ensures.shape in
+    let room = sym (c.has_room.ensures line frame) ∙ c.if-not-has_room.false in
+    let text =
+    ap₂ (λ (number T : ℕ). success altered number T (take c.message_length.result message)) frame.head.setting frame.head.blocks
+    ∙ ap (λ (t : ℕ). success altered (setting_in line) (blocks_in line) (take t message)) (message_long found) in
+    decoded frame.holds room _ c.in-Ok-decode_line.ensures
+    (record {
+      text = _;
+      answers = (message_said found).0;
+      shown = subst (λ (t : List ℕ). Shown t c.args.output.now c.write_success.result c.write_success.new.output) text c.write_success.ensures;
+    })

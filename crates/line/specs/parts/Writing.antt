@@ -1,9 +1,6 @@
--- What the functions that write an answer promise and ask of one another. Holds: `Placed`, `WrittenBehind`, `Written`.
+-- What the functions that write an answer promise and ask of one another. Holds: `Placed`, `WrittenBehind`.
 use Rattle.std.specs.Prelude.{◌≡◌, List, ◌++◌, ℕ, ◌≤◌, length}
 use Rattle.area.specs.Lists.{overwritten}
-use Rattle.field.specs.Symbols.{Symbols}
-use Rattle.question.specs.declared.Answer.{Answer}
-use Rattle.line.specs.Answering.{message_length, message_in}
 
 -- A text at the front of an area, and then what the area held before.
 pub record Placed (text before after : List ℕ) : Type 0 where
@@ -14,8 +11,3 @@ pub record Placed (text before after : List ℕ) : Type 0 where
 pub record WrittenBehind (from : ℕ) (part before after : List ℕ) : Type 0 where
   pub long : length after ≡ length before
   pub behind : {done start : List ℕ} → length done ≡ from → Placed done start before → Placed (done ++ part) start after
-
--- What writing an answer needs: the message that was found.
-pub record Written (line : List ℕ) (a : Answer) (area : List ℕ) : Type 0 where
-  pub room : message_length line ≤ length area
-  pub symbols : a.number ≡ 0 → Symbols 16 (message_in line area)

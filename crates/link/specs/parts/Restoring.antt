@@ -4,7 +4,7 @@ use Rattle.algebra.specs.Ops.{sub}
 use Rattle.area.specs.parts.Weights.{weight_to}
 use Rattle.field.specs.Fields.{ops_of}
 use Rattle.code.specs.declared.Setting.{Setting}
-use Rattle.question.specs.declared.Answer.{Answer}
+use Rattle.question.specs.declared.answer.Answer.{Answer}
 use Rattle.question.specs.Questions.{answer}
 use Rattle.frame.specs.parts.Frame.{NoneFits, FrameRead}
 

@@ -1,18 +1,9 @@
--- What the encoder's inner functions require of each other. Holds: `Sending`, `SentTo`.
+-- What the encoder's inner functions require of each other. Holds: `SentTo`.
 use Rattle.std.specs.Prelude.{◌≡◌, List, ℕ, ◌≤◌, ◌<◌, get_or}
-use Rattle.field.specs.parts.Products.{Products}
 use Rattle.code.specs.declared.Setting.{Setting}
-use Rattle.code.specs.Windows.{transmission, Message}
+use Rattle.code.specs.Windows.{transmission}
 use Rattle.code.specs.parts.Residual.{IsResidual}
-use Rattle.tables.specs.parts.Rows.{Ready}
-use Rattle.question.specs.Questions.{most_blocks}
 use Rattle.frame.specs.parts.Frame.{FrameAreas}
-
--- A message of T blocks, and the tables of its setting.
-pub record Sending (p : Setting) (products : Products) (rows message : List ℕ) (T : ℕ) : Type 0 where
-  pub ready : Ready p products rows
-  pub message_of : Message p T message
-  pub most : T ≤ most_blocks
 
 -- The message's first `count` symbols were sent: the area holds its transmission less that of the rest, the message with zeros in their places.
 pub record SentTo (p : Setting) (T : ℕ) (message : List ℕ) (count : ℕ) (area : List ℕ) : Type 0 where

@@ -2,7 +2,7 @@
 use Rattle.std.specs.Prelude.{◌≡◌, List, ℕ, ◌+◌, ◌*◌, ◌≤◌, ◌<◌, get_or, drop}
 use Rattle.area.specs.Lists.{part_at}
 use Rattle.code.specs.declared.Setting.{Setting}
-use Rattle.question.specs.declared.Answer.{Answer}
+use Rattle.question.specs.declared.answer.Answer.{Answer}
 use Rattle.question.specs.Questions.{answer}
 use Rattle.weave.specs.parts.Columns.{column_of}
 use Rattle.link.specs.declared.woven.WovenAnswer.{WovenAnswer}

@@ -1,10 +1,14 @@
 -- `question::decoding_questions` asks 1 to 3, then 4, 5 and 6.
-use native.Mathlib.Omega.{arith}
-use lib.ListN.{length}
-use Rattle.question.proofs.Questions.{frame_yes, frame_of_setting}
+use mathlib.Core.Path.{◌∙◌}
+use Rattle.std.proofs.Common.{rules}
+use Rattle.question.specs.Questions.{area_questions}
+use Rattle.question.proofs.Shapes.{after_frame}
 use Rattle.question.proofs.decoding_questions.Goals as goal
 
-pub overflow_sub-blocks : goal.overflow_sub-blocks
-overflow_sub-blocks c =
-    let asked = frame_yes c.args.number (length c.args.reception.now) c.frame_questions-frame.ensures c.if-frame-ne0.false in
-    omega (arith, (frame_of_setting asked.frame c.setting_of-p.ensures).blocks)
+pub returns-in_err-area_questions-clause-answer : goal.returns-in_err-area_questions-clause-answer
+returns-in_err-area_questions-clause-answer c =
+    let a = c.args in
+    let e =
+    c.in_err-area_questions.ensures
+    ∙ after_frame (λ p T. area_questions p T a.reception.now a.message_room a.transmission_room) c.in_ok-shape.ensures.shape c.in_ok-shape.ensures.answer in
+    search rules

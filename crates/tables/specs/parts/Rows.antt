@@ -1,5 +1,5 @@
 -- The tables of a setting: the generator as 01 keeps it and its rows one after the other.
--- Holds: `generator_of`, `generator_row`, `rows_length`; the limits `longest_rows`, `longest_block`, `Narrow`; `RowsOf`, `Ready`.
+-- Holds: `generator_of`, `generator_row`, `rows_length`; the limits `longest_rows`, `longest_block`, `Narrow`; `LaidOut`, `RowsOf`, `Ready`.
 use Rattle.std.specs.Prelude.{◌≡◌, List, [], ℕ, ◌+◌, ◌*◌, ◌≤◌, ◌<◌, length, get_or}
 use Rattle.area.specs.Lists.{tabulate}
 use Rattle.field.specs.parts.Products.{Products, ProductsOf}
@@ -31,6 +31,11 @@ longest_block = largest (λ p. p.n) settings
 pub record Narrow (p : Setting) : Type 0 where
   pub rows : rows_length p ≤ longest_rows
   pub block : p.n ≤ longest_block
+
+-- The rows of a table of `powers` groups of k rows of n symbols stand one after the other at the front of an area: symbol i of row r of group j at
+-- (r × powers + j) × n + i.
+pub record LaidOut (n k powers : ℕ) (table : List (List (List ℕ))) (area : List ℕ) : Type 0 where
+  pub at : (j r i : ℕ) → j < powers → r < k → i < n → get_or area ((r * powers + j) * n + i) 0 ≡ get_or (get_or (get_or table j []) r []) i 0
 
 -- The rows stand one after the other at the front of an area, row r of G_0, .., G_m before row r + 1 of them: symbol i of row r of G_j at (r (m+1) + j) n + i.
 pub record RowsOf (p : Setting) (rows : List ℕ) : Type 0 where

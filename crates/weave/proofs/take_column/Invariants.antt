@@ -1,13 +1,8 @@
 -- `weave::take_column`: the first i symbols are those of the column.
 use mathlib.Core.Path.{◌≡◌}
-use Prim.Native.Nat.{ℕ, ◌+◌, ◌-◌, ◌*◌, ◌≤◌, ◌<◌}
-use lib.ListN.{length, get_or}
+use Prim.Native.Nat.{ℕ, ◌+◌, ◌*◌, ◌<◌}
+use lib.ListN.{get_or}
 use Rattle.weave.proofs.take_column.Given as goal
 
 abbrev pub invariant-loop-i : goal.invariant-loop-i
-invariant-loop-i l =
-    (l.i ≤ length l.initial.out) × (length l.out ≡ length l.initial.out)
-    × ((a : ℕ) → a < l.i → get_or l.out a 0 ≡ get_or l.rows (a * l.columns + l.c) 0)
-
-abbrev pub decreases-loop-i : goal.decreases-loop-i
-decreases-loop-i l = length l.initial.out - l.i
+invariant-loop-i l = (a : ℕ) → a < l.i → get_or l.out a 0 ≡ get_or l.rows (a * l.columns + l.c) 0

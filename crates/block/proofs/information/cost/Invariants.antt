@@ -1,5 +1,5 @@
 -- `block::information::cost` meets its contract. The loop's invariant: the cost is that of the first i symbols, which is no more than that of all.
-use Prim.Native.Nat.{ℕ, ◌-◌, ◌*◌, ◌≤◌}
+use Prim.Native.Nat.{ℕ, ◌*◌, ◌≤◌}
 use mathlib.Core.Path.{◌≡◌}
 use mathlib.Core.List.{List}
 use Rattle.algebra.specs.Weight.{total}
@@ -16,7 +16,4 @@ abbrev pub symbol : Setting → List ℕ → ℕ → List ℕ → ℕ → ℕ
 symbol p information l block i = symbol_cost p.q (at block i) (combination (code_of p) l (view p.k information) i)
 
 abbrev pub invariant-loop-i : goal.invariant-loop-i
-invariant-loop-i l = (l.i ≤ l.n) × (l.cost ≤ 2 * l.i) × (l.cost ≡ total l.i (symbol l.p l.information l.l l.block))
-
-abbrev pub decreases-loop-i : goal.decreases-loop-i
-decreases-loop-i l = l.n - l.i
+invariant-loop-i l = (l.cost ≤ 2 * l.i) × (l.cost ≡ total l.i (symbol l.tables.setting l.information l.l l.block))

@@ -1,13 +1,9 @@
--- `block::information::falling` meets its contract. The loop's invariant: the sum so far is that of e values.
-use Prim.Native.Nat.{◌≤◌, ◌-◌, ◌+◌}
+-- `block::information::falling` meets its contract. The loop's invariant: the sum so far is that of the values before the index.
 use Rattle.algebra.specs.parts.Values.{falling}
 use Rattle.field.specs.Fields.{ops_of}
 use Rattle.field.specs.parts.Operations.{Is}
 use Rattle.field.specs.parts.Sequences.{at}
 use Rattle.block.proofs.information.falling.Given as goal
 
-abbrev pub invariant-loop-e : goal.invariant-loop-e
-invariant-loop-e l = (l.e ≤ l.k) × Is l.q l.sum (falling (ops_of l.q) l.e (λ i. at l.values (l.from + i)) l.y)
-
-abbrev pub decreases-loop-e : goal.decreases-loop-e
-decreases-loop-e l = l.k - l.e
+abbrev pub invariant-loop-value : goal.invariant-loop-value
+invariant-loop-value l = Is l.field.q l.sum (falling (ops_of l.field.q) l.value-index (at l.values) l.y)

@@ -1,21 +1,23 @@
--- `block::information::read_block` meets its contract. The loop's invariant is the promise for the last j symbols, and the point is (1/α)^j.
-use mathlib.Core.Path.{refl}
+-- `block::information::read_block` meets its contract. The loop's invariant is the promise for the symbols from i on, and the point is (1/α)^(k - i).
+use mathlib.Core.Path.{◌≡◌, sym}
+use Prim.Native.Nat.{◌+◌, ◌-◌}
 use native.Mathlib.Omega.{arith}
-use lib.ListN.{length-set}
 use Rattle.block.proofs.InformationRead.{back_none, back_more, block_none, block_more}
 use Rattle.block.proofs.information.read_block.Goals as goal
 
-pub loop-j-init : goal.loop-j-init
-loop-j-init c = let p = c.requires in (omega arith, refl, back_none _ p.0.sound.good, block_none _ p.0.sound _ p.1 _ _ p.3)
-
-pub loop-j-preserved : goal.loop-j-preserved
-loop-j-preserved c =
+pub loop-i-init : goal.loop-i-init
+loop-i-init c =
     let p = c.requires in
-    let l = c.loop-j in
-    let point = back_more _ p.0.sound.good l.j _ _ _ p.5 l.invariant.2 c.multiply-point.ensures in (
-      omega arith,
-      simp length-set l.invariant.1,
-      point,
-      block_more _ p.0.sound _ p.1 _ l.j _ _ _ _ (omega (arith, l.invariant.1, p.4)) (omega arith)
-          l.invariant.3 point c.symbol-found.ensures,
-    )
+    let t = c.args.tables.now in
+    let none : t.setting.k - t.setting.k ≡ 0 = omega arith in
+    rw none (back_none _ t.ready.sound.good, block_none _ t.ready.sound _ p.0 _ p.2)
+
+pub loop-i-preserved : goal.loop-i-preserved
+loop-i-preserved c =
+    let p = c.requires in
+    let t = c.args.tables.now in
+    let l = c.loop-i in
+    let S = t.ready.sound in
+    let more : t.setting.k - l.i + 1 ≡ t.setting.k - (l.i - 1) = omega (arith, l.auto.i) in
+    let point = back_more _ S.good (t.setting.k - l.i) _ _ _ _ more p.4 l.invariant.0 (rw (sym t.same_field) at c.multiply-point.ensures) in
+    (point, block_more _ S _ p.0 _ (l.i - 1) _ _ _ (omega (arith, l.auto.information, p.3)) (omega (arith, l.auto.i)) more l.invariant.1 point c.symbol.ensures)

@@ -1,52 +1,30 @@
 -- `frame::guess::add_found`: block j is added, and then blocks after it are changed.
-use mathlib.Core.Path.{subst, ap, fun_ext}
-use Prim.Native.Nat.{ℕ, ◌+◌, ◌≤◌}
-use native.Mathlib.Nat.{mul-le-mul, mul-le-mul_right, zero-add}
+use mathlib.Core.Path.{◌≡◌}
+use Prim.Native.Nat.{◌+◌, ◌*◌, ◌≤◌}
 use native.Mathlib.Omega.{arith}
-use lib.ListN.{get_or}
-use Rattle.code.proofs.Settings.{sizes}
-use Rattle.frame.specs.parts.Frame.{Added}
-use Rattle.frame.proofs.Guesses.{revised_none, revised_then, added_then, blocks_few}
+use lib.ListN.{length}
+use lib.Seq.{get_or-take}
+use Rattle.area.proofs.Parts.{part_length}
+use Rattle.field.proofs.Symbols.{symbols_part}
+use Rattle.code.proofs.Settings.{level_fits}
+use Rattle.frame.proofs.Guesses.{revised_then, added_same, added_then}
 use Rattle.frame.proofs.guess.add_found.Goals as goal
-
-pub add_block-requires : goal.add_block-requires
-add_block-requires c =
-    let one : 1 ≤ c.args.p.m + 1 = omega arith in
-    (c.requires.0, c.requires.1, omega (arith, mul-le-mul_right c.args.p.k one, c.requires.3), c.requires.5)
-
-pub loop-a-init : goal.loop-a-init
-loop-a-init c = (omega arith, revised_none c.add_block.ensures.revised.areas)
-
-pub overflow_add-j : goal.overflow_add-j
-overflow_add-j c =
-    let a = c.args in
-    omega (arith, blocks_few a.p c.requires.0.sound a.blocks a.message.now a.residual.now c.requires.5, c.requires.2, c.requires.4)
-
-pub overflow_mul-a : goal.overflow_mul-a
-overflow_mul-a c =
-    let few : c.loop-a.a ≤ 256 = omega (arith, c.requires.2, (sizes c.args.p c.requires.0.sound).memory_most) in
-    omega (arith, mul-le-mul few (sizes c.args.p c.requires.0.sound).information_most)
 
 pub add_block-requires-in-loop-a : goal.add_block-requires-in-loop-a
 add_block-requires-in-loop-a c =
-    let top : c.loop-a.a + 1 ≤ c.args.p.m + 1 = omega (arith, c.requires.2) in
-    (c.requires.0, c.requires.1, omega (arith, mul-le-mul_right c.args.p.k top, c.requires.3), c.loop-a.invariant.1.areas)
-
-pub overflow_add-a : goal.overflow_add-a
-overflow_add-a c = omega (arith, c.requires.2, (sizes c.args.p c.requires.0.sound).memory_most)
+    let t = c.args.tables.now in
+    let p = t.setting in
+    let found = c.args.found.now in
+    let l = c.loop-a in
+    let long : length found.information ≡ 16 = omega (arith, c.type_inv.found) in
+    let low : l.a ≤ p.m = omega (arith, c.requires.1) in
+    let room : l.a * p.k + p.k ≤ length found.information = omega (arith, long, level_fits p t.ready.sound l.a low, t.narrow.block) in
+    (symbols_part p.q (l.a * p.k) (l.a * p.k + p.k) found.information c.requires.0, part_length p.k (l.a * p.k) found.information room, l.invariant.areas)
 
 pub loop-a-preserved : goal.loop-a-preserved
-loop-a-preserved c =
-    let l = c.loop-a in (
-      omega arith,
-      revised_then l.invariant.1 c.add_block-in-loop-a.ensures.revised (omega arith),
-    )
+loop-a-preserved c = revised_then c.loop-a.invariant c.add_block-in-loop-a.ensures.revised (omega arith)
 
 pub returns : goal.returns
 returns c =
-    let a = c.args in
-    let from_start = fun_ext (λ (r : ℕ). ap (λ (t : ℕ). get_or a.information.now t 0) (zero-add r)) in
-    added_then (subst (λ (x : ℕ → ℕ). Added a.p a.blocks a.j x a.message.now a.residual.now
-    c.add_block.new.message
-    c.add_block.new.residual) from_start c.add_block.ensures)
-    c.loop-a.invariant.1 (omega arith)
+    let k = c.args.tables.now.setting.k in
+    added_then (added_same c.add_block.ensures (λ r u. get_or-take k c.args.found.now.information r 0 u)) c.loop-a.invariant (omega arith)

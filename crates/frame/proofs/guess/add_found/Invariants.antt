@@ -1,10 +1,7 @@
 -- `frame::guess::add_found`: block j is added, and then blocks after it are changed.
-use Prim.Native.Nat.{◌+◌, ◌-◌, ◌≤◌}
+use Prim.Native.Nat.{◌+◌}
 use Rattle.frame.specs.parts.Frame.{Revised}
 use Rattle.frame.proofs.guess.add_found.Given as goal
 
 abbrev pub invariant-loop-a : goal.invariant-loop-a
-invariant-loop-a l = (1 ≤ l.a) × Revised l.p l.blocks (l.j + 1) l.initial.message l.initial.residual l.message l.residual
-
-abbrev pub decreases-loop-a : goal.decreases-loop-a
-decreases-loop-a l = l.found - l.a
+invariant-loop-a l = Revised l.tables.setting l.blocks (l.j + 1) l.initial.message l.initial.residual l.message l.residual

@@ -1,10 +1,6 @@
 -- `frame::guess::guess_from`: whatever is guessed, the residual stays that of the guess.
-use Prim.Native.Nat.{◌-◌, ◌≤◌}
 use Rattle.frame.specs.parts.Frame.{Revised}
 use Rattle.frame.proofs.guess.guess_from.Given as goal
 
 abbrev pub invariant-loop-turn : goal.invariant-loop-turn
-invariant-loop-turn l = (l.turn ≤ l.p.k) × Revised l.p l.blocks l.i l.initial.message l.initial.residual l.message l.residual
-
-abbrev pub decreases-loop-turn : goal.decreases-loop-turn
-decreases-loop-turn l = l.p.k - l.turn
+invariant-loop-turn l = Revised l.tables.setting l.blocks l.i l.initial.message l.initial.residual l.message l.residual

@@ -1,6 +1,5 @@
 -- `frame::reading::read`: the windows in turn, then the last comparison.
 use mathlib.Core.Path.{ap, ◌∙◌}
-use mathlib.Core.Bool.{not}
 use Prim.Native.Nat.{ℕ}
 use lib.ListN.{replicate}
 use Rattle.frame.specs.parts.Frame.{none}
@@ -11,25 +10,15 @@ use Rattle.frame.proofs.reading.read.Goals as goal
 
 pub read_windows-requires : goal.read_windows-requires
 read_windows-requires c =
-    let a = c.args in (
-      c.requires.0,
-      c.distances_to-bound.ensures,
-      settled_start a.p c.requires.0.sound a.blocks a.residual.now c.requires.4 c.requires.3 _
-          (c.clear.ensures ∙ ap (λ (t : ℕ). replicate t 0) c.requires.2),
-      c.requires.5,
-    )
+    let a = c.args in
+    let t = a.tables.now in
+    settled_start t.setting t.ready.sound a.blocks a.residual.now c.requires.3 c.requires.2 _
+    (c.fill.ensures.after (λ y e. e) ∙ ap (λ (t : ℕ). replicate t 0) c.requires.1)
 
-pub returns-then-not-read_windows : goal.returns-then-not-read_windows
-returns-then-not-read_windows c = none (stopped_none c.read_windows.ensures (ap not c.if-not-read_windows.true))
+pub returns-then-read_windows : goal.returns-then-read_windows
+returns-then-read_windows c =
+    frame_compared c.args.tables.now.ready.sound c.requires.3 c.requires.2 c.requires.0
+    (advance_more c.read_windows.ensures c.if-read_windows.true) c.compare_windows.ensures
 
-pub compare_windows-requires : goal.compare_windows-requires
-compare_windows-requires c = (
-  c.requires.0.sound,
-  c.distances_to-bound.ensures,
-  (advance_more c.read_windows.ensures (ap not c.if-not-read_windows.false)).areas.residual_long,
-)
-
-pub returns : goal.returns
-returns c =
-    frame_compared c.requires.0.sound c.requires.4 c.requires.3 c.requires.1
-    (advance_more c.read_windows.ensures (ap not c.if-not-read_windows.false)) c.compare_windows.ensures
+pub returns-else-read_windows : goal.returns-else-read_windows
+returns-else-read_windows c = rw c.if-read_windows.false (none (stopped_none c.read_windows.ensures c.if-read_windows.false))

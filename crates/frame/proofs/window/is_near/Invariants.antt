@@ -1,6 +1,6 @@
 -- `frame::window::is_near`: what blocks 0 .. s - 1 cost and what they leave of the bound make up the bound, and they leave some of it.
 use mathlib.Core.Path.{◌≡◌}
-use Prim.Native.Nat.{◌+◌, ◌-◌, ◌*◌, ◌≤◌, min}
+use Prim.Native.Nat.{◌+◌, ◌≤◌, min}
 use Rattle.algebra.specs.Weight.{total}
 use Rattle.area.specs.Lists.{view}
 use Rattle.frame.proofs.RebuiltCost.{rebuilt_term}
@@ -8,8 +8,4 @@ use Rattle.frame.proofs.window.is_near.Given as goal
 
 abbrev pub invariant-loop-s : goal.invariant-loop-s
 invariant-loop-s l =
-    (l.s ≤ l.l + 1) × (l.start ≡ l.s * l.p.n)
-    × (total l.s (rebuilt_term l.p l.window (view l.p.k l.information)) + l.left ≡ l.bound) × (min 1 l.s ≤ l.left)
-
-abbrev pub decreases-loop-s : goal.decreases-loop-s
-decreases-loop-s l = l.l + 1 - l.s
+    (total l.s (rebuilt_term l.tables.setting l.window (view l.tables.setting.k l.information)) + l.left ≡ l.bound) × (min 1 l.s ≤ l.left)

@@ -6,5 +6,5 @@ use Rattle.line.proofs.characters.character.Goals as goal
 pub returns-then-digit-lt10 : goal.returns-then-digit-lt10
 returns-then-digit-lt10 c = sym (character_number c.args.digit c.if-digit-lt10.true)
 
-pub returns : goal.returns
-returns c = sym (character_letter c.args.digit c.if-digit-lt10.false)
+pub returns-else-digit-lt10 : goal.returns-else-digit-lt10
+returns-else-digit-lt10 c = sym (character_letter c.args.digit c.if-digit-lt10.false)

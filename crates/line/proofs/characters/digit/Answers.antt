@@ -1,19 +1,24 @@
 -- `line::characters::digit` meets its contract.
-use mathlib.Core.Path.{sym}
-use Rattle.line.proofs.Digits.{digit_low, digit_number, digit_between, digit_letter, digit_high}
+use mathlib.Core.Path.{◌≡◌, ◌∙◌}
+use Prim.Native.Nat.{◌+◌, ◌-◌}
+use native.Mathlib.Omega.{arith}
+use Rattle.line.proofs.Digits.{digit_low, digit_number, digit_between, digit_letter, digit_high, digit_found, digit_missing}
 use Rattle.line.proofs.characters.digit.Goals as goal
 
-pub returns-then-character-lt48 : goal.returns-then-character-lt48
-returns-then-character-lt48 c = sym (digit_low c.args.character c.if-character-lt48.true)
+pub returns-in-48-to-57 : goal.returns-in-48-to-57
+returns-in-48-to-57 c = let d = c.args.character in digit_found d _ (digit_number d (omega arith) (omega arith)) (omega arith)
 
-pub returns-then-character-le57 : goal.returns-then-character-le57
-returns-then-character-le57 c = sym (digit_number c.args.character c.if-character-lt48.false c.if-character-le57.true)
+pub returns-in-97-to-102 : goal.returns-in-97-to-102
+returns-in-97-to-102 c =
+    let d = c.args.character in
+    let v : d - 87 ≡ d - 97 + 10 = omega arith in
+    digit_found d _ (digit_letter d (omega arith) (omega arith) ∙ v) (omega arith)
 
-pub returns-then-character-lt97 : goal.returns-then-character-lt97
-returns-then-character-lt97 c = sym (digit_between c.args.character c.if-character-le57.false c.if-character-lt97.true)
+pub returns-in_default : goal.returns-in_default
+returns-in_default c = let d = c.args.character in digit_missing d (digit_low d (omega arith))
 
-pub returns-then-character-le102 : goal.returns-then-character-le102
-returns-then-character-le102 c = sym (digit_letter c.args.character c.if-character-lt97.false c.if-character-le102.true)
+pub returns-in_default-2 : goal.returns-in_default-2
+returns-in_default-2 c = let d = c.args.character in digit_missing d (digit_between d (omega arith) (omega arith))
 
-pub returns : goal.returns
-returns c = sym (digit_high c.args.character c.if-character-le102.false)
+pub returns-in_default-3 : goal.returns-in_default-3
+returns-in_default-3 c = let d = c.args.character in digit_missing d (digit_high d (omega arith))

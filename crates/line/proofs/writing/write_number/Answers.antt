@@ -10,9 +10,9 @@ use Rattle.line.proofs.writing.write_number.Goals as goal
 pub loop-i-preserved : goal.loop-i-preserved
 loop-i-preserved c = (
   simp length-set (omega arith),
-  length-set c.loop-i.area (c.loop-i.i - 1) c.last_digit-character.result ∙ c.loop-i.invariant.1,
-  hex_back c.loop-i.i c.loop-i.left c.last_digit-character.result (hex (length c.args.area.now) c.args.number) c.loop-i.area
-      c.loop-i-test.true c.loop-i.invariant.0 c.last_digit-character.ensures c.loop-i.invariant.2,
+  length-set c.loop-i.area (c.loop-i.i - 1) c.last_digit.result ∙ c.loop-i.invariant.1,
+  hex_back c.loop-i.i c.loop-i.left c.last_digit.result (hex (length c.args.area.now) c.args.number) c.loop-i.area
+      c.loop-i-test.true c.loop-i.invariant.0 c.last_digit.ensures c.loop-i.invariant.2,
 )
 
 pub returns : goal.returns

@@ -24,13 +24,13 @@ window_in : {p : Setting} {T i count : ℕ} {message area : List ℕ} → i < T 
 window_in {p} {T} {i} {area = area} l sent = window_room p T i sent.rest area sent.areas l
 
 pub overflow_mul-first : goal.overflow_mul-first
-overflow_mul-first c = omega (arith, block_in c.args.p.k c.requires.1 c.requires.0.message_of.long)
+overflow_mul-first c = omega (arith, block_in c.args.tables.now.setting.k c.requires.1 c.requires.0.long)
 
 pub overflow_mul-start : goal.overflow_mul-start
 overflow_mul-start c = omega (arith, window_in c.requires.1 c.requires.2)
 
 pub overflow_add-end : goal.overflow_add-end
-overflow_add-end c = omega (arith, (sizes c.args.p c.requires.0.ready.sound).memory_most)
+overflow_add-end c = omega (arith, (sizes c.args.tables.now.setting c.args.tables.now.ready.sound).memory_most)
 
 pub overflow_mul-end : goal.overflow_mul-end
 overflow_mul-end c = omega (arith, window_in c.requires.1 c.requires.2)
@@ -38,36 +38,29 @@ overflow_mul-end c = omega (arith, window_in c.requires.1 c.requires.2)
 pub overflow_add-end-2 : goal.overflow_add-end-2
 overflow_add-end-2 c = omega (arith, window_in c.requires.1 c.requires.2)
 
-pub overflow_add-symbol : goal.overflow_add-symbol
-overflow_add-symbol c = omega (arith, block_in c.args.p.k c.requires.1 c.requires.0.message_of.long)
+pub overflow_add-first : goal.overflow_add-first
+overflow_add-first c = omega (arith, block_in c.args.tables.now.setting.k c.requires.1 c.requires.0.long)
 
 pub bounds-message-first : goal.bounds-message-first
-bounds-message-first c = omega (arith, block_in c.args.p.k c.requires.1 c.requires.0.message_of.long)
+bounds-message-first c = omega (arith, block_in c.args.tables.now.setting.k c.requires.1 c.requires.0.long)
 
 pub slice_bounds-add_rows-end : goal.slice_bounds-add_rows-end
-slice_bounds-add_rows-end c = window_in c.requires.1 c.loop-r.invariant.1
+slice_bounds-add_rows-end c = window_in c.requires.1 c.loop-r.invariant
 
 pub add_rows-requires : goal.add_rows-requires
 add_rows-requires c =
     let a = c.args in
     let l = c.loop-r in
-    let sound = c.requires.0.ready.sound in (
-      c.requires.0.ready,
+    let p : Setting = a.tables.now.setting in (
       c.loop-r-test.true,
-      message_below a.p sound a.blocks a.message.now c.requires.0.message_of a.i l.r,
-      part_length (window_length a.p) (a.i * a.p.n) l.area (window_in c.requires.1 l.invariant.1),
-      symbols_part a.p.q (a.i * a.p.n) (a.i * a.p.n + window_length a.p) l.area l.invariant.1.areas.residual_symbols,
+      message_below p a.tables.now.ready.sound a.blocks a.message.now c.requires.0 a.i l.r,
+      part_length (window_length p) (a.i * p.n) l.area (window_in c.requires.1 l.invariant),
+      symbols_part p.q (a.i * p.n) (a.i * p.n + window_length p) l.area l.invariant.areas.residual_symbols,
     )
-
-pub overflow_add-r : goal.overflow_add-r
-overflow_add-r c = omega (arith, (sizes c.args.p c.requires.0.ready.sound).information_most)
 
 pub loop-r-preserved : goal.loop-r-preserved
 loop-r-preserved c =
     let a = c.args in
-    let l = c.loop-r in (
-      omega arith,
-      sent_more a.p c.requires.0.ready.sound a.blocks a.message.now c.requires.0.message_of a.i l.r _ l.area
-          c.add_rows.new.window c.requires.1 c.loop-r-test.true refl l.invariant.1
-          c.add_rows.ensures,
-    )
+    let l = c.loop-r in
+    sent_more a.tables.now.setting a.tables.now.ready.sound a.blocks a.message.now c.requires.0 a.i l.r _ l.area c.add_rows.new.window c.requires.1
+    c.loop-r-test.true refl l.invariant c.add_rows.ensures

@@ -1,9 +1,0 @@
--- `field::value_from_rest` meets its contract. The loop's invariant: the sum is the value of the coefficients from i on. The measure is i.
-use native.Mathlib.Omega.{arith}
-use Rattle.field.proofs.PolynomialValue.{value_of_more}
-use Rattle.field.proofs.value_from_rest.Goals as goal
-
-pub loop-i-preserved : goal.loop-i-preserved
-loop-i-preserved c =
-    let l = c.loop-i.invariant in
-    (omega (arith, l.0), value_of_more _ _ _ _ _ _ (omega arith) l.0 l.1.same c.add_product-sum.ensures)

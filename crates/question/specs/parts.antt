@@ -1,0 +1,2 @@
+-- What the functions that ask the questions promise their callers.
+pub mod Shapes

@@ -1,0 +1,54 @@
+// The shapes of frames.
+ghost use Rattle.std.specs.Prelude.{◌≡◌, ◌+◌, ◌*◌, ◌≤◌};
+ghost use Rattle.code.specs.parts.SettingNumbers.{parameters_of};
+ghost use Rattle.question.specs.Questions.{most_blocks, most_frames};
+
+use code::{Setting, SettingNumber};
+
+// "T at most 512"
+pub const MOST_BLOCKS: usize = 512;
+
+// "14 when D isn't 2 to 8"
+pub const MOST_FRAMES: usize = 8;
+
+// The shape of a frame: its setting, and its length T.
+#[derive(Clone, Copy)]
+pub struct Shape {
+    pub setting: SettingNumber,
+    pub blocks: usize,
+    pub ghost some: { 1 ≤ blocks },
+    pub ghost few: { blocks ≤ most_blocks },
+}
+
+impl Shape {
+    // Its setting's parameters.
+    pub fn parameters(self) -> Setting
+        ensures { result ≡ parameters_of self.setting }
+    {
+        Setting::from(self.setting)
+    }
+
+    // T × k, the length of its message.
+    pub fn message_length(self) -> usize
+        ensures { result ≡ self.blocks * (parameters_of self.setting).k }
+    {
+        self.blocks * self.parameters().k
+    }
+
+    // (T+m) × n, the length of its transmission.
+    pub fn transmission_length(self) -> usize
+        ensures { result ≡ (self.blocks + (parameters_of self.setting).m) * (parameters_of self.setting).n }
+    {
+        let p = self.parameters();
+        (self.blocks + p.m) * p.n
+    }
+}
+
+// The shape of woven frames: that of each, and how many.
+#[derive(Clone, Copy)]
+pub struct WovenShape {
+    pub frame: Shape,
+    pub frames: usize,
+    pub ghost several: { 2 ≤ frames },
+    pub ghost few: { frames ≤ most_frames },
+}
