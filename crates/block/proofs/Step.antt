@@ -55,7 +55,7 @@ module _ {p : Setting} (S : Sound p) {l : ℕ} (level : l ≤ p.m) {block : List
       λ close. omega (arith, degree_of_near_below p S l level block long symbols x information spectrum.series σ close B.located syndromes) in
       omega arith)
 
-  module _ {found : List ℕ} (C : Candidate p l block σ found) (room : (l + 1) * p.k ≤ length found) where
+  module _ {found : List ℕ} (C : Candidate p l block σ found) where
     -- If the information x is near, it is what was read, and its cost the cost of that.
     same_cost : (x : ℕ → ℕ → ℕ) → InformationTo p l x → level_cost p (at block) l x < level_distance p.n p.k l
         → level_cost p (at block) l (view p.k found) ≡ level_cost p (at block) l x
@@ -85,12 +85,12 @@ module _ {p : Setting} (S : Sound p) {l : ℕ} (level : l ≤ p.m) {block : List
     step_clean none =
         let of_level = vanishing_in_level p S l (level_fits p S l level) block long symbols (syndromes_vanish none) in
         let free = cost_in_level p l block of_level in
-        near C.reads.below room (omega (arith, free, same_cost of_level.information (λ b r u v. of_level.below b r) (omega (arith, free))))
+        near C.reads.below (omega (arith, free, same_cost of_level.information (λ b r u v. of_level.below b r) (omega (arith, free))))
 
     module _ {bound cost : ℕ} (same : bound ≡ level_distance p.n p.k l)
         (counted : min bound cost ≡ min bound (level_cost p (at block) l (view p.k found))) where
       pub step_near : cost < bound → Step p l block (Some found)
-      step_near h = near C.reads.below room (omega (arith, counted))
+      step_near h = near C.reads.below (omega (arith, counted))
 
       pub step_far : bound ≤ cost → Step p l block None
       step_far h =

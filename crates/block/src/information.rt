@@ -78,12 +78,12 @@ pub fn cost(tables: &Tables, information: &[u8], l: usize, block: &[u8], bound: 
     ensures { min bound result ≡ min bound (level_cost tables.now.setting (at block.now) l (view tables.now.setting.k information.now)) }
 {
     let mut cost: usize = 0;
-    for i in 0..tables.setting.n {
+    for (i, &received) in block.iter().enumerate() {
         if bound <= cost {
             return cost;
         }
         let symbol = tables.combination(information, l, i);
-        if block[i] != symbol {
+        if received != symbol {
             cost += 2;
         }
     }

@@ -11,10 +11,8 @@ ghost use Rattle.code.specs.parts.SettingNumbers.{parameters_of};
 ghost use Rattle.tables.specs.parts.Rows.{longest_block};
 
 use code::SettingNumber;
+use std::io::Write;
 use tables::{LONGEST_BLOCK, Tables};
-
-// The descriptor of standard output.
-const STDOUT: i32 = 1;
 
 // A number's digits to the base q: its i-th block, or its i-th information.
 fn digits(q: usize, number: usize) -> [u8; LONGEST_BLOCK]
@@ -23,8 +21,8 @@ fn digits(q: usize, number: usize) -> [u8; LONGEST_BLOCK]
 {
     let mut symbols = [0u8; LONGEST_BLOCK];
     let mut rest = number;
-    for i in 0..LONGEST_BLOCK {
-        symbols[i] = (rest % q) as u8;
+    for symbol in &mut symbols {
+        *symbol = (rest % q) as u8;
         rest /= q;
     }
     symbols
@@ -139,14 +137,9 @@ impl Level<'_> {
     }
 }
 
-// Writes a number and the byte after it. `println!` would need the runtime, which hands out a heap.
-fn print(number: usize, after: u8) {
-    io::print_decimal(STDOUT, number as u64);
-    io::write_all(STDOUT, &[after]);
-}
-
 // One level of a setting: q^((l+1)k) information words, q^n blocks.
 fn compare(
+    rt: &HostRuntime,
     number: SettingNumber,
     l: usize,
     distance: usize,
@@ -164,20 +157,23 @@ fn compare(
         words,
     };
     let all = level.blocks(stride, end);
-    print(u64::from(number) as usize, b' ');
-    print(l, b' ');
-    print(all.blocks, b' ');
-    print(all.near, b' ');
-    print(all.agree, b'\n');
+    let _ = writeln!(
+        rt.stdout(),
+        "{} {l} {} {} {}",
+        u64::from(number),
+        all.blocks,
+        all.near,
+        all.agree
+    );
 }
 
-fn main() {
-    compare(SettingNumber::One, 0, 4, 5, 1, 625);
-    compare(SettingNumber::One, 1, 3, 25, 1, 625);
-    compare(SettingNumber::One, 2, 2, 125, 1, 625);
-    compare(SettingNumber::Two, 0, 6, 64, 523, 2097152);
-    compare(SettingNumber::Two, 1, 4, 4096, 523, 2097152);
-    compare(SettingNumber::Two, 2, 2, 262144, 16001, 2097152);
-    compare(SettingNumber::Three, 0, 5, 512, 523, 2097152);
-    compare(SettingNumber::Three, 1, 2, 262144, 16001, 2097152);
+fn main(rt: HostRuntime) {
+    compare(&rt, SettingNumber::One, 0, 4, 5, 1, 625);
+    compare(&rt, SettingNumber::One, 1, 3, 25, 1, 625);
+    compare(&rt, SettingNumber::One, 2, 2, 125, 1, 625);
+    compare(&rt, SettingNumber::Two, 0, 6, 64, 523, 2097152);
+    compare(&rt, SettingNumber::Two, 1, 4, 4096, 523, 2097152);
+    compare(&rt, SettingNumber::Two, 2, 2, 262144, 16001, 2097152);
+    compare(&rt, SettingNumber::Three, 0, 5, 512, 523, 2097152);
+    compare(&rt, SettingNumber::Three, 1, 2, 262144, 16001, 2097152);
 }

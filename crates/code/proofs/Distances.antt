@@ -1,14 +1,21 @@
--- Sums of the level codes' distances, as a loop makes them. Holds: `distances_none`, `distances_more`.
+-- Sums of the level codes' distances. Holds: `distances_sum` (as a chain makes them), `distances_small`.
 use mathlib.Core.Path.{◌≡◌, refl, sym, ap, ◌∙◌}
-use Prim.Native.Nat.{ℕ, ◌+◌, ◌-◌, ◌*◌}
+use mathlib.Core.List.{map}
+use Prim.Native.Nat.{ℕ, zero, suc, ◌+◌, ◌*◌, ◌≤◌}
+use native.Mathlib.Omega.{arith}
 use native.Mathlib.Numerals.{add-one}
-use Rattle.code.specs.Code.{distances_to}
+use Rattle.std.specs.List.{sum, range_with_len}
+use Rattle.std.proofs.lemmas.List.FromFn.{sum_by-map-range_with_len_more}
+use Rattle.code.specs.Code.{level_distance, distances_to}
 
-pub distances_none : (n k : ℕ) → n - (0 + 1) * k + 1 ≡ distances_to n k 0
+pub distances_sum : (n k l : ℕ) → sum (map (level_distance n k) (range_with_len 0 (l + 1))) ≡ distances_to n k l
 unfolding distances_to
-distances_none n k = refl
+distances_sum n k zero = sum_by-map-range_with_len_more (λ d. d) (level_distance n k) 0 0 0 refl ∙ omega arith
+distances_sum n k (suc l) =
+    sum_by-map-range_with_len_more (λ d. d) (level_distance n k) 0 (suc l) (suc l) (omega arith)
+    ∙ ap (λ (t : ℕ). t + level_distance n k (suc l)) (ap (λ (t : ℕ). sum (map (level_distance n k) (range_with_len 0 t))) (sym (add-one l)) ∙ distances_sum n k l)
 
-pub distances_more : (n k i : ℕ) → distances_to n k i + (n - (i + 1 + 1) * k + 1) ≡ distances_to n k (i + 1)
+pub distances_small : (n k l : ℕ) → n ≤ 255 → distances_to n k l ≤ (l + 1) * 256
 unfolding distances_to
-distances_more n k i =
-    ap (λ (t : ℕ). distances_to n k i + (n - (t + 1) * k + 1)) (add-one i) ∙ ap (distances_to n k) (sym (add-one i))
+distances_small n k zero h = omega arith
+distances_small n k (suc l) h = omega (arith, distances_small n k l h)

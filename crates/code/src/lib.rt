@@ -99,9 +99,5 @@ pub fn distances_to(p: Setting, l: usize) -> usize
     requires { Sound p × (l ≤ p.m) }
     ensures { result ≡ distances_to p.n p.k l }
 {
-    let mut sum = level_distance(p, 0);
-    for i in 0..l {
-        sum += level_distance(p, i + 1);
-    }
-    sum
+    (0..l + 1).map(|i| level_distance(p, i)).sum()
 }

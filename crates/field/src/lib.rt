@@ -41,8 +41,8 @@ fn row<F: Fn(u8) -> u8>(q: usize, of: F) -> [u8; 16]
     ensures { (a : ℕ) → a < q → F.post of a (at result a) }
 {
     let mut row = [0; 16];
-    for a in 0..q {
-        row[a] = of(a as u8);
+    for (a, symbol) in row[..q].iter_mut().enumerate() {
+        *symbol = of(a as u8);
     }
     row
 }
@@ -94,8 +94,8 @@ impl Lists<'_> {
         ensures { ProductsOf self.now.q result }
     {
         let mut products: Products = [[0; 16]; 17];
-        for a in 0..self.q {
-            products[a] = row(self.q, |b| self.product(a as u8, b));
+        for (a, multiples) in products[..self.q].iter_mut().enumerate() {
+            *multiples = row(self.q, |b| self.product(a as u8, b));
         }
         products[INVERSES] = row(self.q, |b| self.inverse(b));
         products
@@ -108,28 +108,26 @@ fn products(q: usize) -> Products
     requires { Good q }
     ensures { ProductsOf q result }
 {
-    if q == 5 {
-        return Lists {
+    match q {
+        5 => Lists {
             q: 5,
             powers: &POWERS_5,
             exponents: &EXPONENTS_5,
         }
-        .table();
-    }
-    if q == 8 {
-        return Lists {
+        .table(),
+        8 => Lists {
             q: 8,
             powers: &POWERS_8,
             exponents: &EXPONENTS_8,
         }
-        .table();
+        .table(),
+        _ => Lists {
+            q: 16,
+            powers: &POWERS_16,
+            exponents: &EXPONENTS_16,
+        }
+        .table(),
     }
-    Lists {
-        q: 16,
-        powers: &POWERS_16,
-        exponents: &EXPONENTS_16,
-    }
-    .table()
 }
 
 // A field at run time: its q, and its table of products and inverses. The outermost call makes it and lends it down.
@@ -213,11 +211,10 @@ impl Field {
         requires { Symbols self.now.q c.now × (count ≤ length c.now) × (x < self.now.q) × Is self.now.q rest (polynomial.value (ops_of self.now.q) (drop count c.now) x) }
         ensures { Is self.now.q result (polynomial.value (ops_of self.now.q) c.now x) }
     {
-        let mut sum = rest;
-        for i in (0..count).rev() {
-            sum = self.add_product(c[i], x, sum);
-        }
-        sum
+        c[..count]
+            .iter()
+            .rev()
+            .fold(rest, |sum, a| self.add_product(*a, x, sum))
     }
 
     // The value of the polynomial with the coefficients c, lowest power first, at x: "The value of a polynomial without coefficients is 0;

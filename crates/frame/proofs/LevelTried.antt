@@ -1,12 +1,12 @@
 -- One level of a window, from the block step's answer and the cost of the rebuilt blocks.
--- Holds: `step_below`, `step_long`, `tried_far`, `tried_near`, `tried_costly`.
+-- Holds: `step_below`, `tried_far`, `tried_near`, `tried_costly`.
 use mathlib.Core.Path.{◌≡◌, refl, sym, ◌∙◌}
 use mathlib.Core.Bool.{Bool, true, false}
 use mathlib.Core.List.{List}
 use Prim.Native.Nat.{ℕ, ◌+◌, ◌-◌, ◌*◌, ◌≤◌}
 use native.Mathlib.Omega.{arith}
 use lib.Dec.{ltb}
-use lib.ListN.{length, take, drop}
+use lib.ListN.{take, drop}
 use borrow.Author.Tests.{ltb-true, ltb-false}
 use Rattle.std.specs.Prelude.{Some, None}
 use Rattle.area.specs.Lists.{view}
@@ -20,12 +20,9 @@ use Rattle.block.specs.parts.Step.{Step, near, far}
 use Rattle.frame.specs.parts.Window.{LevelTried, serves, fails}
 use Rattle.frame.proofs.RebuiltCost.{part_cost}
 
--- The block step's information has symbols below q, and holds the level's blocks.
+-- The block step's information has symbols below q.
 pub step_below : {p : Setting} {l : ℕ} {block information : List ℕ} → Step p l block (Some information) → AllBelow p.q information
-step_below (near below long close) = below
-
-pub step_long : {p : Setting} {l : ℕ} {block information : List ℕ} → Step p l block (Some information) → (l + 1) * p.k ≤ length information
-step_long (near below long close) = long
+step_below (near below close) = below
 
 -- Block l of a window, as it is lent.
 abbrev block_at : Setting → List ℕ → ℕ → List ℕ
@@ -37,7 +34,7 @@ module _ {p : Setting} (S : Sound p) {window : List ℕ} {l : ℕ} (level : l �
 
   tried_refused : {information : List ℕ} → Step p l (block_at p window l) (Some information)
       → distances_to p.n p.k l ≤ window_cost p window l (view p.k information) → LevelTried p window l None
-  tried_refused {information} (near below long close) bad =
+  tried_refused {information} (near below close) bad =
       fails (λ y Y good. level_refused p S window y (view p.k information) Y (λ s r. below (s * p.k + r)) l level good
       (rw (part_cost p l (l * p.n) l window (view p.k information) refl) at close) bad)
 

@@ -32,22 +32,24 @@ fn settle(
 }
 
 // The windows in turn, of a reception that is its own residual for the zero message: blocks of window j are guessed, and then block j is made certain. The next
-// window begins one block later; of its blocks only those after the settled ones are guessed, since only they can have changed or are new. False where one
+// window begins one block later; of its blocks only those after the settled ones are guessed, since only they can have changed or are new. None where one
 // has no near information: then no message fits.
-fn read_windows(tables: &Tables, blocks: usize, message: &mut [u8], residual: &mut [u8]) -> bool
+fn read_windows(
+    tables: &Tables,
+    blocks: usize,
+    message: &mut [u8],
+    residual: &mut [u8],
+) -> Option<()>
     requires { Settled tables.now.setting blocks residual.old 0 message.old residual.old }
-    ensures { Advanced tables.now.setting blocks residual.old blocks message.new residual.new result }
+    ensures { Advanced tables.now.setting blocks residual.old blocks message.new residual.new (is_some result) }
 {
     let bound = code::distances_to(tables.setting, tables.setting.m);
     let mut first: usize = 0;
     for j in 0..blocks {
         super::guess::guess_window(tables, blocks, j, first, message, residual);
-        match settle(tables, bound, blocks, j, message, residual) {
-            Some(settled) => first = settled,
-            None => return false,
-        }
+        first = settle(tables, bound, blocks, j, message, residual)?;
     }
-    true
+    Some(())
 }
 
 // The last comparison: every window of the residual costs less than the bound against zeros.
@@ -58,15 +60,12 @@ fn compare_windows(tables: &Tables, blocks: usize, residual: &[u8]) -> bool
     let p = tables.setting;
     let bound = code::distances_to(p, p.m);
     let size = (p.m + 1) * p.n;
-    for j in 0..blocks {
+    (0..blocks).all(|j| {
         let start = j * p.n;
         let end = start + size;
         let cost = super::window::zero_cost(&residual[start..end]);
-        if bound <= cost {
-            return false;
-        }
-    }
-    true
+        cost < bound
+    })
 }
 
 // The message that fits the reception that stands in the residual's place, and its residual; or false, if no message fits: both are areas of the caller, so
@@ -76,5 +75,6 @@ pub fn read(tables: &Tables, blocks: usize, message: &mut [u8], residual: &mut [
     ensures { FrameRead tables.now.setting blocks residual.old message.new residual.new result }
 {
     message.fill(0);
-    read_windows(tables, blocks, message, residual) && compare_windows(tables, blocks, residual)
+    read_windows(tables, blocks, message, residual).is_some()
+        && compare_windows(tables, blocks, residual)
 }

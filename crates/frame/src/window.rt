@@ -67,13 +67,11 @@ pub fn find_level(tables: &Tables, window: &[u8]) -> Option<Found>
     requires { (length window.now ≡ window_length tables.now.setting) × Symbols tables.now.setting.q window.now }
     ensures { LevelSearch tables.now.setting window.now result }
 {
-    for l in (0..tables.setting.m + 1).rev() {
-        if let Some(information) = try_level(tables, window, l) {
-            return Some(Found {
-                information,
-                blocks: l + 1,
-            });
-        }
-    }
-    None
+    (0..tables.setting.m + 1).rev().find_map(|l| {
+        let information = try_level(tables, window, l)?;
+        Some(Found {
+            information,
+            blocks: l + 1,
+        })
+    })
 }

@@ -5,7 +5,7 @@ ghost use Rattle.field.specs.Symbols.{Symbols};
 ghost use Rattle.line.specs.Characters.{digit_of, character_of};
 ghost use Rattle.line.specs.parts.Heads.{digit_in, Digits};
 
-// The value of a character, if it is one of 0-9 and a-f.
+// The value of a character, if it is one of 0-9 and a-f. By hand: std's `to_digit` takes A-F too, and a `char`.
 fn digit(character: u8) -> Option<u8>
     ensures { result ≡ digit_in character }
 {

@@ -23,6 +23,8 @@ pub const MOST_CHARACTERS: usize = 4 + MOST_SYMBOLS;
 
 pub const MOST_ANSWER: usize = 10 + MOST_INFORMATION;
 
+// The working areas are parts of any size that the caller lends, by 01: they stay three slices, which no struct of arrays can be.
+
 // Whether working areas of these sizes have room for a line's frame of this shape.
 fn has_room(shape: Shape, reception: usize, message: usize, transmission: usize) -> bool
     ensures { (line : List ℕ) → FrameOf line shape → result ≡ has_room line reception message transmission }

@@ -1,7 +1,7 @@
 -- From what reading a frame promises to what decoding promises.
--- Holds: `restored_none`, `restored_more`; `answered_read`, `answered_none`, `answered_symbols`, `decoded_found`, `decoded_none`; `decoded_asked`;
+-- Holds: `restored_more`; `answered_read`, `answered_none`, `answered_symbols`, `decoded_found`, `decoded_none`; `decoded_asked`;
 -- `decoded_alone`, `frame_alone`, in areas of just the right sizes.
-use mathlib.Core.Path.{◌≡◌, refl, sym, ap, subst, ◌∙◌}
+use mathlib.Core.Path.{◌≡◌, sym, ap, subst, ◌∙◌}
 use mathlib.Core.Bool.{Bool, true, false, not}
 use mathlib.Core.List.{List, ◌++◌, append-nil}
 use Prim.Native.Nat.{ℕ, ◌+◌, ◌*◌, ◌≤◌, ◌<◌}
@@ -35,9 +35,6 @@ use Rattle.link.specs.parts.Restoring.{FrameAnswered, read, none_read, Restored}
 use Rattle.link.specs.Decoding.{FrameDecoded, found, none_fits, Decoded, refused, well_formed}
 
 module _ (q : ℕ) (reception before : List ℕ) where
-  pub restored_none : Restored q 0 reception before before
-  restored_none = record { long = refl; inside = λ i l. absurd (omega arith); outside = λ i l. refl }
-
   pub restored_more : (i : ℕ) (after : List ℕ) (v : ℕ) → Restored q i reception before after → i < length before
       → v ≡ sub (ops_of q) (get_or reception i 0) (get_or after i 0) → Restored q (i + 1) reception before (set after i v)
   restored_more i after v R l e =

@@ -19,8 +19,8 @@ fn restore(field: &Field, frames: usize, f: usize, woven: &[u8], residual: &mut 
     requires { (f < frames) × (length woven.now ≡ length residual.old * frames) × Symbols field.now.q woven.now × Symbols field.now.q residual.old }
     ensures { Restored field.now.q (length residual.old) (column_of frames f woven.now) residual.old residual.new }
 {
-    for i in 0..residual.len() {
-        residual[i] = field.subtract(woven[i * frames + f], residual[i]);
+    for (i, symbol) in residual.iter_mut().enumerate() {
+        *symbol = field.subtract(woven[i * frames + f], *symbol);
     }
 }
 

@@ -19,8 +19,8 @@ fn send_block(tables: &Tables, message: &[u8], blocks: usize, i: usize, area: &m
     let first = i * p.k;
     let start = i * p.n;
     let end = start + (p.m + 1) * p.n;
-    for r in 0..p.k {
-        tables.add_rows(r, message[first + r], &mut area[start..end]);
+    for (r, symbol) in message[first..first + p.k].iter().enumerate() {
+        tables.add_rows(r, *symbol, &mut area[start..end]);
     }
 }
 

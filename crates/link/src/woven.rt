@@ -48,6 +48,7 @@ fn decode_frames(
     let short = shape.frame.message_length();
     let long = shape.frame.transmission_length();
     let mut outcomes = [Ok(0); MOST_FRAMES];
+    // By index: after `chunks_exact_mut` a proof knows the length of the area and none of its symbols.
     for f in 0..shape.frames {
         let message_start = f * short;
         let message_end = message_start + short;

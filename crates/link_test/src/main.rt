@@ -5,22 +5,24 @@
 // A line out: number, place and count of the answer in decimal, then what the call returned and what it left in the areas; for a desk line, its answer.
 #![tactic(auto)]
 
-ghost use Rattle.std.specs.Prelude.{◌≡◌, ◌≤◌, ◌<◌, length};
+ghost use Rattle.std.specs.Prelude.{◌≤◌, ◌<◌, length};
 
 use display::Marks;
 use link::woven::WovenAnswer;
 use question::answer::Answer;
 use question::refusal::Refusal;
+use question::shape::MOST_FRAMES;
+use std::fmt;
+use std::io::{Error, ErrorKind, Read, Write};
 
-// The descriptors of standard input and output.
-const STDIN: i32 = 0;
-
-const STDOUT: i32 = 1;
+// The bytes of a line before its areas.
+const START: usize = 51;
 
 // The most bytes of an area.
 const MOST_BYTES: usize = 10000;
 
-// The value of a digit, and 0 for any other byte. (Crate `line` has its own, private, which asks for a digit.)
+// The value of a digit, and 0 for any other byte. That of `line` is private, and a test reads its input by itself. By std it is no plainer: `to_digit` wants a
+// `char` and gives an `Option<u32>`, and `from_str_radix` wants a `str`.
 fn value(digit: u8) -> u8
     ensures { result < 16 }
 {
@@ -38,129 +40,154 @@ fn word(digits: &[u8]) -> u64 {
         .fold(0, |word, digit| word << 4 | u64::from(value(*digit)))
 }
 
-// The bytes that the digits from `from` on say, as many as `bytes` has and the digits give.
-fn bytes(digits: &[u8], from: usize, bytes: &mut [u8]) {
-    let Some(digits) = digits.get(from..) else {
-        return;
-    };
+// Reads bytes, two digits each.
+fn read(rt: &HostRuntime, bytes: &mut [u8]) -> Result<(), Error>
+    requires { length bytes.old ≤ MOST_BYTES }
+{
+    let mut room = [0u8; 2 * MOST_BYTES];
+    let digits = &mut room[..2 * bytes.len()];
+    rt.stdin().read_exact(digits)?;
     for (byte, pair) in bytes.iter_mut().zip(digits.chunks_exact(2)) {
         *byte = value(pair[0]) << 4 | value(pair[1]);
     }
+    Ok(())
 }
 
-// A digit. (That of crate `line` is private too.)
-fn digit(value: u8) -> u8 {
-    match value {
-        0..=9 => b'0' + value,
-        10..=15 => b'a' + (value - 10),
-        _ => 0,
+// Bytes, written with two digits each.
+#[derive(Clone, Copy)]
+struct Digits<'a> {
+    of: &'a [u8],
+}
+
+impl fmt::Display for Digits<'_> {
+    fn fmt<W: fmt::Write>(&self, f: &mut fmt::Formatter<W>) -> fmt::Result {
+        for byte in self.of {
+            write!(f, "{byte:02x}")?;
+        }
+        Ok(())
     }
 }
 
-// Writes bytes, two digits each.
-fn show(bytes: &[u8]) {
-    for byte in bytes {
-        io::write_all(STDOUT, &[digit(byte / 16), digit(byte % 16)]);
+// An answer, written as its number, place and count.
+#[derive(Clone, Copy)]
+struct Numbers {
+    of: Answer,
+}
+
+impl fmt::Display for Numbers {
+    fn fmt<W: fmt::Write>(&self, f: &mut fmt::Formatter<W>) -> fmt::Result {
+        write!(
+            f,
+            "{} {} {}",
+            self.of.number, self.of.place, self.of.altered
+        )
     }
-}
-
-fn show_number(number: u64) {
-    io::print_decimal(STDOUT, number);
-}
-
-fn space() {
-    io::write_all(STDOUT, b" ");
-}
-
-fn end_line() {
-    io::write_all(STDOUT, b"\n");
-}
-
-fn show_answer(answer: Answer) {
-    show_number(u64::from(answer.number));
-    space();
-    show_number(answer.place);
-    space();
-    show_number(u64::from(answer.altered));
 }
 
 // The answer of a call that gives no count, and what it returned or left in its one area.
-fn show_outcome(outcome: Result<(), Refusal>, area: &[u8]) {
-    show_answer(Answer::from(outcome.map(|()| 0)));
-    space();
-    show(area);
-    end_line();
+fn show_outcome(rt: &HostRuntime, outcome: Result<(), Refusal>, area: &[u8]) -> Result<(), Error> {
+    let answer = Numbers {
+        of: Answer::from(outcome.map(|()| 0)),
+    };
+    writeln!(rt.stdout(), "{} {}", answer, Digits { of: area })
 }
 
 // What a call left in both of its areas.
-fn show_areas(message: &[u8], transmission: &[u8]) {
-    space();
-    show(message);
-    space();
-    show(transmission);
-    end_line();
+fn show_areas(rt: &HostRuntime, message: &[u8], transmission: &[u8]) -> Result<(), Error> {
+    let message = Digits { of: message };
+    let transmission = Digits { of: transmission };
+    writeln!(rt.stdout(), " {message} {transmission}")
 }
 
-fn encode(number: u64, message: &[u8], transmission: &mut [u8]) {
+fn encode(
+    rt: &HostRuntime,
+    number: u64,
+    message: &[u8],
+    transmission: &mut [u8],
+) -> Result<(), Error> {
     let outcome = link::encode::encode(number, message, transmission);
-    show_outcome(outcome, transmission);
+    show_outcome(rt, outcome, transmission)
 }
 
-fn decode(number: u64, reception: &[u8], message: &mut [u8], transmission: &mut [u8]) {
+fn decode(
+    rt: &HostRuntime,
+    number: u64,
+    reception: &[u8],
+    message: &mut [u8],
+    transmission: &mut [u8],
+) -> Result<(), Error> {
     let outcome = link::decode::decode(number, reception, message, transmission);
-    show_answer(Answer::from(outcome));
-    show_areas(message, transmission);
+    let answer = Numbers {
+        of: Answer::from(outcome),
+    };
+    write!(rt.stdout(), "{answer}")?;
+    show_areas(rt, message, transmission)
 }
 
-fn window(number: u64, reception: &[u8], j: u64) {
+fn window(rt: &HostRuntime, number: u64, reception: &[u8], j: u64) -> Result<(), Error> {
     let outcome = display::window_answer(number, reception, j);
-    show_outcome(outcome, display::window(number, reception, j));
+    show_outcome(rt, outcome, display::window(number, reception, j))
 }
 
-fn marks(number: u64, reception: &[u8], transmission: &[u8], j: u64) {
+fn marks(
+    rt: &HostRuntime,
+    number: u64,
+    reception: &[u8],
+    transmission: &[u8],
+    j: u64,
+) -> Result<(), Error> {
     let found = Marks::from(display::mark::marks(number, reception, transmission, j));
-    show_answer(found.answer);
-    space();
-    show_number(found.marks);
-    space();
-    show_number(u64::from(found.set));
-    end_line();
+    let answer = Numbers { of: found.answer };
+    writeln!(rt.stdout(), "{} {} {}", answer, found.marks, found.set)
 }
 
-fn weave(number: u64, frames: u64, incoming: &[u8], out: &mut [u8]) {
+fn weave(
+    rt: &HostRuntime,
+    number: u64,
+    frames: u64,
+    incoming: &[u8],
+    out: &mut [u8],
+) -> Result<(), Error> {
     let outcome = weave::weave(number, frames, incoming, out);
-    show_outcome(outcome, out);
+    show_outcome(rt, outcome, out)
 }
 
-fn unweave(number: u64, frames: u64, incoming: &[u8], out: &mut [u8]) {
+fn unweave(
+    rt: &HostRuntime,
+    number: u64,
+    frames: u64,
+    incoming: &[u8],
+    out: &mut [u8],
+) -> Result<(), Error> {
     let outcome = weave::unweave(number, frames, incoming, out);
-    show_outcome(outcome, out);
+    show_outcome(rt, outcome, out)
 }
 
-// The answers of eight frames; those that are not there are zeros.
-fn show_frames(answers: [Answer; 8]) {
+// The answers of all frames; those that are not there are zeros.
+fn show_frames(rt: &HostRuntime, answers: [Answer; MOST_FRAMES]) -> Result<(), Error> {
     for answer in answers {
-        space();
-        show_answer(answer);
+        write!(rt.stdout(), " {}", Numbers { of: answer })?;
     }
+    Ok(())
 }
 
 fn decode_woven(
+    rt: &HostRuntime,
     number: u64,
     frames: u64,
     reception: &[u8],
     message: &mut [u8],
     transmission: &mut [u8],
-) {
+) -> Result<(), Error> {
     let outcome = link::woven::decode_woven(number, frames, reception, message, transmission);
     let woven = WovenAnswer::from(outcome);
-    show_answer(woven.answer);
-    show_frames(woven.frame);
-    show_areas(message, transmission);
+    write!(rt.stdout(), "{}", Numbers { of: woven.answer })?;
+    show_frames(rt, woven.frame)?;
+    show_areas(rt, message, transmission)
 }
 
 // The answer to a desk line; areas with room for every line are made here.
-fn desk_line(text: &[u8]) {
+fn desk_line(rt: &HostRuntime, text: &[u8]) -> Result<(), Error> {
     let mut reception = [0u8; line::MOST_SYMBOLS];
     let mut message = [0u8; line::MOST_INFORMATION];
     let mut transmission = [0u8; line::MOST_SYMBOLS];
@@ -173,28 +200,10 @@ fn desk_line(text: &[u8]) {
         &mut output,
     );
     if let Some(answer) = output.get(..long) {
-        io::write_all(STDOUT, answer);
-        end_line();
+        rt.stdout().write_all(answer)?;
+        rt.stdout().write_all(b"\n")?;
     }
-}
-
-// The calls get the numbers of their input, wrong ones too.
-//
-// E: encoding of the first area into the third. D: decoding of the first into the second and the third. W: window j of the first. M: marks of the first and
-// the second in window j. V: weaving of the first into the third; U: unweaving. F: decoding of woven frames, the areas as with D. L: the first as a line at
-// the planning desk. The number is the setting, `chosen` is j or D.
-fn call_on(call: u8, number: u64, chosen: u64, first: &[u8], second: &mut [u8], third: &mut [u8]) {
-    match call {
-        b'E' => encode(number, first, third),
-        b'D' => decode(number, first, second, third),
-        b'W' => window(number, first, chosen),
-        b'M' => marks(number, first, second, chosen),
-        b'V' => weave(number, chosen, first, third),
-        b'U' => unweave(number, chosen, first, third),
-        b'F' => decode_woven(number, chosen, first, second, third),
-        b'L' => desk_line(first),
-        _ => {}
-    }
+    Ok(())
 }
 
 // What stands at the start of a line.
@@ -208,9 +217,8 @@ struct Head {
     third: usize,
 }
 
-fn head_of(start: &[u8]) -> Head
-    requires { length start.now ≡ 51 }
-{
+// What the bytes before the areas say.
+fn head_of(start: [u8; START]) -> Head {
     Head {
         call: start[0],
         number: word(&start[2..18]),
@@ -221,79 +229,64 @@ fn head_of(start: &[u8]) -> Head
     }
 }
 
-// The areas of a line from its digits, and its call on them.
-fn handed(head: Head, digits: &[u8], first: &mut [u8], second: &mut [u8], third: &mut [u8])
-    requires { (length first.old ≤ 10000) × (length second.old ≤ 10000) }
-{
-    let second_at = 2 * first.len();
-    let third_at = second_at + 2 * second.len();
-    bytes(digits, 0, first);
-    bytes(digits, second_at, second);
-    bytes(digits, third_at, third);
-    call_on(head.call, head.number, head.chosen, first, second, third);
-}
-
-// The areas of a line, read and handed to its call; false where the input ends.
-fn run(
+// The calls get the numbers of their input, wrong ones too.
+//
+// E: encoding of the first area into the third. D: decoding of the first into the second and the third. W: window j of the first. M: marks of the first and
+// the second in window j. V: weaving of the first into the third; U: unweaving. F: decoding of woven frames, the areas as with D. L: the first as a line at
+// the planning desk. The number is the setting, `chosen` is j or D. The letters are read here alone; an enum of the calls would be no plainer,
+// as it would list them three times.
+fn call_on(
+    rt: &HostRuntime,
     head: Head,
-    digits: &mut [u8],
-    first: &mut [u8],
+    first: &[u8],
     second: &mut [u8],
     third: &mut [u8],
-) -> bool {
-    let a = head.first;
-    let b = head.second;
-    let c = head.third;
-    if MOST_BYTES < a.max(b).max(c) {
-        return false;
+) -> Result<(), Error> {
+    let number = head.number;
+    let chosen = head.chosen;
+    match head.call {
+        b'E' => encode(rt, number, first, third),
+        b'D' => decode(rt, number, first, second, third),
+        b'W' => window(rt, number, first, chosen),
+        b'M' => marks(rt, number, first, second, chosen),
+        b'V' => weave(rt, number, chosen, first, third),
+        b'U' => unweave(rt, number, chosen, first, third),
+        b'F' => decode_woven(rt, number, chosen, first, second, third),
+        b'L' => desk_line(rt, first),
+        _ => Ok(()),
     }
-    let size = 2 * (a + b + c) + 1;
-    if first.len() < a || second.len() < b || third.len() < c || digits.len() < size {
-        return false;
-    }
-    if io::read_full(STDIN, &mut digits[..size]) != size {
-        return false;
-    }
-    handed(
-        head,
-        digits,
-        &mut first[..a],
-        &mut second[..b],
-        &mut third[..c],
-    );
-    true
 }
 
-// One line; false where the input ends.
-fn next(
-    start: &mut [u8],
-    digits: &mut [u8],
-    first: &mut [u8],
-    second: &mut [u8],
-    third: &mut [u8],
-) -> bool {
-    if start.len() != 51 {
-        return false;
+// Reads the areas of a line and its end, and hands them to its call.
+fn run(rt: &HostRuntime, head: Head) -> Result<(), Error> {
+    if MOST_BYTES < head.first.max(head.second).max(head.third) {
+        return Err(Error::from(ErrorKind::InvalidData));
     }
-    if io::read_full(STDIN, start) != 51 {
-        return false;
-    }
-    let head = head_of(start);
-    run(head, digits, first, second, third)
+    let mut first = [0u8; MOST_BYTES];
+    let mut second = [0u8; MOST_BYTES];
+    let mut third = [0u8; MOST_BYTES];
+    let first = &mut first[..head.first];
+    let second = &mut second[..head.second];
+    let third = &mut third[..head.third];
+    read(rt, first)?;
+    read(rt, second)?;
+    read(rt, third)?;
+    let mut newline = [0u8; 1];
+    rt.stdin().read_exact(&mut newline)?;
+    call_on(rt, head, first, second, third)
 }
 
-fn turn() -> bool {
-    let mut start = [0u8; 51];
-    let mut digits = io::large_buffer();
-    let mut first = io::large_buffer();
-    let mut second = io::large_buffer();
-    let mut third = io::large_buffer();
-    next(&mut start, &mut digits, &mut first, &mut second, &mut third)
+// One line; an error where the input ends.
+fn turn(rt: &HostRuntime) -> Result<(), Error> {
+    let mut start = [0u8; START];
+    rt.stdin().read_exact(&mut start)?;
+    run(rt, head_of(start))
 }
 
-fn main() {
+// Nothing says that an input ends, so the lines are counted up to a number that no run reaches.
+fn main(rt: HostRuntime) {
     for _ in 0..1000000 {
-        if !turn() {
+        if turn(&rt).is_err() {
             return;
         }
     }

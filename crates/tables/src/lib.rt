@@ -13,10 +13,11 @@ ghost use Rattle.code.specs.Windows.{window_length};
 ghost use Rattle.tables.specs.parts.Rows.{rows_length, Narrow, LaidOut, RowsOf, Ready};
 ghost use Rattle.tables.specs.parts.RowsAdded.{RowsAdded};
 
-pub mod multiples;
+mod multiples;
 
 use code::{Setting, SettingNumber};
 use field::Field;
+use multiples::Multiple;
 
 // The most symbols of any setting's rows, and of a block: what a call that makes these areas makes room for.
 pub const LONGEST_ROWS: usize = 225;
@@ -189,6 +190,11 @@ impl Tables {
         let size = (self.setting.m + 1) * self.setting.n;
         let start = r * size;
         let end = start + size;
-        multiples::add_multiple(&self.field, v, &self.rows[start..end], window);
+        let multiple = Multiple {
+            field: &self.field,
+            v,
+            row: &self.rows[start..end],
+        };
+        multiple.add(window);
     }
 }

@@ -5,56 +5,68 @@ ghost use Rattle.tables.specs.parts.RowsAdded.{MultipleAdded};
 
 use field::Field;
 
-// Adds v × (symbol i of the row) to symbol i of the area.
-fn add_place(field: &Field, v: u8, row: &[u8], i: usize, area: &mut [u8])
-    requires { (v < field.now.q) × Symbols field.now.q row.now × Symbols field.now.q area.old × (i < length row.now) × (i < length area.old) }
-    ensures { MultipleAdded field.now.q v i (i + 1) row.now area.old area.new }
-{
-    area[i] = field.add_product(area[i], v, row[i]);
+// v × a row.
+#[derive(Clone, Copy)]
+pub struct Multiple<'a> {
+    pub field: &'a Field,
+    pub v: u8,
+    pub row: &'a [u8],
+    pub ghost below: { v < field.now.q },
+    pub ghost symbols: { Symbols field.now.q row.now },
 }
 
-// The same for four symbols from a place on.
-fn add_four(field: &Field, v: u8, row: &[u8], i: usize, area: &mut [u8])
-    requires { (v < field.now.q) × Symbols field.now.q row.now × Symbols field.now.q area.old × (i + 4 ≤ length row.now) × (i + 4 ≤ length area.old) }
-    ensures { MultipleAdded field.now.q v i (i + 4) row.now area.old area.new }
-{
-    add_place(field, v, row, i, area);
-    add_place(field, v, row, i + 1, area);
-    add_place(field, v, row, i + 2, area);
-    add_place(field, v, row, i + 3, area);
-}
-
-// With five elements, adds v × the row to the first symbols of the area, four at a time, and answers with how many; else with 0. For sums modulo 5 the compiler
-// has instructions that make four (docs/PERFORMANCE.md, "Rows by information symbol").
-fn add_fours(field: &Field, v: u8, row: &[u8], area: &mut [u8]) -> usize
-    requires { (v < field.now.q) × Symbols field.now.q row.now × Symbols field.now.q area.old × (length row.now ≡ length area.old) }
-    ensures { (result ≤ length area.old) × MultipleAdded field.now.q v 0 result row.now area.old area.new }
-{
-    if field.q != 5 {
-        return 0;
+impl Multiple<'_> {
+    // Adds symbol i of the multiple to symbol i of the area.
+    fn add_place(&self, i: usize, area: &mut [u8])
+        requires { Symbols self.now.field.now.q area.old × (i < length self.now.row.now) × (i < length area.old) }
+        ensures { MultipleAdded self.now.field.now.q self.now.v i (i + 1) self.now.row.now area.old area.new }
+    {
+        area[i] = self.field.add_product(area[i], self.v, self.row[i]);
     }
-    let fours = area.len() / 4;
-    for part in 0..fours {
-        add_four(field, v, row, 4 * part, area);
-    }
-    4 * fours
-}
 
-// Adds v × the row to the symbols of the area from a place on, the last first.
-fn add_from(field: &Field, v: u8, from: usize, row: &[u8], area: &mut [u8])
-    requires { (v < field.now.q) × (from ≤ length area.old) × Symbols field.now.q row.now × Symbols field.now.q area.old × (length row.now ≡ length area.old) }
-    ensures { MultipleAdded field.now.q v from (length area.old) row.now area.old area.new }
-{
-    for i in (from..area.len()).rev() {
-        add_place(field, v, row, i, area);
+    // The same for four symbols from a place on.
+    fn add_four(&self, i: usize, area: &mut [u8])
+        requires { Symbols self.now.field.now.q area.old × (i + 4 ≤ length self.now.row.now) × (i + 4 ≤ length area.old) }
+        ensures { MultipleAdded self.now.field.now.q self.now.v i (i + 4) self.now.row.now area.old area.new }
+    {
+        self.add_place(i, area);
+        self.add_place(i + 1, area);
+        self.add_place(i + 2, area);
+        self.add_place(i + 3, area);
     }
-}
 
-// Adds v × the row to the area.
-pub fn add_multiple(field: &Field, v: u8, row: &[u8], area: &mut [u8])
-    requires { (v < field.now.q) × Symbols field.now.q row.now × Symbols field.now.q area.old × (length row.now ≡ length area.old) }
-    ensures { MultipleAdded field.now.q v 0 (length area.old) row.now area.old area.new }
-{
-    let done = add_fours(field, v, row, area);
-    add_from(field, v, done, row, area);
+    // With five elements, adds the multiple to the first symbols of the area, four at a time, and answers with how many; else with 0. For sums modulo 5 the
+    // compiler has instructions that make four (docs/PERFORMANCE.md, "Rows by information symbol").
+    fn add_fours(&self, area: &mut [u8]) -> usize
+        requires { Symbols self.now.field.now.q area.old × (length self.now.row.now ≡ length area.old) }
+        ensures { (result ≤ length area.old) × MultipleAdded self.now.field.now.q self.now.v 0 result self.now.row.now area.old area.new }
+    {
+        if self.field.q != 5 {
+            return 0;
+        }
+        let fours = area.len() / 4;
+        for part in 0..fours {
+            self.add_four(4 * part, area);
+        }
+        4 * fours
+    }
+
+    // Adds the multiple to the symbols of the area from a place on, the last first.
+    fn add_from(&self, from: usize, area: &mut [u8])
+        requires { (from ≤ length area.old) × Symbols self.now.field.now.q area.old × (length self.now.row.now ≡ length area.old) }
+        ensures { MultipleAdded self.now.field.now.q self.now.v from (length area.old) self.now.row.now area.old area.new }
+    {
+        for i in (from..area.len()).rev() {
+            self.add_place(i, area);
+        }
+    }
+
+    // Adds the multiple to the area.
+    pub fn add(&self, area: &mut [u8])
+        requires { Symbols self.now.field.now.q area.old × (length self.now.row.now ≡ length area.old) }
+        ensures { MultipleAdded self.now.field.now.q self.now.v 0 (length area.old) self.now.row.now area.old area.new }
+    {
+        let done = self.add_fours(area);
+        self.add_from(done, area);
+    }
 }

@@ -1,7 +1,7 @@
 -- The block step's promise (01, "find the level-l code block within (d_l - 1)/2, rounded down, symbols"; a cost below d_l in place of halves rounded down).
 -- For a received block and a level either the information of a combination that is near, or that none is.
 -- Holds: `InformationTo`, `Step`.
-use Rattle.std.specs.Prelude.{Option, Some, None, List, ℕ, ◌+◌, ◌*◌, ◌≤◌, ◌<◌, length}
+use Rattle.std.specs.Prelude.{Option, Some, None, List, ℕ, ◌≤◌, ◌<◌}
 use Rattle.area.specs.Lists.{view}
 use Rattle.field.specs.parts.Sequences.{at, AllBelow}
 use Rattle.code.specs.declared.Setting.{Setting}
@@ -15,6 +15,6 @@ InformationTo p l x = (b r : ℕ) → b ≤ l → r < p.k → x b r < p.q
 -- near: the l+1 information blocks that were found, symbols below q, combine to a block at a cost of less than d_l; far: none was found, and every information
 -- costs d_l or more.
 pub data Step (p : Setting) (l : ℕ) (block : List ℕ) : Option (List ℕ) → Type 0 where
-  near : {information : List ℕ} → AllBelow p.q information → (l + 1) * p.k ≤ length information
+  near : {information : List ℕ} → AllBelow p.q information
       → level_cost p (at block) l (view p.k information) < level_distance p.n p.k l → Step p l block (Some information)
   far : ((x : ℕ → ℕ → ℕ) → InformationTo p l x → level_distance p.n p.k l ≤ level_cost p (at block) l x) → Step p l block None

@@ -5,5 +5,5 @@ use Rattle.field.specs.Symbols.{Symbols}
 use Rattle.tables.specs.parts.Rows.{longest_block}
 use Rattle.block_test.proofs.digits.Given as goal
 
-abbrev pub invariant-loop-i : goal.invariant-loop-i
-invariant-loop-i l = (length l.symbols ≡ longest_block) × Symbols l.q l.symbols
+abbrev pub invariant-loop-symbol : goal.invariant-loop-symbol
+invariant-loop-symbol l = (length l.symbol-items ≡ longest_block) × Symbols l.q l.symbol-items

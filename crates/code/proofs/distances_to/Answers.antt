@@ -1,25 +1,30 @@
--- `code::distances_to`: the sum of the distances up to level i.
-use mathlib.Core.Path.{ap₂, ◌∙◌}
+-- `code::distances_to`: the sum of the distances up to level l.
+use mathlib.Core.Path.{◌∙◌}
 use Prim.Native.Nat.{◌+◌}
 use native.Mathlib.Omega.{arith}
+use Rattle.std.proofs.Common.{rules}
+use Rattle.std.proofs.lemmas.Iterator.{YieldsList-from_map, YieldsList-from_range}
+use Rattle.std.proofs.lemmas.Iterator.Consumers.{sum_from_yields_List, fits_from_yields_list}
+use Rattle.code.specs.Code.{level_distance}
 use Rattle.code.proofs.Settings.{sizes}
-use Rattle.code.proofs.Distances.{distances_none, distances_more}
+use Rattle.code.proofs.Distances.{distances_sum, distances_small}
 use Rattle.code.proofs.distances_to.Goals as goal
 
-pub loop-i-init : goal.loop-i-init
-loop-i-init c = record {
-  small = omega (arith, c.level_distance-sum.ensures, (sizes c.args.p c.requires.0).symbols_most);
-  so_far = c.level_distance-sum.ensures ∙ distances_none c.args.p.n c.args.p.k;
-}
+pub sum-requires-clause-fits : goal.sum-requires-clause-fits
+sum-requires-clause-fits c =
+    let p = c.args.p in
+    let l = c.args.l in
+    let most = sizes p c.requires.0 in
+    fits_from_yields_list c.map.result _
+    (YieldsList-from_map _ (level_distance p.n p.k) (YieldsList-from_range 0 (l + 1) (l + 1) (cc) (omega arith)) c.map.ensures.closure
+    (λ x r q k. search rules))
+    (omega (arith, distances_sum p.n p.k l, distances_small p.n p.k l most.symbols_most, most.memory_most, c.requires.1))
 
-pub overflow_add-sum : goal.overflow_add-sum
-overflow_add-sum c =
-    let most = sizes c.args.p c.requires.0 in
-    omega (arith, most.symbols_most, most.memory_most, c.requires.1, c.level_distance-sum-in-loop-i.ensures, c.loop-i.invariant.small)
-
-pub loop-i-preserved : goal.loop-i-preserved
-loop-i-preserved c =
-    let l = c.loop-i in record {
-      small = omega (arith, (sizes c.args.p c.requires.0).symbols_most, c.level_distance-sum-in-loop-i.ensures, l.invariant.small);
-      so_far = ap₂ ◌+◌ l.invariant.so_far c.level_distance-sum-in-loop-i.ensures ∙ distances_more c.args.p.n c.args.p.k l.i;
-    }
+pub returns : goal.returns
+returns c =
+    let p = c.args.p in
+    let l = c.args.l in
+    sum_from_yields_List _ _ c.sum.ensures.ran
+    (YieldsList-from_map _ (level_distance p.n p.k) (YieldsList-from_range 0 (l + 1) (l + 1) (cc) (omega arith)) c.map.ensures.closure
+    (λ x r q k. search rules))
+    ∙ distances_sum p.n p.k l

@@ -11,10 +11,10 @@ pub invariant_of-table : goal.invariant_of-table
 unfolding all ops_of five modular
 invariant_of-table c = let l = lists_by_tests _ _ _ tt refl refl tt tt tt in record { good = l.0; lists = l.1 }
 
-pub invariant_of-table-then-q-eq8 : goal.invariant_of-table-then-q-eq8
+pub invariant_of-table-in-8 : goal.invariant_of-table-in-8
 unfolding all ops_of eight binary times_bits times_alpha
-invariant_of-table-then-q-eq8 c = let l = lists_by_tests _ _ _ tt refl refl tt tt tt in record { good = l.0; lists = l.1 }
+invariant_of-table-in-8 c = let l = lists_by_tests _ _ _ tt refl refl tt tt tt in record { good = l.0; lists = l.1 }
 
-pub invariant_of-table-2 : goal.invariant_of-table-2
+pub invariant_of-table-in_default : goal.invariant_of-table-in_default
 unfolding all ops_of sixteen binary times_bits times_alpha
-invariant_of-table-2 c = let l = lists_by_tests _ _ _ tt refl refl tt tt tt in record { good = l.0; lists = l.1 }
+invariant_of-table-in_default c = let l = lists_by_tests _ _ _ tt refl refl tt tt tt in record { good = l.0; lists = l.1 }

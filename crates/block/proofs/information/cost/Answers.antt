@@ -7,7 +7,7 @@ use Rattle.code.specs.parts.Cost.{block_cost}
 use Rattle.code.proofs.Cost.{cost_same, cost_differ}
 use Rattle.block.proofs.information.cost.Invariants.{symbol}
 use Rattle.block.proofs.information.cost.Goals as goal
-use Rattle.block.proofs.information.cost.Goals.{then-block-i, else-block-i}
+use Rattle.block.proofs.information.cost.Goals.{then-received-symbol, else-received-symbol}
 
 pub loop-i-init : goal.loop-i-init
 loop-i-init c = let a = c.args in (omega arith, total_none (symbol a.tables.now.setting a.information.now a.l a.block.now))
@@ -29,17 +29,17 @@ loop-i-preserved c =
     let l = c.loop-i in
     let a = c.args in
     let p = a.tables.now.setting in
-    elim c.if-block-i.branch [
-      | then-block-i w ↦ (
+    elim c.if-received-symbol.branch [
+      | then-received-symbol w ↦ (
         omega (arith, w.cost-is, l.invariant.0),
         w.cost-is ∙ (ap (λ (t : ℕ). t + 2) l.invariant.1
             ∙ total_more (symbol p a.information.now a.l a.block.now) l.i 2
-            (cost_differ p.q _ _ (λ e. w.if-block-i.true (e ∙ sym c.combination-symbol.ensures.same)))),
+            (cost_differ p.q _ _ (λ e. w.if-received-symbol.true (e ∙ sym c.combination-symbol.ensures.same)))),
       )
-      | else-block-i w ↦ (
+      | else-received-symbol w ↦ (
         omega (arith, w.cost-is, l.invariant.0),
         w.cost-is ∙ (l.invariant.1 ∙ total_same (symbol p a.information.now a.l a.block.now) l.i
-            (cost_same p.q _ _ (w.if-block-i.false ∙ c.combination-symbol.ensures.same))),
+            (cost_same p.q _ _ (w.if-received-symbol.false ∙ c.combination-symbol.ensures.same))),
       )
     ]
 

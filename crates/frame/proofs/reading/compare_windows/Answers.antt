@@ -1,55 +1,52 @@
--- `frame::reading::compare_windows`: the windows before j are near.
-use mathlib.Core.Path.{◌≡◌, ap, subst, ◌∙◌}
+-- `frame::reading::compare_windows`: each window in turn.
+use mathlib.Core.Path.{◌≡◌, refl, ap, subst, ◌∙◌}
+use mathlib.Core.Bool.{Bool, true, false}
 use mathlib.Core.List.{List}
-use Prim.Native.Nat.{ℕ, ◌+◌, ◌-◌, ◌*◌, ◌<◌}
+use Prim.Native.Nat.{ℕ, ◌+◌, ◌-◌, ◌*◌, ◌≤◌, ◌<◌}
 use native.Mathlib.Omega.{arith}
-use native.Mathlib.Decide.{dec_lt}
-use lib.ListN.{take, drop}
+use lib.ListN.{take, drop, length, get_or}
+use Rattle.std.specs.Bool.{MatchBool}
+use Rattle.std.specs.List.{range_with_len, AllWithin, HoldsAt}
+use Rattle.std.proofs.Common.{rules, tests}
+use Rattle.std.proofs.lemmas.Iterator.{cases_from_all, YieldsList-from_range}
+use Rattle.std.proofs.lemmas.List.FromFn.{get_or-range_with_len, length-range_with_len}
 use Rattle.area.proofs.Parts.{part_size}
-use Rattle.code.specs.Windows.{window_length}
+use Rattle.code.specs.declared.Setting.{Setting}
+use Rattle.code.specs.Code.{distances_to}
 use Rattle.code.specs.parts.Cost.{zero_cost}
-use Rattle.frame.specs.parts.Frame.{all_near, one_far}
-use Rattle.frame.proofs.reading.compare_windows.Invariants.{cost_at}
+use Rattle.code.specs.parts.Residual.{window_at}
+use Rattle.frame.specs.parts.Frame.{Compared, all_near, one_far}
 use Rattle.frame.proofs.reading.compare_windows.Goals as goal
 
--- The cost that was counted is the window's.
-counted : (q n size j cost : ℕ) (residual : List ℕ) → cost ≡ zero_cost q (take (j * n + size - j * n) (drop (j * n) residual))
-    → cost ≡ cost_at q n size residual j
-counted q n size j cost residual same = same ∙ ap (λ (t : ℕ). zero_cost q (take t (drop (j * n) residual))) (part_size size (j * n) residual)
+module _ (p : Setting) (T : ℕ) (residual : List ℕ) where
+  -- Window j is near, or it is far.
+  abbrev IsNear : ℕ → Type 0
+  IsNear j = zero_cost p.q (window_at p residual j) < distances_to p.n p.k p.m
 
--- One more window is near.
-more : (q n size bound j i : ℕ) (residual : List ℕ) → ((i : ℕ) → i < j → cost_at q n size residual i < bound) → cost_at q n size residual j < bound
-    → i < j + 1 → Dec (i < j) → cost_at q n size residual i < bound
-more q n size bound j i residual before here u (yes h) = before i h
-more q n size bound j i residual before here u (no d) =
-    let same : j ≡ i = omega arith in
-    subst (λ (t : ℕ). cost_at q n size residual t < bound) same here
+  abbrev IsFar : ℕ → Type 0
+  IsFar j = distances_to p.n p.k p.m ≤ zero_cost p.q (window_at p residual j)
 
-pub returns-then-bound-cost : goal.returns-then-bound-cost
-returns-then-bound-cost c =
-    let a = c.args in
-    let p = a.tables.now.setting in
-    let j = c.loop-j.j in
-    one_far j (omega arith)
-    (omega (
-      arith,
-      c.if-bound-cost.true,
-      counted p.q p.n (window_length p) j _ a.residual.now (c.zero_cost-cost.ensures p.q),
-      c.distances_to-bound.ensures,
-    ))
+  place : (j : ℕ) → j < T → get_or (range_with_len 0 T) j 0 ≡ j
+  place j l = get_or-range_with_len 0 T j 0 l ∙ (omega arith)
 
-pub loop-j-preserved : goal.loop-j-preserved
-loop-j-preserved c =
-    let a = c.args in
-    let p = a.tables.now.setting in
-    let l = c.loop-j in
-    λ q i u. more q p.n (window_length p) c.distances_to-bound.result l.j i a.residual.now (l.invariant q)
-    (omega (
-      arith,
-      c.if-bound-cost.false,
-      counted q p.n (window_length p) l.j _ a.residual.now (c.zero_cost-cost.ensures q),
-    ))
-    u (dec_lt i l.j)
+  -- The windows that were looked at are those from 0 on.
+  compared : (r : Bool) → MatchBool r (AllWithin IsNear (range_with_len 0 T) 0 (length (range_with_len 0 T)))
+      ((k : ℕ) × (k < length (range_with_len 0 T)) × HoldsAt IsFar (range_with_len 0 T) k) → Compared p T residual r
+  compared true near =
+      all_near (λ j l. subst IsNear (place j l) (near j 0 (omega arith) (omega (arith, l, length-range_with_len 0 T))))
+  compared false far =
+      let l : far.0 < T = omega (arith, far.1, length-range_with_len 0 T) in
+      one_far far.0 l (subst IsFar (place far.0 l) (far.2 0))
+
+-- The part that is cut out is the window.
+cut : (q n size j : ℕ) (residual : List ℕ) → zero_cost q (take (j * n + size - j * n) (drop (j * n) residual)) ≡ zero_cost q (take size (drop (j * n) residual))
+cut q n size j residual = ap (λ (t : ℕ). zero_cost q (take t (drop (j * n) residual))) (part_size size (j * n) residual)
 
 pub returns : goal.returns
-returns c = all_near (λ j l. rw c.distances_to-bound.ensures at (c.loop-j.invariant c.args.tables.now.setting.q j (omega arith)))
+returns c =
+    let p = c.args.tables.now.setting in
+    let T = c.args.blocks in
+    let residual = c.args.residual.now in
+    compared p T residual c.all.result
+    (cases_from_all _ _ c.all.result (IsNear p T residual) (IsFar p T residual) c.all.ensures.ran (YieldsList-from_range 0 T T refl (omega arith))
+    (λ x q k. (search (rules, tests), search (rules, tests, cut))) (λ x q k. search (rules, tests, cut)))

@@ -15,10 +15,10 @@ read_windows-requires c =
     settled_start t.setting t.ready.sound a.blocks a.residual.now c.requires.3 c.requires.2 _
     (c.fill.ensures.after (λ y e. e) ∙ ap (λ (t : ℕ). replicate t 0) c.requires.1)
 
-pub returns-then-read_windows : goal.returns-then-read_windows
-returns-then-read_windows c =
+pub returns-then-is_some : goal.returns-then-is_some
+returns-then-is_some c =
     frame_compared c.args.tables.now.ready.sound c.requires.3 c.requires.2 c.requires.0
-    (advance_more c.read_windows.ensures c.if-read_windows.true) c.compare_windows.ensures
+    (advance_more c.read_windows.ensures (rw c.is_some.ensures at c.if-is_some.true)) c.compare_windows.ensures
 
-pub returns-else-read_windows : goal.returns-else-read_windows
-returns-else-read_windows c = rw c.if-read_windows.false (none (stopped_none c.read_windows.ensures c.if-read_windows.false))
+pub returns-else-is_some : goal.returns-else-is_some
+returns-else-is_some c = rw c.if-is_some.false (none (stopped_none c.read_windows.ensures (rw c.is_some.ensures at c.if-is_some.false)))

@@ -19,14 +19,14 @@ turned : {p : Setting} {T : ℕ} {reception : List ℕ} {j : ℕ} {message resid
 turned {p} {T} {reception} {j} {message} {residual} S R P N turn =
     turn.advances reception R (settled_revised p S T reception R j message residual P j _ _ (omega arith) N)
 
-pub returns-in-None : goal.returns-in-None
-returns-in-None c =
-    let turn = turned c.args.tables.now.ready.sound c.requires.areas.residual_symbols c.loop-j.invariant c.guess_window.ensures c.in-None.ensures in
-    stopped (stopped_none turn refl)
+pub returns-in_err-first : goal.returns-in_err-first
+returns-in_err-first c =
+    let turn = turned c.args.tables.now.ready.sound c.requires.areas.residual_symbols c.loop-j.invariant c.guess_window.ensures c.in_err-first.ensures in
+    rw c.from_residual.ensures (stopped (stopped_none turn refl))
 
 pub loop-j-preserved : goal.loop-j-preserved
 loop-j-preserved c =
-    let turn = turned c.args.tables.now.ready.sound c.requires.areas.residual_symbols c.loop-j.invariant c.guess_window.ensures c.in-Some.ensures in
+    let turn = turned c.args.tables.now.ready.sound c.requires.areas.residual_symbols c.loop-j.invariant c.guess_window.ensures c.in_ok-first.ensures in
     advance_more turn refl
 
 pub returns : goal.returns

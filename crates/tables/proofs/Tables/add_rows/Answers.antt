@@ -33,14 +33,21 @@ overflow_mul-start c = omega (arith, row_in c.args.self.now.ready c.requires.0)
 pub overflow_add-end : goal.overflow_add-end
 overflow_add-end c = omega (arith, row_in c.args.self.now.ready c.requires.0)
 
-pub add_multiple-requires : goal.add_multiple-requires
-add_multiple-requires c =
+pub invariant_of-multiple : goal.invariant_of-multiple
+invariant_of-multiple c =
     let t = c.args.self.now in
     let p : Setting = t.setting in
-    let e = t.same_field in (
-      omega (arith, c.requires.1, e),
-      subst (λ (q : ℕ). Symbols q (row_of p t.rows c.args.r)) e (window_row_symbols p t.ready.sound t.rows t.ready.rows c.args.r c.requires.0),
-      subst (λ (q : ℕ). Symbols q c.args.window.now) e c.requires.3,
+    record {
+      below = omega (arith, c.requires.1, t.same_field);
+      symbols = subst (λ (q : ℕ). Symbols q (row_of p t.rows c.args.r)) t.same_field
+          (window_row_symbols p t.ready.sound t.rows t.ready.rows c.args.r c.requires.0);
+    }
+
+pub add-requires : goal.add-requires
+add-requires c =
+    let t = c.args.self.now in
+    let p : Setting = t.setting in (
+      subst (λ (q : ℕ). Symbols q c.args.window.now) t.same_field c.requires.3,
       part_length (window_length p) (c.args.r * window_length p) t.rows (row_in t.ready c.requires.0) ∙ sym c.requires.2,
     )
 
@@ -49,4 +56,4 @@ returns c =
     let t = c.args.self.now in
     let p : Setting = t.setting in
     rows_added p t.ready.sound t.rows t.ready.rows c.args.r c.requires.0 c.args.v c.args.window.now _ c.requires.2
-    (subst (λ (q : ℕ). MultipleAdded q c.args.v 0 (length c.args.window.now) (row_of p t.rows c.args.r) c.args.window.now c.add_multiple.new.area) (sym t.same_field) c.add_multiple.ensures)
+    (subst (λ (q : ℕ). MultipleAdded q c.args.v 0 (length c.args.window.now) (row_of p t.rows c.args.r) c.args.window.now c.add.new.area) (sym t.same_field) c.add.ensures)

@@ -1,10 +1,10 @@
--- `multiples::add_four`: symbol after symbol.
+-- `Multiple::add_four`: symbol after symbol.
 use mathlib.Core.List.{List}
 use Prim.Native.Nat.{ℕ, ◌+◌}
 use native.Mathlib.Omega.{arith}
 use Rattle.tables.specs.parts.RowsAdded.{MultipleAdded}
 use Rattle.tables.proofs.RowsAdded.{added_up}
-use Rattle.tables.proofs.multiples.add_four.Goals as goal
+use Rattle.tables.proofs.multiples.Multiple.add_four.Goals as goal
 
 -- One symbol more.
 next : {q v i : ℕ} {row before between after : List ℕ} (count : ℕ) → MultipleAdded q v i (i + count) row before between
@@ -18,13 +18,13 @@ pub add_place-requires-3 : goal.add_place-requires-3
 add_place-requires-3 c =
     let p = c.requires in
     let done = next 1 c.add_place.ensures c.add_place-2.ensures in
-    (p.0, p.1, done.symbols, omega (arith, p.3), omega (arith, p.4, done.long))
+    (done.symbols, omega (arith, p.1), omega (arith, p.2, done.long))
 
 pub add_place-requires-4 : goal.add_place-requires-4
 add_place-requires-4 c =
     let p = c.requires in
     let done = next 2 (next 1 c.add_place.ensures c.add_place-2.ensures) c.add_place-3.ensures in
-    (p.0, p.1, done.symbols, omega (arith, p.3), omega (arith, p.4, done.long))
+    (done.symbols, omega (arith, p.1), omega (arith, p.2, done.long))
 
 pub returns : goal.returns
 returns c = next 3 (next 2 (next 1 c.add_place.ensures c.add_place-2.ensures) c.add_place-3.ensures) c.add_place-4.ensures
