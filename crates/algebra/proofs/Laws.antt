@@ -62,9 +62,6 @@ module _ {F : Type 0} (K : Field F) where
   pub distrib : (a b c : F) → a ⊗ (b ⊕ c) ≡ a ⊗ b ⊕ a ⊗ c
   distrib = K.distributes
 
-  pub distrib_r : (a b c : F) → (a ⊕ b) ⊗ c ≡ a ⊗ c ⊕ b ⊗ c
-  distrib_r a b c = simp (mul_comm (a ⊕ b) c, mul_comm a c, mul_comm b c, distrib)
-
   pub add_neg : (a : F) → a ⊕ ⊖ a ≡ 𝟘
   add_neg = K.plus_neg
 
@@ -116,7 +113,6 @@ module _ {F : Type 0} (K : Field F) where
     mul_one,
     one-mul,
     distrib,
-    distrib_r,
     add_neg,
     add_neg_cancel,
     mul-zero,

@@ -2,8 +2,8 @@
 -- Holds: `front_weight`; `part_size`, `part_length`, `part_symbol`; `put_length`, `put_before`, `put_inside`, `put_after`.
 -- Of lists of parts of one size (`part_at`, `in_turn`): `parts_apart`, `length_part_at`, `part_at_symbol`; of a part put back (`with_part`) `part_put`,
 -- `length_put`, `part_put_before`, `drop_put`; of an area whose parts are known `take_in_turn`, `in_turn_of_parts`; `length_in_turn`, `part_at_in_turn`; of a
--- loop that puts one part after another `PartsTo`, `parts_none`, `parts_more`.
-use mathlib.Core.Path.{◌≡◌, refl, sym, ap, ap₂, ◌∙◌, subst}
+-- loop that puts one part after another `PartsTo`, `parts_more`.
+use mathlib.Core.Path.{◌≡◌, sym, ap, ap₂, ◌∙◌, subst}
 use mathlib.Core.List.{List, ◌++◌}
 use Prim.Native.Nat.{ℕ, zero, suc, ◌+◌, ◌-◌, ◌*◌, ◌≤◌, ◌<◌}
 use native.Mathlib.Nat.{mul-le-mul_right}
@@ -60,10 +60,6 @@ module _ (size f : ℕ) (l : List ℕ) where
 
   pub part_at_symbol : (i : ℕ) → i < size → get_or (part_at size f l) i 0 ≡ get_or l (f * size + i) 0
   part_at_symbol i h = search (rules, places)
-
--- What lies after part f lies a part further than what starts with it.
-drop_next : (size f : ℕ) (l : List ℕ) → drop ((f + 1) * size) l ≡ drop size (drop (f * size) l)
-drop_next size f l = search (rules, overwrites)
 
 -- A list of parts with ys in the place of part f, as a lent part leaves it, its number of elements as the code computes it.
 abbrev pub with_part : ℕ → ℕ → List ℕ → List ℕ → List ℕ
@@ -143,9 +139,6 @@ pub record PartsTo (size : ℕ) (g : ℕ → List ℕ) (before : List ℕ) (c : 
   pub parts : (f : ℕ) → f < c → part_at size f area ≡ g f
 
 module _ (size : ℕ) (g : ℕ → List ℕ) (before : List ℕ) where
-  pub parts_none : PartsTo size g before 0 before
-  parts_none = record { long = refl; parts = λ f h. absurd (omega arith) }
-
   -- One part more.
   pub parts_more : (c : ℕ) (area part : List ℕ) → c * size + size ≤ length before → length part ≡ size → part ≡ g c → PartsTo size g before c area
       → PartsTo size g before (c + 1) (with_part size c area part)

@@ -1,6 +1,5 @@
 -- The loops that recover information blocks from the values.
--- Holds: `falling_none`, `falling_more`; `back_none`, `back_more`, the powers of 1/α; `block_none`, `block_more`, `is_lacking`; `read_none`,
--- `read_more`.
+-- Holds: `falling_none`, `falling_more`; `back_none`, `back_more`, the powers of 1/α; `block_none`, `block_more`, `is_lacking`; `read_more`.
 use mathlib.Core.Path.{◌≡◌, refl, sym, ap, ap₂, subst, ◌∙◌}
 use mathlib.Core.List.{List}
 use Prim.Native.Nat.{ℕ, zero, suc, ◌+◌, ◌-◌, ◌*◌, ◌≤◌, ◌<◌}
@@ -8,18 +7,18 @@ use native.Mathlib.Nat.{mul-le-mul_right}
 use native.Mathlib.Numerals.{add-one}
 use native.Mathlib.Omega.{arith}
 use native.Mathlib.Decide.{ℕ_discrete}
-use lib.ListN.{length, take, drop, set, replicate}
+use lib.ListN.{length, set}
 use lib.Seq.{get_or-set_same, get_or-set_other}
 use Rattle.algebra.specs.Ops.{sub}
 use Rattle.algebra.specs.Sum.{power}
 use Rattle.algebra.specs.parts.Values.{falling}
-use Rattle.area.specs.Lists.{view}
-use Rattle.area.proofs.Parts.{part_size, part_symbol, put_before, put_inside, with_part}
+use Rattle.area.specs.Lists.{view, part_at}
+use Rattle.area.proofs.Parts.{part_at_symbol, put_before, put_inside, with_part}
 use Rattle.field.specs.parts.Operations.{Good, Is}
 use Rattle.field.specs.Fields.{ops_of, alpha}
 use Rattle.field.specs.parts.Sequences.{AllBelow, at}
 use Rattle.field.proofs.Laws.{laws_of, zero_below}
-use Rattle.field.proofs.Symbols.{symbol_below, put_symbols, all_symbols, zeros_below, below_set}
+use Rattle.field.proofs.Symbols.{symbol_below, put_symbols, all_symbols, below_set}
 use Rattle.code.specs.declared.Setting.{Setting}
 use Rattle.code.specs.Generator.{times_g}
 use Rattle.code.specs.parts.Recovery.{ending, Recovered}
@@ -107,7 +106,7 @@ module _ (p : Setting) (S : Sound p) where
 
     pub is_lacking : (i point sum end known lack r : ℕ) (information : List ℕ) → length values ≡ p.k → i < p.k
         → Is p.q sum (falling (ops_of p.q) (length values) (at values) point)
-        → Is p.q end ((ops_of p.q).neg sum) → Is p.q known (times_g (code_of p) (λ a. at information (0 + a)) 0 (p.n - p.k + i))
+        → Is p.q end ((ops_of p.q).neg sum) → Is p.q known (times_g (code_of p) (at information) 0 (p.n - p.k + i))
         → Is p.q lack (sub (ops_of p.q) end known)
         → Is p.q r ((ops_of p.q).add (at information i) lack) → Is p.q r (lacking p values point information (p.k - i))
     is_lacking i point sum end known lack r information long within s e g l h =
@@ -126,16 +125,10 @@ module _ (p : Setting) (S : Sound p) where
         ends = s.same ∙ ap (λ (k : ℕ). falling (ops_of p.q) k (at values) point) long
 
         knows : known ≡ times_g (code_of p) (at information) 0 (p.n - (p.k - i))
-        knows =
-            g.same ∙ ap (times_g (code_of p) (λ a. at information (0 + a)) 0) column
-            ∙ times_g_ext (code_of p) (λ a. at information (0 + a)) (at information) 0 (p.n - (p.k - i))
-            (λ a l. let none : 0 + a ≡ a = omega arith in ap (at information) none)
-
-    pub read_none : (w : ℕ) → InformationRead p 0 values (replicate w 0)
-    read_none w = record { below = zeros_below p.q S.good w; recovered = λ b l. absurd (omega arith) }
+        knows = g.same ∙ ap (times_g (code_of p) (at information) 0) column
 
     pub read_more : (b : ℕ) (information block : List ℕ) → b * p.k + p.k ≤ length information → length block ≡ p.k → InformationRead p b values information
-        → BlockRead p p.k (take (b * p.k + p.k - b * p.k) (drop (b * p.k) values)) block → InformationRead p (b + 1) values (with_part p.k b information block)
+        → BlockRead p p.k (part_at p.k b values) block → InformationRead p (b + 1) values (with_part p.k b information block)
     read_more b information block room long h new =
         record {
           below = symbol_below p.q _ (put_symbols start size information block p.q (all_symbols h.below) (all_symbols new.below)) (zero_below p.q S.good);
@@ -147,12 +140,6 @@ module _ (p : Setting) (S : Sound p) where
 
         size : ℕ
         size = b * p.k + p.k - b * p.k
-
-        sized : size ≡ p.k
-        sized = part_size p.k start values
-
-        part : List ℕ
-        part = take size (drop start values)
 
         after : List ℕ
         after = with_part p.k b information block
@@ -167,7 +154,7 @@ module _ (p : Setting) (S : Sound p) where
         by_block : (a : ℕ) → a < b + 1 → Dec (a ≡ b) → Recovered (code_of p) (view p.k values a) p.k (view p.k after a)
         by_block a l (yes e) =
             subst (λ (t : ℕ). Recovered (code_of p) (view p.k values t) p.k (view p.k after t)) (sym e)
-            (recovered_ext (at part) (view p.k values b) (at block) (view p.k after b) p.k (part_symbol p.k start values) inside new.recovered)
+            (recovered_ext (at (part_at p.k b values)) (view p.k values b) (at block) (view p.k after b) p.k (part_at_symbol p.k b values) inside new.recovered)
         by_block a l (no d) =
             let up : a + 1 ≤ b = omega arith in
             recovered_ext (view p.k values a) (view p.k values a) (view p.k information a) (view p.k after a) p.k (λ e s. refl)

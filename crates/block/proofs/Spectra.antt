@@ -1,5 +1,5 @@
 -- The loops on spectra: their promises before the first turn, and after one more.
--- Holds: `point_more`, `spectrum_more`, `known_none`; `found_longer`; `tail_ext`, `continued_none`, `continued_more`.
+-- Holds: `point_more`, `spectrum_more`, `known_none`; `found_longer`; `tail_ext`, `continued_more`.
 use mathlib.Core.Path.{◌≡◌, refl, sym, ap, ap₂, subst, ◌∙◌}
 use mathlib.Core.List.{List}
 use Prim.Native.Nat.{ℕ, zero, suc, ◌+◌, ◌-◌, ◌≤◌, ◌<◌}
@@ -14,7 +14,7 @@ use Rattle.algebra.proofs.Sums.{sum_ext}
 use Rattle.area.proofs.Lists.{stored}
 use Rattle.field.specs.parts.Operations.{Good, Is}
 use Rattle.field.specs.Fields.{ops_of, alpha}
-use Rattle.field.specs.parts.Sequences.{AllBelow, at}
+use Rattle.field.specs.parts.Sequences.{at}
 use Rattle.field.proofs.Laws.{laws_of}
 use Rattle.field.proofs.Symbols.{below_set}
 use Rattle.block.specs.declared.locator.Locator.{Locator}
@@ -79,15 +79,6 @@ tail_ext o L σ c d j h same =
     (λ a l. ap (o.mul (σ (a + 1))) (same (j - (a + 1)) (omega arith)))
 
 module _ (q L r : ℕ) (locator before : List ℕ) where
-  pub continued_none : (values : List ℕ) → AllBelow q before → AllBelow q values → Continued q L r 0 locator before before values
-  continued_none values h v =
-      record {
-        below = h;
-        values_below = v;
-        extended = record { kept = λ j l. refl; recurs = λ u l. absurd (omega arith); difference = λ u l. absurd (omega arith) };
-        beyond = λ j l. refl;
-      }
-
   pub continued_more : (u : ℕ) (after values : List ℕ) (rest v w : ℕ) → Continued q L r u locator before after values → r + 1 + u < length after
       → u < length values
       → Is q rest (tail (ops_of q) L (at locator) (at after) (r + 1 + u)) → Is q v ((ops_of q).add (at after (r + 1 + u)) rest) → Is q w ((ops_of q).neg rest)

@@ -16,6 +16,7 @@ ghost use Rattle.block.specs.parts.Step.{Step};
 
 use received::Received;
 use tables::Tables;
+use tables::combination::Combination;
 
 // Room for a longest block's spectrum and a 1 before it. Memory is fixed, so a series has this room whatever the setting, and the setting says how much of it counts.
 pub const PLACES: usize = tables::LONGEST_BLOCK + 1;
@@ -40,7 +41,12 @@ pub fn repair(tables: &Tables, block: &[u8], l: usize) -> Option<Information>
     if degree == 0 {
         return Some(information);
     }
-    let cost = information::cost(tables, &information, l, block, distance);
+    let combination = Combination {
+        tables,
+        information: &information,
+        l,
+    };
+    let cost = information::cost(&combination, block, distance);
     if cost < distance {
         return Some(information);
     }

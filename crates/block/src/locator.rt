@@ -113,6 +113,7 @@ impl Locator {
         }
         locator
     }
+
     // Continues the series from place r + 1 on by the recurrence of the locator, for `count` places; answers with what the series had there besides.
     pub fn extend(
         &self,

@@ -4,57 +4,36 @@
 // Writes for each setting and level: how many blocks, how many of them near, in how many the two agree.
 #![tactic(auto)]
 
-ghost use Rattle.std.specs.Prelude.{◌≡◌, ◌≤◌, ◌<◌, length};
-ghost use Rattle.field.specs.parts.Operations.{Good};
+ghost use Rattle.std.specs.Prelude.{◌≡◌, ◌+◌, ◌^◌, ◌≤◌, ◌<◌, length};
 ghost use Rattle.field.specs.Symbols.{Symbols};
 ghost use Rattle.code.specs.parts.SettingNumbers.{parameters_of};
 ghost use Rattle.tables.specs.parts.Rows.{longest_block};
 
 use code::SettingNumber;
 use std::io::Write;
+use std::ops::AddAssign;
+use tables::combination::Combination;
 use tables::{LONGEST_BLOCK, Tables};
 
-// A number's digits to the base q: its i-th block, or its i-th information.
-fn digits(q: usize, number: usize) -> [u8; LONGEST_BLOCK]
-    requires { Good q }
-    ensures { (length result ≡ longest_block) × Symbols q result }
-{
-    let mut symbols = [0u8; LONGEST_BLOCK];
-    let mut rest = number;
-    for symbol in &mut symbols {
-        *symbol = (rest % q) as u8;
-        rest /= q;
-    }
-    symbols
-}
-
-// A number with one digit more, its lowest. One that is too large for an information word stays as it is.
-fn with_digit(q: usize, number: usize, digit: u8) -> usize
-    requires { Good q }
-{
-    if 4194304 < number {
-        return number;
-    }
-    number * q + usize::from(digit)
-}
-
-// The number of which an information word's symbols are the digits to the base q.
-fn number_of(q: usize, information: &[u8]) -> usize
-    requires { Good q }
-{
-    let mut number: usize = 0;
-    for digit in information.iter().rev() {
-        number = with_digit(q, number, *digit);
-    }
-    number
-}
-
 // How many blocks were gone through, how many of them have information near, and on how many the block step and enumeration agree.
-#[derive(Clone, Copy)]
+#[derive(Clone, Copy, Default)]
 struct Tally {
     blocks: usize,
     near: usize,
     agree: usize,
+}
+
+// Those of two tallies together.
+impl AddAssign for Tally {
+    ghost can_add_assign = { λ all more. (all.blocks + more.blocks < 2 ^ 64) × (all.near + more.near < 2 ^ 64) × (all.agree + more.agree < 2 ^ 64) };
+
+    ghost add_assign_gives = { λ all more sum. (sum.blocks ≡ all.blocks + more.blocks) × (sum.near ≡ all.near + more.near) × (sum.agree ≡ all.agree + more.agree) };
+
+    fn add_assign(&mut self, more: Tally) {
+        self.blocks += more.blocks;
+        self.near += more.near;
+        self.agree += more.agree;
+    }
 }
 
 // One level of a setting: its limit d_l, and how many information words it has.
@@ -67,18 +46,31 @@ struct Level<'a> {
     ghost of_setting: { l ≤ tables.now.setting.m },
 }
 
-impl Level<'_> {
+// A received block, to be taken for one of a level.
+#[derive(Clone, Copy)]
+struct Received<'a> {
+    level: Level<'a>,
+    block: &'a [u8],
+    ghost symbols: { Symbols level.tables.now.setting.q block.now },
+    ghost long: { length block.now ≡ level.tables.now.setting.n },
+}
+
+impl Received<'_> {
     // Whether the information costs less than d_l. Counted anew, and not by `block::information::cost`: that is part of what is tested.
-    fn is_near(&self, information: &[u8], received: &[u8]) -> bool
-        requires { Symbols self.now.tables.now.setting.q information.now × (self.now.tables.now.setting.n ≤ length information.now) × (length received.now ≡ self.now.tables.now.setting.n) }
+    fn is_near(&self, information: &[u8]) -> bool
+        requires { Symbols self.now.level.tables.now.setting.q information.now × (self.now.level.tables.now.setting.n ≤ length information.now) }
     {
+        let combination = Combination {
+            tables: self.level.tables,
+            information,
+            l: self.level.l,
+        };
         let mut cost: usize = 0;
-        for (i, symbol) in received.iter().enumerate() {
-            if *symbol == self.tables.combination(information, self.l, i) {
-                continue;
+        for (i, &symbol) in self.block.iter().enumerate() {
+            if symbol != combination.symbol(i) {
+                cost += 2;
             }
-            cost += 2;
-            if self.distance <= cost {
+            if self.level.distance <= cost {
                 return false;
             }
         }
@@ -86,59 +78,74 @@ impl Level<'_> {
     }
 
     // The first information word that is near, by its number.
-    fn search(&self, received: &[u8]) -> Option<usize>
-        requires { length received.now ≡ self.now.tables.now.setting.n }
-    {
-        let q = self.tables.setting.q;
-        (0..self.words).find(|word| self.is_near(&digits(q, *word), received))
+    fn search(&self) -> Option<usize> {
+        (0..self.level.words).find(|word| self.is_near(&self.level.digits(*word)))
     }
 
     // The information with which the block step answers, by its number.
-    fn repaired(&self, received: &[u8]) -> Option<usize>
-        requires { (length received.now ≡ self.now.tables.now.setting.n) × Symbols self.now.tables.now.setting.q received.now }
-    {
-        let p = self.tables.setting;
-        let information = block::repair(self.tables, received, self.l)?;
-        Some(number_of(p.q, &information[..(self.l + 1) * p.k]))
+    fn repaired(&self) -> Option<usize> {
+        let information = block::repair(self.level.tables, self.block, self.level.l)?;
+        let symbols = (self.level.l + 1) * self.level.tables.setting.k;
+        Some(self.level.number_of(&information[..symbols]))
     }
 
-    // Whether the block step and enumeration agree on a block, and whether on information.
-    fn block(&self, number: usize) -> Tally
+    // Whether the block step and enumeration agree on the block, and whether on information.
+    fn tally(&self) -> Tally
         ensures { (result.blocks ≡ 1) × (result.near ≤ 1) × (result.agree ≤ 1) }
     {
-        let p = self.tables.setting;
-        let symbols = digits(p.q, number);
-        let received = &symbols[..p.n];
-        let found = self.repaired(received);
-        let agree = found == self.search(received);
+        let found = self.repaired();
+        let agree = found == self.search();
         Tally {
             blocks: 1,
             near: usize::from(agree && found.is_some()),
             agree: usize::from(agree),
         }
     }
+}
 
-    // Every block below `end` whose number is a multiple of the stride.
-    fn blocks(&self, stride: usize, end: usize) -> Tally
-        requires { (0 < stride) × (end ≤ 4194304) }
+impl Level<'_> {
+    // A number's digits to the base q, the lowest first: its i-th block, or its i-th information.
+    fn digits(&self, number: usize) -> [u8; LONGEST_BLOCK]
+        ensures { (length result ≡ longest_block) × Symbols self.now.tables.now.setting.q result }
     {
-        let mut all = Tally {
-            blocks: 0,
-            near: 0,
-            agree: 0,
-        };
+        let q = self.tables.setting.q;
+        let mut symbols = [0u8; LONGEST_BLOCK];
+        let mut rest = number;
+        for symbol in &mut symbols {
+            *symbol = (rest % q) as u8;
+            rest /= q;
+        }
+        symbols
+    }
+
+    // The number whose digits these are. Those of an information word are so few that it does not wrap.
+    fn number_of(&self, digits: &[u8]) -> usize {
+        let q = self.tables.setting.q;
+        digits.iter().rev().fold(0, |number: usize, digit| {
+            number.wrapping_mul(q).wrapping_add(usize::from(*digit))
+        })
+    }
+
+    // The block step and enumeration compared on every block below `end` whose number is a multiple of the stride.
+    fn tally(&self, stride: usize, end: usize) -> Tally
+        requires { 0 < stride }
+    {
+        let mut all = Tally::default();
         for number in (0..end).step_by(stride) {
-            let one = self.block(number);
-            all.blocks += one.blocks;
-            all.near += one.near;
-            all.agree += one.agree;
+            let symbols = self.digits(number);
+            let received = Received {
+                level: *self,
+                block: &symbols[..self.tables.setting.n],
+            };
+            all += received.tally();
         }
         all
     }
 }
 
-// One level of a setting: q^((l+1)k) information words, q^n blocks.
-fn compare(
+// Writes the tally of one level of a setting: of its q^((l+1)k) information words, and of the blocks below `end`, q^n if all are taken, whose number is a multiple of
+// the stride.
+fn write_tally(
     rt: &HostRuntime,
     number: SettingNumber,
     l: usize,
@@ -147,7 +154,7 @@ fn compare(
     stride: usize,
     end: usize,
 )
-    requires { (l ≤ (parameters_of number).m) × (0 < stride) × (end ≤ 4194304) }
+    requires { (l ≤ (parameters_of number).m) × (0 < stride) }
 {
     let tables = Tables::new(number);
     let level = Level {
@@ -156,7 +163,7 @@ fn compare(
         distance,
         words,
     };
-    let all = level.blocks(stride, end);
+    let all = level.tally(stride, end);
     let _ = writeln!(
         rt.stdout(),
         "{} {l} {} {} {}",
@@ -168,12 +175,12 @@ fn compare(
 }
 
 fn main(rt: HostRuntime) {
-    compare(&rt, SettingNumber::One, 0, 4, 5, 1, 625);
-    compare(&rt, SettingNumber::One, 1, 3, 25, 1, 625);
-    compare(&rt, SettingNumber::One, 2, 2, 125, 1, 625);
-    compare(&rt, SettingNumber::Two, 0, 6, 64, 523, 2097152);
-    compare(&rt, SettingNumber::Two, 1, 4, 4096, 523, 2097152);
-    compare(&rt, SettingNumber::Two, 2, 2, 262144, 16001, 2097152);
-    compare(&rt, SettingNumber::Three, 0, 5, 512, 523, 2097152);
-    compare(&rt, SettingNumber::Three, 1, 2, 262144, 16001, 2097152);
+    write_tally(&rt, SettingNumber::One, 0, 4, 5, 1, 625);
+    write_tally(&rt, SettingNumber::One, 1, 3, 25, 1, 625);
+    write_tally(&rt, SettingNumber::One, 2, 2, 125, 1, 625);
+    write_tally(&rt, SettingNumber::Two, 0, 6, 64, 523, 2097152);
+    write_tally(&rt, SettingNumber::Two, 1, 4, 4096, 523, 2097152);
+    write_tally(&rt, SettingNumber::Two, 2, 2, 262144, 16001, 2097152);
+    write_tally(&rt, SettingNumber::Three, 0, 5, 512, 523, 2097152);
+    write_tally(&rt, SettingNumber::Three, 1, 2, 262144, 16001, 2097152);
 }

@@ -11,6 +11,7 @@ pub mod CodeBelow
 pub mod Cost
 pub mod WindowBelow
 pub mod LevelBlocks
+pub mod FrameWindows
 pub mod Residuals
 pub mod ResidualSteps
 pub mod Messages

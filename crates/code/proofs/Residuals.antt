@@ -3,11 +3,9 @@
 use mathlib.Core.Path.{◌≡◌, refl, sym, ap, ap₂, fun_ext, ◌∙◌}
 use mathlib.Core.List.{List}
 use Prim.Native.Nat.{ℕ, suc, ◌+◌, ◌*◌, ◌≤◌, ◌<◌}
-use native.Mathlib.Nat.{mul-le-mul_right}
 use native.Mathlib.Omega.{arith}
 use lib.Arith.{digits_lt}
-use lib.ListN.{length, get_or, take, drop, length-drop}
-use lib.Seq.{length-take-le}
+use lib.ListN.{length, get_or}
 use Rattle.algebra.specs.Ops.{sub}
 use Rattle.algebra.proofs.Laws.{sub_self, add_of_sub, neg_unique, neg_mul}
 use Rattle.algebra.proofs.Weights.{total_ext}
@@ -22,15 +20,16 @@ use Rattle.code.specs.Level.{combination}
 use Rattle.code.specs.parts.Cost.{symbol_cost, cost_to, block_cost, rebuilt_cost, window_cost, zero_cost, message_cost}
 use Rattle.code.specs.Settings.{code_of}
 use Rattle.code.specs.parts.Sound.{Sound}
-use Rattle.code.specs.Windows.{window_length, Message}
+use Rattle.code.specs.Windows.{Message}
 use Rattle.code.specs.parts.InformationBlocks.{BlocksBelow}
-use Rattle.code.specs.parts.Residual.{IsResidual}
+use Rattle.code.specs.parts.Residual.{IsResidual, frame_length, window_at}
 use Rattle.code.proofs.Blocks.{combination_ext}
 use Rattle.code.proofs.Differences.{sent_sub, sent_ahead}
 use Rattle.code.proofs.CodeBelow.{laws, positive, field_of, root_of, over_field, keeps, number_zero, number_sub, lifted, number_lifted, sent_number}
 use Rattle.code.proofs.CodeBelow.{combination_number, message_below, sent_below}
 use Rattle.code.proofs.Cost.{cost_shift}
 use Rattle.code.proofs.WindowBelow.{zero_cost_lem}
+use Rattle.code.proofs.FrameWindows.{window_inside, length_window_at}
 
 -- Information blocks of x less those of g, from block j on.
 abbrev pub ahead : Setting → List ℕ → List ℕ → ℕ → ℕ → ℕ → ℕ
@@ -117,7 +116,7 @@ module _ (p : Setting) (S : Sound p) where
           (sent_number p S (view p.k g) (λ b r. G (b * p.k + r)) (j + s) i)
 
       -- Window j of the residual costs against what x has beyond g what window j of the reception costs where x was sent.
-      pub residual_window : window_cost p (take (window_length p) (drop (j * p.n) residual)) p.m (ahead p x g j) ≡ message_cost p reception x j
+      pub residual_window : window_cost p (window_at p residual j) p.m (ahead p x g j) ≡ message_cost p reception x j
       unfolding rebuilt_cost block_cost cost_to
       residual_window =
           total_ext (suc p.m) _ _ (λ s h. total_ext p.n _ _ (λ i u.
@@ -128,13 +127,11 @@ module _ (p : Setting) (S : Sound p) where
           (sent_below p S (view p.k g) (λ b r. G (b * p.k + r)) (j + s) i)))
 
     -- Its cost against zeros is the cost where g itself was sent.
-    pub residual_zero : Message p T g → length residual ≡ (T + p.m) * p.n → (j : ℕ) → j < T
-        → zero_cost p.q (take (window_length p) (drop (j * p.n) residual)) ≡ message_cost p reception g j
+    pub residual_zero : Message p T g → length residual ≡ frame_length p T → (j : ℕ) → j < T
+        → zero_cost p.q (window_at p residual j) ≡ message_cost p reception g j
     residual_zero M long j l =
-        let top : j + (p.m + 1) ≤ T + p.m = omega arith in
-        zero_cost_lem p S (take (window_length p) (drop (j * p.n) residual))
-        (length-take-le (window_length p) (drop (j * p.n) residual) (omega (arith, length-drop (j * p.n) residual, mul-le-mul_right p.n top)))
-        ∙ ap (window_cost p (take (window_length p) (drop (j * p.n) residual)) p.m) (sym (fun_ext (λ s. fun_ext (λ r. nothing ((j + s) * p.k + r)))))
+        zero_cost_lem p S (window_at p residual j) (length_window_at p residual j (omega (arith, window_inside p T j l, long)))
+        ∙ ap (window_cost p (window_at p residual j) p.m) (sym (fun_ext (λ s. fun_ext (λ r. nothing ((j + s) * p.k + r)))))
         ∙ residual_window g M j l (λ i u. refl)
       where
         nothing : (i : ℕ) → sub (ops_of p.q) (get_or g i 0) (get_or g i 0) ≡ 0

@@ -1,6 +1,6 @@
 -- What every setting satisfies (`Sound`), by one computed test over the list.
 -- Holds: `setting_range`, `sound_of`, `block_positive`, `level_fits`, `information_fits`; `Sizes`, `sizes`, `sizes_of` (the bounds that follow
--- for every setting there can be); of a `SettingNumber` `number_known`, `sound_of_number`, `sizes_of_number`; `largest_at`, `largest_of` (a setting's figure is at
+-- for every setting there can be); of a `SettingNumber` `number_known`, `sizes_of_number`; `largest_at`, `largest_of` (a setting's figure is at
 -- most the largest).
 use mathlib.Core.Bool.{Bool, true, ◌&&◌}
 use mathlib.Core.List.{List, [], ◌∷◌}
@@ -70,24 +70,21 @@ level_fits p S l h = let up : l + 1 ≤ p.m + 1 = omega arith in omega (arith, m
 pub information_fits : (p : Setting) → Sound p → p.k ≤ p.n
 information_fits p S = omega (arith, level_fits p S 0 (omega arith))
 
--- A symbol is a byte, so a block has at most 255 of them; memory and information are bounded with it.
+-- A symbol is a byte, so a block has at most 255 of them; memory is bounded with it.
 pub record Sizes (p : Setting) : Type 0 where
   pub symbols : 1 ≤ p.n
   pub symbols_most : p.n ≤ 255
   pub information : 1 ≤ p.k
-  pub information_most : p.k ≤ 255
   pub memory_most : p.m ≤ 255
 
 pub sizes : (p : Setting) → Sound p → Sizes p
 sizes p S =
-    let least : 1 ≤ p.m + 1 = omega arith in
     let all : p.m + 1 ≤ p.m + 1 = omega arith in
     let most : p.n ≤ 255 = omega (arith, S.block, good_small p.q S.good) in
     record {
       symbols = block_positive p S;
       symbols_most = most;
       information = S.information;
-      information_most = omega (arith, S.room, mul-le-mul_right p.k least);
       memory_most = omega (arith, S.room, mul-le-mul all S.information);
     }
 
@@ -101,9 +98,6 @@ number_known Two = tt
 number_known Three = tt
 number_known Four = tt
 number_known Five = tt
-
-pub sound_of_number : (s : SettingNumber) → Sound (parameters_of s)
-sound_of_number s = sound_of (number_of s) (number_known s)
 
 pub sizes_of_number : (s : SettingNumber) → Sizes (parameters_of s)
 sizes_of_number s = sizes_of (number_of s) (number_known s)

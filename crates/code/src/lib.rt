@@ -1,16 +1,18 @@
 // The code of document 01 in specs/, and what is true of it in proofs/; the settings at run time.
 #![tactic(auto)]
 
-ghost use Rattle.std.specs.Prelude.{◌≡◌, ◌≤◌};
+ghost use Rattle.std.specs.Prelude.{◌≡◌, ◌+◌, ◌*◌, ◌≤◌, length};
 ghost use Rattle.code.specs.Code.{level_distance, distances_to};
 ghost use Rattle.code.specs.Settings.{setting};
+ghost use Rattle.code.specs.Windows.{window_length};
+ghost use Rattle.code.specs.parts.Residual.{window_at};
 ghost use Rattle.code.specs.parts.SettingNumbers.{number_of, parameters_of, Chosen};
 ghost use Rattle.code.specs.parts.Sound.{Sound};
 
 // The number of a setting: "Question 1 admits 1 to 5" (02, #101).
 #[derive(Clone, Copy, Debug, PartialEq, Eq)]
 pub enum SettingNumber {
-    One,
+    One = 1,
     Two,
     Three,
     Four,
@@ -44,13 +46,7 @@ impl From<SettingNumber> for u64 {
     ghost from_gives = { λ setting number. number ≡ number_of setting };
 
     fn from(setting: SettingNumber) -> u64 {
-        match setting {
-            SettingNumber::One => 1,
-            SettingNumber::Two => 2,
-            SettingNumber::Three => 3,
-            SettingNumber::Four => 4,
-            SettingNumber::Five => 5,
-        }
+        setting as u64
     }
 }
 
@@ -100,4 +96,23 @@ pub fn distances_to(p: Setting, l: usize) -> usize
     ensures { result ≡ distances_to p.n p.k l }
 {
     (0..l + 1).map(|i| level_distance(p, i)).sum()
+}
+
+// How many symbols a window has: m+1 blocks of n.
+pub fn window_length(p: Setting) -> usize
+    requires { Sound p }
+    ensures { result ≡ window_length p }
+{
+    (p.m + 1) * p.n
+}
+
+// Window j of a frame: the m+1 blocks from block j on.
+pub fn window_of_frame(p: Setting, frame: &[u8], j: usize) -> &[u8]
+    requires { Sound p × (j * p.n + window_length p ≤ length frame.now) }
+    ensures window { result.now ≡ window_at p frame.now j }
+    ensures long { length result.now ≡ window_length p }
+{
+    let start = j * p.n;
+    let end = start + window_length(p);
+    &frame[start..end]
 }

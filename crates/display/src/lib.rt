@@ -4,9 +4,10 @@
 
 pub mod mark;
 
-ghost use Rattle.std.specs.Prelude.{◌≡◌, ◌+◌, ◌*◌, ◌<◌, length, take, drop};
+ghost use Rattle.std.specs.Prelude.{◌≡◌, ◌<◌, length};
 ghost use Rattle.code.specs.parts.SettingNumbers.{parameters_of};
 ghost use Rattle.code.specs.Windows.{window_length};
+ghost use Rattle.code.specs.parts.Residual.{frame_length, window_at};
 ghost use Rattle.question.specs.Questions.{first_no, display_questions};
 ghost use Rattle.question.specs.Refusals.{asked};
 ghost use Rattle.display.specs.Display.{window_of};
@@ -32,7 +33,7 @@ impl From<Result<Differences, Refusal>> for Marks {
 
     fn from(outcome: Result<Differences, Refusal>) -> Marks {
         let answer = Answer::from(outcome.map(|_| 0));
-        let found = outcome.unwrap_or(Differences { marks: 0, set: 0 });
+        let found = outcome.unwrap_or_default();
         Marks {
             answer,
             marks: found.marks,
@@ -41,16 +42,15 @@ impl From<Result<Differences, Refusal>> for Marks {
     }
 }
 
-// Window j of a frame of this shape: the m+1 blocks from block j on.
-fn part(shape: Shape, frame: &[u8], j: u64) -> &[u8]
+// Window j of a frame of this shape.
+fn window_part(shape: Shape, frame: &[u8], j: u64) -> &[u8]
     requires inside { j < shape.blocks }
-    requires long { length frame.now ≡ (shape.blocks + (parameters_of shape.setting).m) * (parameters_of shape.setting).n }
-    ensures { result.now ≡ take (window_length (parameters_of shape.setting)) (drop (j * (parameters_of shape.setting).n) frame.now) }
+    requires long { length frame.now ≡ frame_length (parameters_of shape.setting) shape.blocks }
+    ensures window { result.now ≡ window_at (parameters_of shape.setting) frame.now j }
+    ensures long { length result.now ≡ window_length (parameters_of shape.setting) }
 {
     let p = shape.parameters();
-    let from = (j as usize) * p.n;
-    let to = from + (p.m + 1) * p.n;
-    &frame[from..to]
+    code::window_of_frame(p, frame, j as usize)
 }
 
 // Window j of a reception; where one of questions 1, 2, 3 and 12 gets "no", empty and no `Err`: 01 wants the part, and `window_answer` says why.
@@ -60,7 +60,7 @@ pub fn window(number: u64, reception: &[u8], j: u64) -> &[u8]
     let Ok(shape) = question::display_questions(number, reception.len(), j) else {
         return &reception[..0];
     };
-    part(shape, reception, j)
+    window_part(shape, reception, j)
 }
 
 // Whether `window` shows the window, or why it does not.

@@ -2,11 +2,11 @@
 ghost use Rattle.std.specs.Prelude.{◌≡◌, not, ◌≤◌, eqb, length, get_or};
 ghost use Rattle.display.specs.Marks.{bits, marks_answer, Marked};
 
-use super::part;
+use super::window_part;
 use question::refusal::Refusal;
 
 // The differences in a window, one bit a symbol, the earliest lowest, and how many are set.
-#[derive(Clone, Copy)]
+#[derive(Clone, Copy, Default)]
 pub struct Differences {
     pub marks: u64,
     pub set: u32,
@@ -32,8 +32,8 @@ pub fn marks(
     ensures { Marked number reception.now transmission.now j (marks_answer result) }
 {
     let shape = question::marks_questions(number, reception.len(), transmission.len(), j)?;
-    let received = part(shape, reception, j);
-    let sent = part(shape, transmission, j);
+    let received = window_part(shape, reception, j);
+    let sent = window_part(shape, transmission, j);
     let marks = difference_bits(received, sent);
     Ok(Differences {
         marks,

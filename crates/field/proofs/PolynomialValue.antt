@@ -1,14 +1,12 @@
 -- The value of a polynomial from that of its rest, the coefficients from a place on (01, "The transmission").
--- Holds: `rest_shorter`, `rest_lent`; `value_of_none`, `value_of_more`, `value_of_all`; `step`, `folded_value`.
-use mathlib.Core.Path.{◌≡◌, refl, sym, ap, ◌∙◌, subst}
-use mathlib.Core.List.{List, [], ◌∷◌, ◌++◌, reverse}
+-- Holds: `rest_shorter`, `rest_lent`; `value_of_none`, `value_of_more`, `value_of_all`.
+use mathlib.Core.Path.{◌≡◌, sym, ap, ◌∙◌, subst}
+use mathlib.Core.List.{List}
 use Prim.Native.Nat.{ℕ, suc, ◌-◌, ◌≤◌, ◌<◌}
 use native.Mathlib.Omega.{arith}
 use lib.ListN.{length, get_or, take, drop, length-take, length-drop}
 use lib.Seq.{drop-length, drop-cons}
 use borrow.Author.Rules.{part_to_end}
-use Rattle.std.specs.List.{fold}
-use Rattle.std.proofs.lemmas.Grind.{reverse_onto, fold-append}
 use Rattle.algebra.specs.Polynomial.{value}
 use Rattle.field.specs.parts.Operations.{Good, Is}
 use Rattle.field.specs.Fields.{ops_of}
@@ -44,15 +42,3 @@ module _ (q x : ℕ) where
   -- Before no coefficient the rest is the whole.
   pub value_of_all : (l : List ℕ) (i r : ℕ) → i ≤ 0 → Is q r (value (ops_of q) (drop i l) x) → Is q r (value (ops_of q) l x)
   value_of_all l i r none = let first : i ≡ 0 = omega arith in subst (λ (k : ℕ). Is q r (value (ops_of q) (drop k l) x)) first
-
--- The value as a fold makes it, from the last of the first coefficients down.
-abbrev pub step : ℕ → ℕ → ℕ → ℕ → ℕ
-step q x s a = (ops_of q).add a ((ops_of q).mul x s)
-
-pub folded_value : (q x : ℕ) (first rest : List ℕ) → fold (step q x) (value (ops_of q) rest x) (reverse first) ≡ value (ops_of q) (first ++ rest) x
-unfolding value
-folded_value q x [] rest = refl
-folded_value q x (a ∷ first) rest =
-    ap (fold (step q x) (value (ops_of q) rest x)) (reverse_onto first a [])
-    ∙ fold-append (step q x) (value (ops_of q) rest x) (reverse first) (a ∷ [])
-    ∙ ap (λ (t : ℕ). step q x t a) (folded_value q x first rest)

@@ -1,7 +1,7 @@
 -- Lists of symbols: parts, joins and stores keep every element below q.
 -- Holds: `symbol_below`, `symbols_take`, `symbols_drop`, `symbols_part`, `symbols_append`,
 -- `symbols_none`, `symbols_more`, `symbols_set`, `symbols_zeros`, `put_symbols` (another part in its place);
--- of sequences: `below_set`, `all_symbols`, `zeros_below`.
+-- of sequences: `below_set`, `all_symbols`.
 use mathlib.Core.Path.{◌≡◌, refl, sym, ap, ◌∙◌, subst}
 use mathlib.Core.Bool.{Bool, true, false}
 use mathlib.Core.List.{List, [], ◌∷◌, ◌++◌}
@@ -15,11 +15,8 @@ use lib.ListN.{get_or-eq_default, get_or-append}
 use lib.Seq.{get_or-take, get_or-drop, get_or-append-add, get_or-set_same, get_or-set_other, set_out}
 use borrow.Author.Tests.{ltb-true, ltb-false, eqb-true, eqb-false}
 use borrow.Rule.Slice.PartMut.{put_mid}
-use Rattle.area.proofs.Lists.{get_d_zeros}
-use Rattle.field.specs.parts.Operations.{Good}
 use Rattle.field.specs.Symbols.{Symbols}
 use Rattle.field.specs.parts.Sequences.{AllBelow}
-use Rattle.field.proofs.Laws.{zero_below}
 
 module _ (q : ℕ) where
   below_of : {a b : ℕ} → a ≡ b → b < q → a < q
@@ -121,7 +118,3 @@ below_set q l i v h b j = at (ℕ_discrete j i) (dec_lt i (length l))
 -- Symbols, all of them below q.
 pub all_symbols : {q : ℕ} {l : List ℕ} → AllBelow q l → Symbols q l
 all_symbols a = record { below = λ i h. a i }
-
--- Zeros are below q.
-pub zeros_below : (q : ℕ) → Good q → (w : ℕ) → AllBelow q (replicate w 0)
-zeros_below q good w i = subst (λ (t : ℕ). t < q) (sym (get_d_zeros w i)) (zero_below q good)

@@ -211,10 +211,11 @@ impl Field {
         requires { Symbols self.now.q c.now × (count ≤ length c.now) × (x < self.now.q) × Is self.now.q rest (polynomial.value (ops_of self.now.q) (drop count c.now) x) }
         ensures { Is self.now.q result (polynomial.value (ops_of self.now.q) c.now x) }
     {
-        c[..count]
-            .iter()
-            .rev()
-            .fold(rest, |sum, a| self.add_product(*a, x, sum))
+        let mut sum = rest;
+        for i in (0..count).rev() {
+            sum = self.add_product(c[i], x, sum);
+        }
+        sum
     }
 
     // The value of the polynomial with the coefficients c, lowest power first, at x: "The value of a polynomial without coefficients is 0;

@@ -1,11 +1,11 @@
 -- One turn at the frame: from what window j says to how far the guess is settled.
 -- Holds: `window_clean` (a window near zeros); `search_some`, `search_few`, `search_below`; `advance_none`, `advance_clean`, `advance_found`; `advance_more`, `stopped_none`.
-use mathlib.Core.Path.{◌≡◌, refl, sym, ap, subst}
+use mathlib.Core.Path.{◌≡◌, refl, sym, subst}
 use mathlib.Core.Bool.{Bool, true, false}
 use mathlib.Core.List.{List}
-use Prim.Native.Nat.{ℕ, ◌+◌, ◌-◌, ◌*◌, ◌<◌, ◌≤◌}
+use Prim.Native.Nat.{ℕ, ◌+◌, ◌<◌, ◌≤◌}
 use native.Mathlib.Omega.{arith}
-use lib.ListN.{length, get_or, take, drop}
+use lib.ListN.{length, get_or}
 use Rattle.std.specs.Prelude.{Some, None}
 use Rattle.algebra.proofs.Tests.{false_not_true}
 use Rattle.field.specs.Symbols.{Symbols}
@@ -44,27 +44,19 @@ module _ {p : Setting} {window : List ℕ} {found : Found} where
   search_below (served some few below first) = below
 
 module _ {p : Setting} (S : Sound p) {T : ℕ} {reception : List ℕ} (R : Symbols p.q reception)
-    {j : ℕ} {message residual : List ℕ} (P : Settled p T reception j message residual) (l : j < T) where
-  abbrev window : List ℕ
-  window = take (j * p.n + window_length p - j * p.n) (drop (j * p.n) residual)
-
-  same_window : window ≡ window_at p residual j
-  same_window =
-      let wide : j * p.n + window_length p - j * p.n ≡ window_length p = omega arith in
-      ap (λ (t : ℕ). take t (drop (j * p.n) residual)) wide
-
+    {j : ℕ} {message residual : List ℕ} (P : Settled p T reception j message residual) (l : j < T) {window : List ℕ} (is : window ≡ window_at p residual j) where
   -- No information is near: no message fits, whatever the areas hold.
   pub advance_none : {i : ℕ} {message' residual' : List ℕ} → LevelSearch p window None → Advanced p T reception i message' residual' false
   advance_none (none_serves far) =
       stopped (settled_none p S T reception R j message residual P l
-      (λ y Y near. far y Y (subst (λ (w : List ℕ). Near p w p.m y) (sym same_window) near)))
+      (λ y Y near. far y Y (subst (λ (w : List ℕ). Near p w p.m y) (sym is) near)))
 
   -- The residual of the window is light: the guess of its first block is right.
   pub advance_clean : length window ≡ window_length p → {cost : ℕ} → cost ≡ zero_cost p.q window → cost < distances_to p.n p.k p.m
       → Advanced p T reception (j + 1) message residual true
   advance_clean long_window counted few =
       advanced (settled_found p S T reception R j message residual P (λ r. 0) message residual l
-      (λ y Y near r u. window_clean p S window long_window (omega arith) y Y (subst (λ (w : List ℕ). Near p w p.m y) (sym same_window) near) r u)
+      (λ y Y near r u. window_clean p S window long_window (omega arith) y Y (subst (λ (w : List ℕ). Near p w p.m y) (sym is) near) r u)
       (added_zero S P.areas (λ r. refl)))
 
   -- What was found went into the message.
@@ -73,7 +65,7 @@ module _ {p : Setting} (S : Sound p) {T : ℕ} {reception : List ℕ} (R : Symbo
       → Advanced p T reception (j + 1) message' residual' true
   advance_found {found} {message' = message'} {residual' = residual'} (served some few below first) D =
       advanced (settled_found p S T reception R j message residual P (λ r. get_or found.information r 0) message' residual' l
-      (λ y Y near r u. first y Y (subst (λ (w : List ℕ). Near p w p.m y) (sym same_window) near) r u) D)
+      (λ y Y near r u. first y Y (subst (λ (w : List ℕ). Near p w p.m y) (sym is) near) r u) D)
 
 module _ {p : Setting} {T : ℕ} {reception : List ℕ} {j : ℕ} {message residual : List ℕ} where
   -- A turn that did not stop has advanced..

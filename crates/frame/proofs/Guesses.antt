@@ -10,8 +10,8 @@ use native.Mathlib.Omega.{arith}
 use native.Mathlib.Decide.{dec_lt, dec_le, ℕ_discrete}
 use lib.Arith.{digits_lt}
 use lib.Dec.{leb, eqb}
-use lib.ListN.{length, get_or, take, drop, set, length-set, length-drop}
-use lib.Seq.{length-take-le, get_or-set_same, get_or-set_other}
+use lib.ListN.{length, get_or, take, drop, set, length-set}
+use lib.Seq.{get_or-set_same, get_or-set_other}
 use borrow.Author.Tests.{le-leb, lt-leb, eq-eqb, ne_eqb}
 use borrow.Rule.Slice.PartMut.{put_mid}
 use Rattle.algebra.specs.Ops.{sub, pick}
@@ -29,6 +29,7 @@ use Rattle.code.specs.parts.Sound.{Sound}
 use Rattle.code.specs.Windows.{window_length}
 use Rattle.code.specs.parts.InformationBlocks.{only}
 use Rattle.code.proofs.CodeBelow.{laws, positive, row_symbol_below}
+use Rattle.code.proofs.FrameWindows.{window_inside, length_window_at}
 use Rattle.code.proofs.Residuals.{add_opposite}
 use Rattle.code.proofs.ResidualSteps.{times_g_only, lessened, residual_step}
 use Rattle.tables.specs.parts.RowsAdded.{plus_row, RowsAdded}
@@ -36,9 +37,7 @@ use Rattle.frame.specs.parts.Frame.{FrameAreas, Revised, Adjusted, Added}
 
 -- Window j lies within the residual, and message block j within the message.
 pub window_room : (p : Setting) (T j : ℕ) (message residual : List ℕ) → FrameAreas p T message residual → j < T → j * p.n + window_length p ≤ length residual
-window_room p T j message residual A l =
-    let top : j + (p.m + 1) ≤ T + p.m = omega arith in
-    omega (arith, mul-le-mul_right p.n top, A.residual_long)
+window_room p T j message residual A l = omega (arith, window_inside p T j l, A.residual_long)
 
 pub symbol_room : (p : Setting) (T j r : ℕ) (message residual : List ℕ) → FrameAreas p T message residual → j < T → r < p.k → j * p.k + r < length message
 symbol_room p T j r message residual A l u =
@@ -77,7 +76,7 @@ module _ (p : Setting) (S : Sound p) (T j r v : ℕ) (message residual : List �
   residual_room = window_room p T j message residual A lj
 
   window_long : length window' ≡ window_length p
-  window_long = L.long ∙ length-take-le (window_length p) (drop (j * p.n) residual) (omega (arith, length-drop (j * p.n) residual, residual_room))
+  window_long = L.long ∙ length_window_at p residual j residual_room
 
   h : List ℕ
   h = set message (j * p.k + r) w
@@ -177,11 +176,11 @@ module _ (p : Setting) (S : Sound p) (T j r v : ℕ) (message residual : List �
 
 -- The same with the sizes as the code computes them.
 pub adjusted : (p : Setting) → Sound p → (T j r v : ℕ) (message residual : List ℕ) → FrameAreas p T message residual → j < T → r < p.k → v < p.q
-    → (w : ℕ) → w ≡ (ops_of p.q).add (get_or message (j * p.k + r) 0) v → (u : ℕ) → u < p.q → (ops_of p.q).add v u ≡ 0 → (window' : List ℕ)
-    → RowsAdded p r u (take (j * p.n + window_length p - j * p.n) (drop (j * p.n) residual)) window'
-    → Adjusted p T j r v message residual (set message (j * p.k + r) w) (put_mid (j * p.n) (j * p.n + window_length p - j * p.n) residual window')
-adjusted p S T j r v message residual A lj lr lv w sum u lu opposite window' =
-    let wide : j * p.n + window_length p - j * p.n ≡ window_length p = omega arith in
+    → (w : ℕ) → w ≡ (ops_of p.q).add (get_or message (j * p.k + r) 0) v → (u : ℕ) → u < p.q → (ops_of p.q).add v u ≡ 0 → (size : ℕ) → size ≡ window_length p → (window' : List ℕ)
+    → RowsAdded p r u (take (j * p.n + size - j * p.n) (drop (j * p.n) residual)) window'
+    → Adjusted p T j r v message residual (set message (j * p.k + r) w) (put_mid (j * p.n) (j * p.n + size - j * p.n) residual window')
+adjusted p S T j r v message residual A lj lr lv w sum u lu opposite size is window' =
+    let wide : j * p.n + size - j * p.n ≡ window_length p = omega (arith, is) in
     subst (λ (t : ℕ). RowsAdded p r u (take t (drop (j * p.n) residual)) window'
     → Adjusted p T j r v message residual (set message (j * p.k + r) w) (put_mid (j * p.n) t residual window')) (sym wide)
     (adjusted_exact p S T j r v message residual A lj lr lv w sum u lu opposite window')

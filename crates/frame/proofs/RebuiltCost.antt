@@ -1,13 +1,12 @@
 -- What rebuilt blocks of a window cost, as a loop adds it up. Holds: `rebuilt_term`, `rebuilt_all`; `part_cost`.
-use mathlib.Core.Path.{◌≡◌, ap, ◌∙◌}
+use mathlib.Core.Path.{◌≡◌, ap}
 use mathlib.Core.List.{List}
-use Prim.Native.Nat.{ℕ, ◌+◌, ◌-◌, ◌*◌}
+use Prim.Native.Nat.{ℕ, ◌+◌}
 use native.Mathlib.Numerals.{add-one}
-use lib.ListN.{get_or, take, drop}
 use Rattle.algebra.specs.Weight.{total}
 use Rattle.algebra.proofs.Weights.{total_ext}
-use Rattle.area.specs.Lists.{view}
-use Rattle.area.proofs.Parts.{part_symbol}
+use Rattle.area.specs.Lists.{view, part_at}
+use Rattle.area.proofs.Parts.{part_at_symbol}
 use Rattle.field.specs.parts.Sequences.{at}
 use Rattle.code.specs.declared.Setting.{Setting}
 use Rattle.code.specs.Level.{combination}
@@ -23,9 +22,8 @@ unfolding rebuilt_cost
 rebuilt_all p window y l = ap (λ (t : ℕ). total t (rebuilt_term p window y)) (add-one l)
 
 -- A block of a window, as the part that is lent, costs what the block costs.
-pub part_cost : (p : Setting) (s start l : ℕ) (window : List ℕ) (y : ℕ → ℕ → ℕ) → start ≡ s * p.n
-    → level_cost p (at (take (start + p.n - start) (drop start window))) l y ≡ level_cost p (view p.n window s) l y
+pub part_cost : (p : Setting) (s l : ℕ) (window : List ℕ) (y : ℕ → ℕ → ℕ)
+    → level_cost p (at (part_at p.n s window)) l y ≡ level_cost p (view p.n window s) l y
 unfolding block_cost
-part_cost p s start l window y e =
-    total_ext p.n _ _ (λ i h. ap (λ (t : ℕ). symbol_cost p.q t (combination (code_of p) l y i))
-    (part_symbol p.n start window i h ∙ ap (λ (t : ℕ). get_or window (t + i) 0) e))
+part_cost p s l window y =
+    total_ext p.n _ _ (λ i h. ap (λ (t : ℕ). symbol_cost p.q t (combination (code_of p) l y i)) (part_at_symbol p.n s window i h))

@@ -4,84 +4,10 @@ ghost use Rattle.std.specs.Prelude.{◌≡◌, ◌+◌, ◌*◌, ◌≤◌, ◌<
 ghost use Rattle.field.specs.Symbols.{Symbols};
 ghost use Rattle.frame.specs.parts.Frame.{FrameAreas, Revised, Adjusted, Added};
 
+use super::Frame;
 use super::window::Found;
 use code::Setting;
 use tables::Tables;
-
-// Adds v to symbol r of block i of the message, and takes what it sends out of the residual.
-fn adjust(
-    tables: &Tables,
-    blocks: usize,
-    i: usize,
-    r: usize,
-    v: u8,
-    message: &mut [u8],
-    residual: &mut [u8],
-)
-    requires { (i < blocks) × (r < tables.now.setting.k) × (v < tables.now.setting.q) × FrameAreas tables.now.setting blocks message.old residual.old }
-    ensures { Adjusted tables.now.setting blocks i r v message.old residual.old message.new residual.new }
-{
-    let p = tables.setting;
-    let place = i * p.k + r;
-    let size = (p.m + 1) * p.n;
-    let start = i * p.n;
-    let end = start + size;
-    let sum = tables.field.add(message[place], v);
-    message[place] = sum;
-    let less = tables.field.negate(v);
-    tables.add_rows(r, less, &mut residual[start..end]);
-}
-
-// Adds an information block to block i of the message, if it has such a block.
-fn add_block(
-    tables: &Tables,
-    blocks: usize,
-    i: usize,
-    block: &[u8],
-    message: &mut [u8],
-    residual: &mut [u8],
-)
-    requires { Symbols tables.now.setting.q block.now × (length block.now ≡ tables.now.setting.k) × FrameAreas tables.now.setting blocks message.old residual.old }
-    ensures { Added tables.now.setting blocks i (λ r. get_or block.now r 0) message.old residual.old message.new residual.new }
-{
-    if blocks <= i {
-        return;
-    }
-    for (r, &v) in block.iter().enumerate() {
-        if v == 0 {
-            continue;
-        }
-        adjust(tables, blocks, i, r, v, message, residual);
-    }
-}
-
-// Adds the information found at window j: its first block is certain, the others are guesses that later windows check.
-pub fn add_found(
-    tables: &Tables,
-    blocks: usize,
-    j: usize,
-    found: &Found,
-    message: &mut [u8],
-    residual: &mut [u8],
-)
-    requires { Symbols tables.now.setting.q found.now.information × (found.now.blocks ≤ tables.now.setting.m + 1) × (j < blocks) × FrameAreas tables.now.setting blocks message.old residual.old }
-    ensures { Added tables.now.setting blocks j (λ r. get_or found.now.information r 0) message.old residual.old message.new residual.new }
-{
-    let k = tables.setting.k;
-    add_block(
-        tables,
-        blocks,
-        j,
-        &found.information[..k],
-        message,
-        residual,
-    );
-    for a in 1..found.blocks {
-        let start = a * k;
-        let block = &found.information[start..start + k];
-        add_block(tables, blocks, j + a, block, message, residual);
-    }
-}
 
 // The end of a block whose symbols a guess goes by.
 #[derive(Clone, Copy)]
@@ -125,70 +51,100 @@ impl End {
     }
 }
 
-// Guesses block i of the message from the k symbols at an end of the residual of its block: any guess will do. It is right where they were not altered.
-fn guess_from(
-    tables: &Tables,
-    end: End,
-    blocks: usize,
-    i: usize,
-    message: &mut [u8],
-    residual: &mut [u8],
-)
-    requires { (i < blocks) × FrameAreas tables.now.setting blocks message.old residual.old }
-    ensures { Revised tables.now.setting blocks i message.old residual.old message.new residual.new }
-{
-    let p = tables.setting;
-    let scale = end.scale(tables);
-    let start = i * p.n + end.start(p);
-    for turn in 0..p.k {
-        let r = end.symbol_in_turn(p.k, turn);
-        let v = tables.field.multiply(scale, residual[start + r]);
-        adjust(tables, blocks, i, r, v, message, residual);
+impl Frame<'_> {
+    // Adds v to symbol r of block i of the message, and takes what it sends out of the residual.
+    fn adjust(&self, i: usize, r: usize, v: u8, message: &mut [u8], residual: &mut [u8])
+        requires { (i < self.now.blocks) × (r < self.now.tables.now.setting.k) × (v < self.now.tables.now.setting.q) × FrameAreas self.now.tables.now.setting self.now.blocks message.old residual.old }
+        ensures { Adjusted self.now.tables.now.setting self.now.blocks i r v message.old residual.old message.new residual.new }
+    {
+        let p = self.tables.setting;
+        let place = i * p.k + r;
+        let start = i * p.n;
+        let end = start + code::window_length(p);
+        let sum = self.tables.field.add(message[place], v);
+        message[place] = sum;
+        let less = self.tables.field.negate(v);
+        self.tables.add_rows(r, less, &mut residual[start..end]);
     }
-}
 
-// Whether the residual of block i costs at most d_0.
-fn is_light(tables: &Tables, i: usize, residual: &[u8]) -> bool
-    requires { i * tables.now.setting.n + tables.now.setting.n ≤ length residual.now }
-{
-    let p = tables.setting;
-    let start = i * p.n;
-    let end = start + p.n;
-    let distance = code::level_distance(p, 0);
-    super::window::zero_cost(&residual[start..end]) <= distance
-}
+    // Adds an information block to block i of the message, if it has such a block.
+    fn add_block(&self, i: usize, block: &[u8], message: &mut [u8], residual: &mut [u8])
+        requires { Symbols self.now.tables.now.setting.q block.now × (length block.now ≡ self.now.tables.now.setting.k) × FrameAreas self.now.tables.now.setting self.now.blocks message.old residual.old }
+        ensures { Added self.now.tables.now.setting self.now.blocks i (λ r. get_or block.now r 0) message.old residual.old message.new residual.new }
+    {
+        if self.blocks <= i {
+            return;
+        }
+        for (r, &v) in block.iter().enumerate() {
+            if v == 0 {
+                continue;
+            }
+            self.adjust(i, r, v, message, residual);
+        }
+    }
 
-// Guesses block i of the message again, if it has such a block and its residual is too heavy: from the first symbols, or else from the last ones.
-fn guess_block(tables: &Tables, blocks: usize, i: usize, message: &mut [u8], residual: &mut [u8])
-    requires { FrameAreas tables.now.setting blocks message.old residual.old }
-    ensures { Revised tables.now.setting blocks i message.old residual.old message.new residual.new }
-{
-    if blocks <= i {
-        return;
+    // Adds the information found at window j: its first block is certain, the others are guesses that later windows check.
+    pub fn add_found(&self, j: usize, found: &Found, message: &mut [u8], residual: &mut [u8])
+        requires { Symbols self.now.tables.now.setting.q found.now.information × (found.now.blocks ≤ self.now.tables.now.setting.m + 1) × (j < self.now.blocks) × FrameAreas self.now.tables.now.setting self.now.blocks message.old residual.old }
+        ensures { Added self.now.tables.now.setting self.now.blocks j (λ r. get_or found.now.information r 0) message.old residual.old message.new residual.new }
+    {
+        let k = self.tables.setting.k;
+        self.add_block(j, &found.information[..k], message, residual);
+        for a in 1..found.blocks {
+            let block = area::part(&found.information, k, a);
+            self.add_block(j + a, block, message, residual);
+        }
     }
-    if is_light(tables, i, residual) {
-        return;
-    }
-    guess_from(tables, End::First, blocks, i, message, residual);
-    if is_light(tables, i, residual) {
-        return;
-    }
-    guess_from(tables, End::Last, blocks, i, message, residual);
-}
 
-// Guesses blocks j + first .. j + m. Which blocks are guessed is free: nothing rests on a guess.
-pub fn guess_window(
-    tables: &Tables,
-    blocks: usize,
-    j: usize,
-    first: usize,
-    message: &mut [u8],
-    residual: &mut [u8],
-)
-    requires { (j < blocks) × FrameAreas tables.now.setting blocks message.old residual.old }
-    ensures { Revised tables.now.setting blocks j message.old residual.old message.new residual.new }
-{
-    for s in first..tables.setting.m + 1 {
-        guess_block(tables, blocks, j + s, message, residual);
+    // Guesses block i of the message from the k symbols at an end of the residual of its block: any guess will do. It is right where they were not altered.
+    fn guess_from(&self, end: End, i: usize, message: &mut [u8], residual: &mut [u8])
+        requires { (i < self.now.blocks) × FrameAreas self.now.tables.now.setting self.now.blocks message.old residual.old }
+        ensures { Revised self.now.tables.now.setting self.now.blocks i message.old residual.old message.new residual.new }
+    {
+        let p = self.tables.setting;
+        let scale = end.scale(self.tables);
+        let start = i * p.n + end.start(p);
+        for turn in 0..p.k {
+            let r = end.symbol_in_turn(p.k, turn);
+            let v = self.tables.field.multiply(scale, residual[start + r]);
+            self.adjust(i, r, v, message, residual);
+        }
+    }
+
+    // Whether the residual of block i costs at most d_0.
+    fn is_light(&self, i: usize, residual: &[u8]) -> bool
+        requires { i * self.now.tables.now.setting.n + self.now.tables.now.setting.n ≤ length residual.now }
+    {
+        let p = self.tables.setting;
+        let block = area::part(residual, p.n, i);
+        super::window::zero_cost(block) <= code::level_distance(p, 0)
+    }
+
+    // Guesses block i of the message again, if it has such a block and its residual is too heavy: from the first symbols, or else from the last ones.
+    fn guess_block(&self, i: usize, message: &mut [u8], residual: &mut [u8])
+        requires { FrameAreas self.now.tables.now.setting self.now.blocks message.old residual.old }
+        ensures { Revised self.now.tables.now.setting self.now.blocks i message.old residual.old message.new residual.new }
+    {
+        if self.blocks <= i {
+            return;
+        }
+        if self.is_light(i, residual) {
+            return;
+        }
+        self.guess_from(End::First, i, message, residual);
+        if self.is_light(i, residual) {
+            return;
+        }
+        self.guess_from(End::Last, i, message, residual);
+    }
+
+    // Guesses blocks j + first .. j + m. Which blocks are guessed is free: nothing rests on a guess.
+    pub fn guess_window(&self, j: usize, first: usize, message: &mut [u8], residual: &mut [u8])
+        requires { (j < self.now.blocks) × FrameAreas self.now.tables.now.setting self.now.blocks message.old residual.old }
+        ensures { Revised self.now.tables.now.setting self.now.blocks j message.old residual.old message.new residual.new }
+    {
+        for s in first..self.tables.setting.m + 1 {
+            self.guess_block(j + s, message, residual);
+        }
     }
 }

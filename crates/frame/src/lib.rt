@@ -4,3 +4,15 @@
 pub mod guess;
 pub mod reading;
 pub mod window;
+
+ghost use Rattle.std.specs.Prelude.{◌≤◌};
+
+use tables::Tables;
+
+// A frame of T information blocks, T+m blocks in all, by the tables of its setting: `blocks` is T.
+#[derive(Clone, Copy)]
+pub struct Frame<'a> {
+    pub tables: &'a Tables,
+    pub blocks: usize,
+    pub ghost some: { 1 ≤ blocks },
+}

@@ -1,5 +1,5 @@
 -- A text that is written part by part at the front of a lent area.
--- Holds: `placed_none`, `placed_part`, `placed_long`; `shown_whole`, `shown_none`, `shown_success`; `number_long`, `refusal_long`,
+-- Holds: `placed_none`, `placed_part`; `shown_whole`, `shown_none`, `shown_success`; `number_long`, `refusal_long`,
 -- `head_long`, `opening_long`, `success_long` (lengths of what is written).
 use mathlib.Core.Path.{◌≡◌, refl, sym, ap, ap₂, subst, ◌∙◌}
 use mathlib.Core.Bool.{Bool, true, false}
@@ -7,7 +7,7 @@ use mathlib.Core.List.{List, [], ◌++◌, map, append_assoc}
 use Prim.Native.Nat.{ℕ, ◌+◌, ◌-◌, ◌≤◌, ◌<◌}
 use native.Mathlib.Omega.{arith}
 use lib.Dec.{leb}
-use lib.ListN.{length, take, drop, length-append, length-map, length-drop}
+use lib.ListN.{length, take, drop, length-append, length-map}
 use lib.Seq.{take_at, drop-append-add, drop-drop}
 use borrow.Author.Tests.{le-leb, lt-leb}
 use borrow.Rule.Slice.PartMut.{put_mid, Post-is}
@@ -19,12 +19,6 @@ use Rattle.line.proofs.Hex.{length_hex}
 
 pub placed_none : (before : List ℕ) → Placed [] before before
 placed_none before = record { is = refl; room = omega arith }
-
-pub placed_long : (done before area : List ℕ) → Placed done before area → length area ≡ length before
-placed_long done before area w =
-    let parts : length (done ++ drop (length done) before) ≡ length done + length (drop (length done) before) =
-    length-append done (drop (length done) before) in
-    omega (arith, w.room, ap length w.is, length-drop (length done) before)
 
 -- The next part stands behind the text.
 pub placed_part : (done part before area : List ℕ) (from to : ℕ) → length done ≡ from → length part ≡ to - from → from ≤ to → to ≤ length before

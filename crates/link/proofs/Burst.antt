@@ -9,11 +9,13 @@ use lib.ListN.{length, get_or, drop}
 use Rattle.algebra.proofs.Weights.{distance_run}
 use Rattle.area.specs.Lists.{part_at, in_turn}
 use Rattle.area.proofs.Parts.{in_turn_of_parts, length_in_turn, part_at_in_turn, part_at_symbol}
+use Rattle.code.specs.parts.Residual.{frame_length}
 use Rattle.code.specs.declared.Setting.{Setting}
 use Rattle.code.specs.Code.{limit}
 use Rattle.code.specs.Settings.{setting_of}
 use Rattle.code.specs.Windows.{transmission, window_length, Message, Fits}
 use Rattle.code.specs.parts.Sound.{Sound}
+use Rattle.code.proofs.FrameWindows.{window_inside}
 use Rattle.code.proofs.Settings.{sound_of, block_positive}
 use Rattle.code.proofs.CodeBelow.{transmission_length}
 use Rattle.code.proofs.Demand3.{at_most_one_fits}
@@ -59,31 +61,31 @@ module _ (p : Setting) (S : Sound p) (D T start run : ℕ) (messages : ℕ → L
   abbrev sent : List ℕ
   sent = in_turn D (λ f. transmission p (messages f))
 
-  sent_each : (f : ℕ) → f < D → length (transmission p (messages f)) ≡ (T + p.m) * p.n
+  sent_each : (f : ℕ) → f < D → length (transmission p (messages f)) ≡ frame_length p T
   sent_each f h = transmission_length p S T (messages f) (each f h)
 
-  sent_long : length sent ≡ D * ((T + p.m) * p.n)
-  sent_long = length_in_turn ((T + p.m) * p.n) D (λ f. transmission p (messages f)) sent_each
+  sent_long : length sent ≡ D * frame_length p T
+  sent_long = length_in_turn (frame_length p T) D (λ f. transmission p (messages f)) sent_each
 
-  one_long : length sent / D ≡ (T + p.m) * p.n
-  one_long = whole_frames D ((T + p.m) * p.n) (length sent) some sent_long
+  one_long : length sent / D ≡ frame_length p T
+  one_long = whole_frames D (frame_length p T) (length sent) some sent_long
 
-  received_long : length received ≡ D * ((T + p.m) * p.n)
+  received_long : length received ≡ D * frame_length p T
   received_long = only.long ∙ (length_woven D sent (sent_long ∙ ap (λ (t : ℕ). D * t) (sym one_long)) ∙ sent_long)
 
-  received_one : length received / D ≡ (T + p.m) * p.n
-  received_one = whole_frames D ((T + p.m) * p.n) (length received) some received_long
+  received_one : length received / D ≡ frame_length p T
+  received_one = whole_frames D (frame_length p T) (length received) some received_long
 
   module _ (f : ℕ) (below : f < D) where
     -- Symbol i of frame f is the sent one wherever the symbol at its place is.
-    kept : (i : ℕ) → i < (T + p.m) * p.n → get_or received (i * D + f) 0 ≡ get_or (woven D sent) (i * D + f) 0
+    kept : (i : ℕ) → i < frame_length p T → get_or received (i * D + f) 0 ≡ get_or (woven D sent) (i * D + f) 0
         → get_or (column_of D f received) i 0 ≡ get_or (transmission p (messages f)) i 0
     kept i h same =
         column_symbol D f received i (omega (arith, received_one))
         ∙ (same
-        ∙ (woven_place D ((T + p.m) * p.n) f i sent sent_long below h
-        ∙ (sym (part_at_symbol ((T + p.m) * p.n) f sent i h)
-        ∙ ap (λ (l : List ℕ). get_or l i 0) (part_at_in_turn ((T + p.m) * p.n) D (λ f. transmission p (messages f)) sent_each f below))))
+        ∙ (woven_place D (frame_length p T) f i sent sent_long below h
+        ∙ (sym (part_at_symbol (frame_length p T) f sent i h)
+        ∙ ap (λ (l : List ℕ). get_or l i 0) (part_at_in_turn (frame_length p T) D (λ f. transmission p (messages f)) sent_each f below))))
 
     pub burst_fits : Fits p T (column_of D f received) (messages f)
     burst_fits =
@@ -91,18 +93,15 @@ module _ (p : Setting) (S : Sound p) (D T start run : ℕ) (messages : ℕ → L
           message_of = each f below;
           long = column_length D f received ∙ received_one;
           near = λ j l.
-              let end : j * p.n + window_length p ≤ (T + p.m) * p.n = window_inside j l in
+              let end : j * p.n + window_length p ≤ frame_length p T = window_inside p T j l in
               distance_run (window_length p) (first_met D f start below - j * p.n) (limit p.n p.k p.m) _ _
               (λ i h early. kept (j * p.n + i) (omega arith) (only.before _ (met_before D f start below (j * p.n + i) (omega arith))))
               (λ i h late.
               kept (j * p.n + i) (omega arith) (only.after _ (met_after D f start below (limit p.n p.k p.m) run (j * p.n + i) few (omega arith))));
         }
-      where
-        window_inside : (j : ℕ) → j < T → j * p.n + window_length p ≤ (T + p.m) * p.n
-        window_inside j l = let top : j + (p.m + 1) ≤ T + p.m = omega arith in omega (arith, mul-le-mul_right p.n top)
 
 -- T of the frames that came in.
-blocks_back : (p : Setting) → Sound p → (T long : ℕ) → long ≡ (T + p.m) * p.n → blocks_of p long ≡ T
+blocks_back : (p : Setting) → Sound p → (T long : ℕ) → long ≡ frame_length p T → blocks_of p long ≡ T
 blocks_back p S T long e =
     let back : long / p.n ≡ T + p.m = whole_frames p.n (T + p.m) long (block_positive p S) (omega arith) in
     omega arith
@@ -111,9 +110,9 @@ blocks_back p S T long e =
 frames_returned : (p : Setting) → Sound p → (D T : ℕ) (messages : ℕ → List ℕ) (message transmitted : List ℕ) (r : WovenAnswer)
     (message' transmitted' : List ℕ) → ((f : ℕ) → f < D → Message p T (messages f))
     → drop (D * (T * p.k)) message' ≡ drop (D * (T * p.k)) message
-    → drop (D * ((T + p.m) * p.n)) transmitted' ≡ drop (D * ((T + p.m) * p.n)) transmitted
+    → drop (D * frame_length p T) transmitted' ≡ drop (D * frame_length p T) transmitted
     → ((f : ℕ) → f < D → ((get_or r.frame f (answer 0 0 0)).number ≡ 0) × (part_at (T * p.k) f message' ≡ messages f)
-    × (part_at ((T + p.m) * p.n) f transmitted' ≡ transmission p (messages f)))
+    × (part_at (frame_length p T) f transmitted' ≡ transmission p (messages f)))
     → AllReturned p D messages message transmitted r message' transmitted'
 frames_returned p S D T messages message transmitted r message' transmitted' each past sent_past back =
     record {
@@ -121,9 +120,9 @@ frames_returned p S D T messages message transmitted r message' transmitted' eac
       messages_back = in_turn_of_parts (T * p.k) D messages message' message (λ f below. (back f below).1) past
           ∙ ap (λ (t : ℕ). in_turn D messages ++ drop t message) (sym (length_in_turn (T * p.k) D messages (λ f below. (each f below).long)));
       transmissions_back =
-          in_turn_of_parts ((T + p.m) * p.n) D (λ f. transmission p (messages f)) transmitted' transmitted (λ f below. (back f below).2) sent_past
+          in_turn_of_parts (frame_length p T) D (λ f. transmission p (messages f)) transmitted' transmitted (λ f below. (back f below).2) sent_past
           ∙ ap (λ (t : ℕ). in_turn D (λ f. transmission p (messages f)) ++ drop t transmitted)
-          (sym (length_in_turn ((T + p.m) * p.n) D (λ f. transmission p (messages f)) (λ f below. transmission_length p S T (messages f) (each f below))));
+          (sym (length_in_turn (frame_length p T) D (λ f. transmission p (messages f)) (λ f below. transmission_length p S T (messages f) (each f below))));
     }
 
 pub burst_returned : BurstReturned

@@ -2,7 +2,7 @@
 -- Holds: `restored_more`; `answered_read`, `answered_none`, `answered_symbols`, `decoded_found`, `decoded_none`; `decoded_asked`;
 -- `decoded_alone`, `frame_alone`, in areas of just the right sizes.
 use mathlib.Core.Path.{◌≡◌, sym, ap, subst, ◌∙◌}
-use mathlib.Core.Bool.{Bool, true, false, not}
+use mathlib.Core.Bool.{Bool, true, false}
 use mathlib.Core.List.{List, ◌++◌, append-nil}
 use Prim.Native.Nat.{ℕ, ◌+◌, ◌*◌, ◌≤◌, ◌<◌}
 use native.Mathlib.Omega.{arith}
@@ -15,6 +15,7 @@ use Rattle.area.specs.parts.Weights.{weight_to}
 use Rattle.area.proofs.Lists.{stored}
 use Rattle.field.specs.Fields.{ops_of}
 use Rattle.field.specs.Symbols.{Symbols}
+use Rattle.code.specs.parts.Residual.{frame_length}
 use Rattle.code.specs.declared.Setting.{Setting}
 use Rattle.code.specs.Settings.{is_setting, setting_of}
 use Rattle.code.specs.parts.SettingNumbers.{parameters_of}
@@ -51,14 +52,14 @@ not_seven e z = let both : ◌≡◌ {A = ℕ} 7 0 = ap (λ (t : Answer). t.numb
 
 module _ {p : Setting} {T : ℕ} {reception message residual : List ℕ} where
   -- What the frame's reader found, as an answer..
-  pub answered_read : {r : Bool} {weight : ℕ} → FrameRead p T reception message residual r → not r ≡ false → weight ≡ weight_to residual (T * p.n)
+  pub answered_read : {r : Bool} {weight : ℕ} → FrameRead p T reception message residual r → r ≡ true → weight ≡ weight_to residual (T * p.n)
       → FrameAnswered p T reception (answer 0 0 weight) message residual
   answered_read (fits F symbols long is_residual) h counted = read (fits F symbols long is_residual) (ap (answer 0 0) counted)
-  answered_read (none far) h counted = absurd (false_not_true (sym h))
+  answered_read (none far) h counted = absurd (false_not_true h)
 
-  pub answered_none : {r : Bool} {a : Answer} {cleared emptied : List ℕ} → FrameRead p T reception message residual r → not r ≡ true → a ≡ answer 7 0 0
-      → cleared ≡ replicate (T * p.k) 0 → emptied ≡ replicate ((T + p.m) * p.n) 0 → FrameAnswered p T reception a cleared emptied
-  answered_none (fits F symbols long is_residual) h e f g = absurd (false_not_true h)
+  pub answered_none : {r : Bool} {a : Answer} {cleared emptied : List ℕ} → FrameRead p T reception message residual r → r ≡ false → a ≡ answer 7 0 0
+      → cleared ≡ replicate (T * p.k) 0 → emptied ≡ replicate (frame_length p T) 0 → FrameAnswered p T reception a cleared emptied
+  answered_none (fits F symbols long is_residual) h e f g = absurd (false_not_true (sym h))
   answered_none (none far) h e f g = none_read far e f g
 
   -- .. and what an answer says: 0, and the residual is there; or another number, and no message fits.
@@ -71,7 +72,7 @@ module _ {p : Setting} {T : ℕ} {reception message residual : List ℕ} where
     decoded_none (read F e) h = absurd (h (ap (λ (t : Answer). t.number) e))
     decoded_none (none_read far e f g) h = none_fits far e f g
 
-    pub decoded_found : Sound p → {restored : List ℕ} → Symbols p.q reception → length reception ≡ (T + p.m) * p.n
+    pub decoded_found : Sound p → {restored : List ℕ} → Symbols p.q reception → length reception ≡ frame_length p T
         → FrameAnswered p T reception a message residual → a.number ≡ 0
         → Restored p.q (length residual) reception residual restored → FrameDecoded p T reception a message restored
     decoded_found S {restored} R long (none_read far e f g) h back = absurd (not_seven e h)
@@ -84,7 +85,7 @@ module _ {p : Setting} {T : ℕ} {reception message residual : List ℕ} where
 -- A reception of the shape that the questions found. Alone it is one woven frame.
 pub decoded_asked : (number : ℕ) (reception message transmitted : List ℕ) {s : Shape} → ReceptionOf number (length reception) s
     → answer 0 0 0 ≡ first_no (decoding_questions number reception (length message) (length transmitted)) → {short long : ℕ}
-    → short ≡ s.blocks * (parameters_of s.setting).k → long ≡ (s.blocks + (parameters_of s.setting).m) * (parameters_of s.setting).n
+    → short ≡ s.blocks * (parameters_of s.setting).k → long ≡ frame_length (parameters_of s.setting) s.blocks
     → {r : Answer} {front sent : List ℕ} → FrameDecoded (parameters_of s.setting) s.blocks (column_of 1 0 reception) r front sent
     → Decoded number reception message transmitted r (front ++ drop short message) (sent ++ drop long transmitted)
 decoded_asked number reception message transmitted {s} shape asked {short} {long} e e' {r} {front} {sent} frame =
@@ -103,7 +104,7 @@ decoded_asked number reception message transmitted {s} shape asked {short} {long
           ap (λ (t : ℕ). front ++ drop t message) (e ∙ ap (λ (p : Setting). s.blocks * p.k) known ∙ ap (λ (t : ℕ). t * q.k) count);
       transmission_area =
           ap (λ (t : ℕ). sent ++ drop t transmitted)
-          (e' ∙ ap (λ (p : Setting). (s.blocks + p.m) * p.n) known ∙ ap (λ (t : ℕ). (t + q.m) * q.n) count);
+          (e' ∙ ap (λ (p : Setting). frame_length p s.blocks) known ∙ ap (frame_length q) count);
     })
 
 -- Nothing of an area lies past a part of its size.
@@ -115,7 +116,7 @@ whole_part part before size e =
 -- With areas of just the sizes that the message and its transmission take, decoding is question 7: from there to decoding's promise, and back.
 module _ (number : ℕ) (reception message transmitted : List ℕ) (known : Passes (is_setting number)) (frame : FrameShape (setting_of number) (length reception))
     (symbols : Symbols (setting_of number).q reception) (short : length message ≡ blocks_of (setting_of number) (length reception) * (setting_of number).k)
-    (long : length transmitted ≡ (blocks_of (setting_of number) (length reception) + (setting_of number).m) * (setting_of number).n) where
+    (long : length transmitted ≡ frame_length (setting_of number) (blocks_of (setting_of number) (length reception))) where
   all_yes_alone : (first_no (decoding_questions number reception (length message) (length transmitted))).number ≡ 0
   all_yes_alone = decoding_all_yes number reception (length message) (length transmitted) known frame symbols (omega (arith, short)) (omega (arith, long))
 

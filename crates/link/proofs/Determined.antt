@@ -3,9 +3,10 @@
 -- `Alike`, `decoded_alike`, of two calls whose areas have the same lengths; `decoded_determined`, of two calls on the same setting, reception and areas.
 use mathlib.Core.Path.{◌≡◌, sym, ap, ap₂, ◌∙◌}
 use mathlib.Core.List.{List, ◌++◌}
-use Prim.Native.Nat.{ℕ, ◌+◌, ◌*◌}
+use Prim.Native.Nat.{ℕ, ◌*◌}
 use lib.ListN.{length, take, drop, length-replicate}
 use lib.Seq.{take_at}
+use Rattle.code.specs.parts.Residual.{frame_length}
 use Rattle.code.specs.declared.Setting.{Setting}
 use Rattle.code.specs.Settings.{setting_of}
 use Rattle.code.specs.parts.Sound.{Sound}
@@ -41,9 +42,9 @@ module _ (p : Setting) (S : Sound p) (T : ℕ) (reception : List ℕ) where
 
   -- The parts have the lengths of the places that they go to.
   pub parts_long : {r : Answer} {message sent : List ℕ} → FrameDecoded p T reception r message sent
-      → (length message ≡ T * p.k) × (length sent ≡ (T + p.m) * p.n)
+      → (length message ≡ T * p.k) × (length sent ≡ frame_length p T)
   parts_long {message = message} (found F e t) = (F.message_of.long, ap length t ∙ transmission_length p S T message F.message_of)
-  parts_long (none_fits far e m t) = (ap length m ∙ length-replicate (T * p.k) 0, ap length t ∙ length-replicate ((T + p.m) * p.n) 0)
+  parts_long (none_fits far e m t) = (ap length m ∙ length-replicate (T * p.k) 0, ap length t ∙ length-replicate (frame_length p T) 0)
 
   -- So the front of each area is its part.
   pub message_front : {message transmitted : List ℕ} {r : Answer} {message' transmitted' : List ℕ}
@@ -53,15 +54,15 @@ module _ (p : Setting) (S : Sound p) (T : ℕ) (reception : List ℕ) where
       ap (take (T * p.k)) D.message_area ∙ take_at D.message_part (drop (T * p.k) message) (T * p.k) (parts_long D.decoded).0
 
   pub transmission_front : {message transmitted : List ℕ} {r : Answer} {message' transmitted' : List ℕ}
-      (D : DecodedIn p T reception message transmitted r message' transmitted') → take ((T + p.m) * p.n) transmitted' ≡ D.transmission_part
+      (D : DecodedIn p T reception message transmitted r message' transmitted') → take (frame_length p T) transmitted' ≡ D.transmission_part
   transmission_front {transmitted = transmitted} D =
-      ap (take ((T + p.m) * p.n)) D.transmission_area
-      ∙ take_at D.transmission_part (drop ((T + p.m) * p.n) transmitted) ((T + p.m) * p.n) (parts_long D.decoded).1
+      ap (take (frame_length p T)) D.transmission_area
+      ∙ take_at D.transmission_part (drop (frame_length p T) transmitted) (frame_length p T) (parts_long D.decoded).1
 
   -- Whatever areas were lent, if they are large enough: the first T × k and (T+m) × n bytes.
   pub fronts_determined : {message transmitted other other_sent : List ℕ} {r s : Answer} {message' transmitted' other' other_sent' : List ℕ}
       → DecodedIn p T reception message transmitted r message' transmitted' → DecodedIn p T reception other other_sent s other' other_sent'
-      → Same r s (take (T * p.k) message') (take (T * p.k) other') (take ((T + p.m) * p.n) transmitted') (take ((T + p.m) * p.n) other_sent')
+      → Same r s (take (T * p.k) message') (take (T * p.k) other') (take (frame_length p T) transmitted') (take (frame_length p T) other_sent')
   fronts_determined D E =
       let one = frame_determined D.decoded E.decoded in
       record {
@@ -76,8 +77,8 @@ pub record Alike (number : ℕ) (reception message transmitted : List ℕ) (r s 
   pub fronts : (first_no (decoding_questions number reception (length message) (length transmitted))).number ≡ 0
       → Same r s (take (blocks_of (setting_of number) (length reception) * (setting_of number).k) message')
       (take (blocks_of (setting_of number) (length reception) * (setting_of number).k) other')
-      (take ((blocks_of (setting_of number) (length reception) + (setting_of number).m) * (setting_of number).n) transmitted')
-      (take ((blocks_of (setting_of number) (length reception) + (setting_of number).m) * (setting_of number).n) other_sent')
+      (take (frame_length (setting_of number) (blocks_of (setting_of number) (length reception))) transmitted')
+      (take (frame_length (setting_of number) (blocks_of (setting_of number) (length reception))) other_sent')
 
 module _ (number : ℕ) (reception : List ℕ) where
   sound : (a b : ℕ) → (first_no (decoding_questions number reception a b)).number ≡ 0 → Sound (setting_of number)
@@ -123,5 +124,5 @@ module _ (number : ℕ) (reception : List ℕ) where
         answers = one.answers;
         messages = F.message_area ∙ (ap (λ (x : List ℕ). x ++ drop (T * p.k) message) one.messages ∙ sym G.message_area);
         transmissions =
-            F.transmission_area ∙ (ap (λ (x : List ℕ). x ++ drop ((T + p.m) * p.n) transmitted) one.transmissions ∙ sym G.transmission_area);
+            F.transmission_area ∙ (ap (λ (x : List ℕ). x ++ drop (frame_length p T) transmitted) one.transmissions ∙ sym G.transmission_area);
       }

@@ -6,13 +6,14 @@ use mathlib.Core.Bool.{Bool, true, false, ◌&&◌}
 use mathlib.Core.List.Memᴰ
 use mathlib.Core.List.{List, [], ◌∷◌, ◌++◌, Memᴰ}
 use mathlib.Core.Logic.{◌⊎◌, inl, inr}
-use Prim.Native.Nat.{ℕ, ◌+◌, ◌*◌, ◌/◌, ◌≤◌}
+use Prim.Native.Nat.{ℕ, ◌*◌, ◌/◌, ◌≤◌}
 use native.Mathlib.Omega.{arith}
 use lib.Dec.{T as Passes, eqb, leb, eqb→eq, leb→le, le→leb}
 use lib.ListN.{length, drop, replicate, length-replicate}
 use borrow.Author.Tests.{eq-eqb, eqb-true}
 use Rattle.algebra.specs.Ops.{pick}
 use Rattle.algebra.proofs.Tests.{and_left, and_right}
+use Rattle.code.specs.parts.Residual.{frame_length}
 use Rattle.code.specs.declared.Setting.{Setting}
 use Rattle.code.specs.Settings.{setting_of}
 use Rattle.code.specs.parts.Sound.{Sound}
@@ -65,7 +66,7 @@ unfoldable pub seven_test : Order → Bool
 seven_test o =
     none_fits_test (setting_of o.setting) (blocks o) o.given
     && (same_list o.message (replicate (blocks o * (setting_of o.setting).k) 0)
-    && (same_list o.sent (replicate ((blocks o + (setting_of o.setting).m) * (setting_of o.setting).n) 0)
+    && (same_list o.sent (replicate (frame_length (setting_of o.setting) (blocks o)) 0)
     && eqb o.count 0))
 
 -- A reception: with areas just long enough questions 1 to 6 get "yes".
@@ -100,7 +101,7 @@ encoding_room number message room room' e h =
           yes_to.1.1.0,
           (
             yes_to.1.1.1.0,
-            (room_more ((length message / p.k + p.m) * p.n) room room' yes_to.1.1.1.1.0 h, tt),
+            (room_more (frame_length p (length message / p.k)) room room' yes_to.1.1.1.1.0 h, tt),
           ),
         ),
       ),
@@ -120,7 +121,7 @@ decoding_room number reception a a' b b' e ha hb =
           yes_to.1.1.0,
           (
             yes_to.1.1.1.0,
-            (room_more (T * p.k) a a' yes_to.1.1.1.1.0 ha, (room_more ((T + p.m) * p.n) b b' yes_to.1.1.1.1.1.0 hb, tt)),
+            (room_more (T * p.k) a a' yes_to.1.1.1.1.0 ha, (room_more (frame_length p T) b b' yes_to.1.1.1.1.1.0 hb, tt)),
           ),
         ),
       ),
@@ -143,7 +144,7 @@ encoding_order : (o : Order) → Passes (encoding_test o) → Promised encoding 
 unfolding encoding_test
 encoding_order o t before after r room E = (
   same_answer (E.answered ∙ clear) zero_number zero_place zero_count,
-  overwritten_by o.sent (transmission p o.given) before after ((length o.given / p.k + p.m) * p.n) written sent_is
+  overwritten_by o.sent (transmission p o.given) before after (frame_length p (length o.given / p.k)) written sent_is
       (ap length sent_is ∙ transmission_long p o.given),
 )
   where
@@ -210,7 +211,7 @@ module _ (o : Order) (asked : (first_no (decoding_questions o.setting o.given (l
 
   -- Of the whole call it is enough to know question 7's answer and parts.
   whole : (message message' sent sent' : List ℕ) (r : Answer) → length o.message ≤ length message → length o.sent ≤ length sent
-      → length o.message ≡ blocks o * p.k → length o.sent ≡ (blocks o + p.m) * p.n
+      → length o.message ≡ blocks o * p.k → length o.sent ≡ frame_length p (blocks o)
       → ((x y : List ℕ) → FrameDecoded p (blocks o) o.given r x y → Parts o r x y)
       → Decoded o.setting o.given message sent r message' sent'
       → (r ≡ answer o.number o.place o.count) × Overwritten o.message message message' × Overwritten o.sent sent sent'
@@ -219,7 +220,7 @@ module _ (o : Order) (asked : (first_no (decoding_questions o.setting o.given (l
       let parts = frame D.message_part D.transmission_part D.decoded in (
         parts.answered,
         overwritten_by o.message D.message_part message message' (blocks o * p.k) D.message_area parts.message_is long,
-        overwritten_by o.sent D.transmission_part sent sent' ((blocks o + p.m) * p.n) D.transmission_area parts.sent_is sent_long,
+        overwritten_by o.sent D.transmission_part sent sent' (frame_length p (blocks o)) D.transmission_area parts.sent_is sent_long,
       )
 
   read_order : o.number ≡ 0 → Passes (read_test o) → Promised decoding o
@@ -244,7 +245,7 @@ module _ (o : Order) (asked : (first_no (decoding_questions o.setting o.given (l
       count_is : o.count ≡ altered p (blocks o) o.given o.sent
       count_is = eqb→eq o.count (altered p (blocks o) o.given o.sent) (and_right same count (and_right fit (same && count) t))
 
-      sent_long : length o.sent ≡ (blocks o + p.m) * p.n
+      sent_long : length o.sent ≡ frame_length p (blocks o)
       sent_long =
           ap length sent_is ∙ transmission_length p sound (blocks o) o.message fits.message_of
 
@@ -263,7 +264,7 @@ module _ (o : Order) (asked : (first_no (decoding_questions o.setting o.given (l
   unfolding seven_test
   seven_order seven t message message' sent sent' r hm hs D =
       whole message message' sent sent' r hm hs (zeros_long (blocks o * p.k) o.message message_is)
-      (zeros_long ((blocks o + p.m) * p.n) o.sent sent_is) frame D
+      (zeros_long (frame_length p (blocks o)) o.sent sent_is) frame D
     where
       none : Bool
       none = none_fits_test p (blocks o) o.given
@@ -272,7 +273,7 @@ module _ (o : Order) (asked : (first_no (decoding_questions o.setting o.given (l
       no_message = same_list o.message (replicate (blocks o * p.k) 0)
 
       no_sent : Bool
-      no_sent = same_list o.sent (replicate ((blocks o + p.m) * p.n) 0)
+      no_sent = same_list o.sent (replicate (frame_length p (blocks o)) 0)
 
       no_count : Bool
       no_count = eqb o.count 0
@@ -283,8 +284,8 @@ module _ (o : Order) (asked : (first_no (decoding_questions o.setting o.given (l
       message_is : o.message ≡ replicate (blocks o * p.k) 0
       message_is = same_list_lem o.message (replicate (blocks o * p.k) 0) (and_left no_message (no_sent && no_count) later)
 
-      sent_is : o.sent ≡ replicate ((blocks o + p.m) * p.n) 0
-      sent_is = same_list_lem o.sent (replicate ((blocks o + p.m) * p.n) 0) (and_left no_sent no_count (and_right no_message (no_sent && no_count) later))
+      sent_is : o.sent ≡ replicate (frame_length p (blocks o)) 0
+      sent_is = same_list_lem o.sent (replicate (frame_length p (blocks o)) 0) (and_left no_sent no_count (and_right no_message (no_sent && no_count) later))
 
       count_is : o.count ≡ 0
       count_is = eqb→eq o.count 0 (and_right no_sent no_count (and_right no_message (no_sent && no_count) later))

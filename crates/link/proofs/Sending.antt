@@ -14,6 +14,7 @@ use Rattle.area.proofs.Lists.{get_d_zeros, place_in_blocks}
 use Rattle.field.specs.Fields.{ops_of}
 use Rattle.field.specs.Symbols.{Symbols}
 use Rattle.field.proofs.Symbols.{symbol_below, symbols_zeros}
+use Rattle.code.specs.parts.Residual.{frame_length}
 use Rattle.code.specs.declared.Setting.{Setting}
 use Rattle.code.specs.Transmission.{sent_symbol}
 use Rattle.code.specs.Settings.{code_of}
@@ -29,15 +30,15 @@ use Rattle.link.specs.parts.Sending.{SentTo}
 
 module _ (p : Setting) (S : Sound p) (T : ℕ) (message : List ℕ) (M : Message p T message) where
   -- Nothing was sent: the whole message is the rest, and the area is zero.
-  pub sent_none : (area : List ℕ) → area ≡ replicate ((T + p.m) * p.n) 0 → SentTo p T message 0 area
+  pub sent_none : (area : List ℕ) → area ≡ replicate (frame_length p T) 0 → SentTo p T message 0 area
   sent_none area e =
       record {
         rest = message;
         areas = record {
           message_long = M.long;
           message_symbols = M.symbols;
-          residual_long = ap length e ∙ length-replicate ((T + p.m) * p.n) 0;
-          residual_symbols = subst (Symbols p.q) (sym e) (symbols_zeros p.q ((T + p.m) * p.n) (positive p S));
+          residual_long = ap length e ∙ length-replicate (frame_length p T) 0;
+          residual_symbols = subst (Symbols p.q) (sym e) (symbols_zeros p.q (frame_length p T) (positive p S));
         };
         sent = λ i l. absurd (omega arith);
         unsent = λ i l. refl;
@@ -51,7 +52,7 @@ module _ (p : Setting) (S : Sound p) (T : ℕ) (message : List ℕ) (M : Message
       }
     where
       zeros : (i : ℕ) → get_or area i 0 ≡ 0
-      zeros i = ap (λ (l : List ℕ). get_or l i 0) e ∙ get_d_zeros ((T + p.m) * p.n) i
+      zeros i = ap (λ (l : List ℕ). get_or l i 0) e ∙ get_d_zeros (frame_length p T) i
 
   -- Symbol r of block i is sent: its multiples of rows come into the area, and the rest has 0 in its place.
   pub sent_more : (i r v : ℕ) (area window' : List ℕ) → i < T → r < p.k → v ≡ get_or message (i * p.k + r) 0 → SentTo p T message (i * p.k + r) area
@@ -85,7 +86,7 @@ module _ (p : Setting) (S : Sound p) (T : ℕ) (message : List ℕ) (M : Message
       step : Adjusted p T i r minus rest area (set rest place 0) (put_mid (i * p.n) (i * p.n + window_length p - i * p.n) area window')
       step =
           adjusted p S T i r minus rest area sending.areas li lr ((laws p S).neg_below v below) 0 taken v below
-          ((laws p S).plus_comm minus v ((laws p S).neg_below v below) below ∙ (laws p S).plus_neg v below) window' L
+          ((laws p S).plus_comm minus v ((laws p S).neg_below v below) below ∙ (laws p S).plus_neg v below) (window_length p) refl window' L
 
       at_sent : (a : ℕ) → Dec (a ≡ place) → a < i * p.k + (r + 1) → get_or (set rest place 0) a 0 ≡ 0
       at_sent a (yes s) l =
@@ -105,7 +106,7 @@ module _ (p : Setting) (S : Sound p) (T : ℕ) (message : List ℕ) (M : Message
           past a (yes l) = sending.sent a l
           past a (no d) = get_or-eq_default sending.rest 0 (omega (arith, sending.areas.message_long))
 
-      at : (a : ℕ) → a < (T + p.m) * p.n → get_or area a 0 ≡ get_or (transmission p message) a 0
+      at : (a : ℕ) → a < frame_length p T → get_or area a 0 ≡ get_or (transmission p message) a 0
       at a l =
           let place = place_in_blocks (T + p.m) a p.n (block_positive p S) l in
           let whole = residual_start p S T (transmission p message) sending.rest

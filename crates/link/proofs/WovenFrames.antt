@@ -11,6 +11,7 @@ use lib.Seq.{get_or-set_same, get_or-set_other}
 use Rattle.area.specs.Lists.{part_at}
 use Rattle.area.proofs.Parts.{parts_apart, length_part_at, with_part, part_put, part_put_before, drop_put}
 use Rattle.field.specs.Symbols.{Symbols}
+use Rattle.code.specs.parts.Residual.{frame_length}
 use Rattle.code.specs.declared.Setting.{Setting}
 use Rattle.code.specs.Settings.{setting_of}
 use Rattle.code.specs.parts.SettingNumbers.{parameters_of}
@@ -31,7 +32,7 @@ use Rattle.link.proofs.Decoding.{decoded_alone, frame_alone}
 
 module _ (p : Setting) (T D : ℕ) (woven message transmitted : List ℕ) where
   -- One frame more, its parts of the areas of the sizes `short` and `long`.
-  pub frames_more : (short long f : ℕ) (answers : List Answer) (messages sent part reread : List ℕ) (a : Answer) → short ≡ T * p.k → long ≡ (T + p.m) * p.n
+  pub frames_more : (short long f : ℕ) (answers : List Answer) (messages sent part reread : List ℕ) (a : Answer) → short ≡ T * p.k → long ≡ frame_length p T
       → f < length answers → f * short + short ≤ length messages → length part ≡ short → f * long + long ≤ length sent → length reread ≡ long
       → FramesTo p T D f woven message transmitted answers messages sent → FrameDecoded p T (column_of D f woven) a part reread
       → FramesTo p T D (f + 1) woven message transmitted (set answers f a) (with_part short f messages part) (with_part long f sent reread)
@@ -45,7 +46,7 @@ module _ (p : Setting) (T D : ℕ) (woven message transmitted : List ℕ) where
     where
       at : (g : ℕ) → g < f + 1 → Dec (g ≡ f)
           → FrameDecoded p T (column_of D g woven) (get_or (set answers f a) g (answer 0 0 0)) (part_at (T * p.k) g (with_part short f messages part))
-          (part_at ((T + p.m) * p.n) g (with_part long f sent reread))
+          (part_at (frame_length p T) g (with_part long f sent reread))
       at g h (yes s) =
           let here = part_put short f messages part short_room short_part in
           let here' = part_put long f sent reread long_room long_part in
@@ -71,7 +72,7 @@ module _ (number D : ℕ) (reception message transmitted : List ℕ)
   -- One frame, alone.
   module _ (f : ℕ) (below : f < D) where
     abbrev frame : List ℕ
-    frame = part_at ((T + p.m) * p.n) f (unwoven D reception)
+    frame = part_at (frame_length p T) f (unwoven D reception)
 
     -- It is column f of the woven area.
     frame_column : column_of D f reception ≡ frame
@@ -96,25 +97,25 @@ module _ (number D : ℕ) (reception message transmitted : List ℕ)
     short : length (part_at (T * p.k) f message) ≡ blocks_of p (length frame) * p.k
     short = part_long (T * p.k) message woven_known.has_message_room ∙ ap (λ (t : ℕ). t * p.k) (sym frame_blocks)
 
-    long : length (part_at ((T + p.m) * p.n) f transmitted) ≡ (blocks_of p (length frame) + p.m) * p.n
-    long = part_long ((T + p.m) * p.n) transmitted woven_known.has_transmission_room ∙ ap (λ (t : ℕ). (t + p.m) * p.n) (sym frame_blocks)
+    long : length (part_at (frame_length p T) f transmitted) ≡ frame_length p (blocks_of p (length frame))
+    long = part_long (frame_length p T) transmitted woven_known.has_transmission_room ∙ ap (frame_length p) (sym frame_blocks)
 
     -- Question 7 of a column is decoding's promise of the frame alone, ..
     pub alone : {a : Answer} {part sent : List ℕ} → FrameDecoded p T (column_of D f reception) a part sent
-        → Decoded number frame (part_at (T * p.k) f message) (part_at ((T + p.m) * p.n) f transmitted) a part sent
+        → Decoded number frame (part_at (T * p.k) f message) (part_at (frame_length p T) f transmitted) a part sent
     alone {a} {part} {sent} F =
-        decoded_alone number frame (part_at (T * p.k) f message) (part_at ((T + p.m) * p.n) f transmitted) woven_known.woven.setting frame_shape
+        decoded_alone number frame (part_at (T * p.k) f message) (part_at (frame_length p T) f transmitted) woven_known.woven.setting frame_shape
         frame_symbols short long
         (subst (λ (t : ℕ). FrameDecoded p t frame a part sent) (sym frame_blocks) (subst (λ (l : List ℕ). FrameDecoded p T l a part sent) frame_column F))
 
     -- .. and the other way round.
     pub column_alone : {a : Answer} {part sent : List ℕ}
-        → Decoded number frame (part_at (T * p.k) f message) (part_at ((T + p.m) * p.n) f transmitted) a part sent
+        → Decoded number frame (part_at (T * p.k) f message) (part_at (frame_length p T) f transmitted) a part sent
         → FrameDecoded p T (column_of D f reception) a part sent
     column_alone {a} {part} {sent} A =
         subst (λ (l : List ℕ). FrameDecoded p T l a part sent) (sym frame_column)
         (subst (λ (t : ℕ). FrameDecoded p t frame a part sent) frame_blocks
-        (frame_alone number frame (part_at (T * p.k) f message) (part_at ((T + p.m) * p.n) f transmitted) woven_known.woven.setting frame_shape
+        (frame_alone number frame (part_at (T * p.k) f message) (part_at (frame_length p T) f transmitted) woven_known.woven.setting frame_shape
         frame_symbols short long A))
 
   -- All frames, of the shape that the questions found.

@@ -1,13 +1,15 @@
 // Decoding of frames that were woven against bursts (02, #104).
-ghost use Rattle.std.specs.Prelude.{◌≡◌, ◌+◌, ◌*◌, ◌≤◌, Ok, length};
+ghost use Rattle.std.specs.Prelude.{◌≡◌, ◌*◌, ◌≤◌, Ok, length};
 ghost use Rattle.field.specs.Symbols.{Symbols};
 ghost use Rattle.code.specs.parts.SettingNumbers.{parameters_of};
+ghost use Rattle.code.specs.parts.Residual.{frame_length};
 ghost use Rattle.link.specs.parts.WovenFrames.{EachDecoded};
 ghost use Rattle.link.specs.Woven.{woven_answer, DecodedWoven};
 
 use question::answer::Answer;
 use question::refusal::Refusal;
-use question::shape::{MOST_FRAMES, WovenShape};
+use question::shape::{MOST_FRAMES, Rooms, WovenShape};
+use weave::column::Column;
 
 // One common answer, to the questions before 7, and the frames' own answers in order; zeros in the places of frames that there are not, and after a refusal.
 #[repr(C)]
@@ -42,23 +44,28 @@ fn decode_frames(
     message: &mut [u8],
     transmission: &mut [u8],
 ) -> [Result<u32, Refusal>; MOST_FRAMES]
-    requires { (length woven.now ≡ (shape.frame.blocks + (parameters_of shape.frame.setting).m) * (parameters_of shape.frame.setting).n * shape.frames) × Symbols (parameters_of shape.frame.setting).q woven.now × (shape.frames * (shape.frame.blocks * (parameters_of shape.frame.setting).k) ≤ length message.old) × (shape.frames * ((shape.frame.blocks + (parameters_of shape.frame.setting).m) * (parameters_of shape.frame.setting).n) ≤ length transmission.old) }
+    requires { (length woven.now ≡ frame_length (parameters_of shape.frame.setting) shape.frame.blocks * shape.frames) × Symbols (parameters_of shape.frame.setting).q woven.now × (shape.frames * (shape.frame.blocks * (parameters_of shape.frame.setting).k) ≤ length message.old) × (shape.frames * frame_length (parameters_of shape.frame.setting) shape.frame.blocks ≤ length transmission.old) }
     ensures { EachDecoded (parameters_of shape.frame.setting) shape.frame.blocks shape.frames woven.now message.old transmission.old (woven_answer (Ok result)) message.new transmission.new }
 {
     let short = shape.frame.message_length();
     let long = shape.frame.transmission_length();
     let mut outcomes = [Ok(0); MOST_FRAMES];
-    // By index: after `chunks_exact_mut` a proof knows the length of the area and none of its symbols.
+    // By index: after `chunks_exact_mut` a proof knows the length of the area and none of its symbols. The lent parts are cut out here: a function that returned a part
+    // of a lent `&mut` area would have to say what the area holds once that part is written.
     for f in 0..shape.frames {
         let message_start = f * short;
         let message_end = message_start + short;
         let start = f * long;
         let end = start + long;
+        let frame = Column {
+            rows: woven,
+            columns: shape.frames,
+            c: f,
+            long,
+        };
         outcomes[f] = super::decode::decode_frame(
             shape.frame,
-            shape.frames,
-            f,
-            woven,
+            &frame,
             &mut message[message_start..message_end],
             &mut transmission[start..end],
         );
@@ -77,12 +84,10 @@ pub fn decode_woven(
 ) -> Result<[Result<u32, Refusal>; MOST_FRAMES], Refusal>
     ensures { DecodedWoven number frames reception.now message.old transmission.old (woven_answer result) message.new transmission.new }
 {
-    let shape = question::woven_decoding_questions(
-        number,
-        frames,
-        reception,
-        message.len(),
-        transmission.len(),
-    )?;
+    let rooms = Rooms {
+        message: message.len(),
+        transmission: transmission.len(),
+    };
+    let shape = question::woven_decoding_questions(number, frames, reception, rooms)?;
     Ok(decode_frames(shape, reception, message, transmission))
 }

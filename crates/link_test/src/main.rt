@@ -99,16 +99,6 @@ fn show_areas(rt: &HostRuntime, message: &[u8], transmission: &[u8]) -> Result<(
     writeln!(rt.stdout(), " {message} {transmission}")
 }
 
-fn encode(
-    rt: &HostRuntime,
-    number: u64,
-    message: &[u8],
-    transmission: &mut [u8],
-) -> Result<(), Error> {
-    let outcome = link::encode::encode(number, message, transmission);
-    show_outcome(rt, outcome, transmission)
-}
-
 fn decode(
     rt: &HostRuntime,
     number: u64,
@@ -139,28 +129,6 @@ fn marks(
     let found = Marks::from(display::mark::marks(number, reception, transmission, j));
     let answer = Numbers { of: found.answer };
     writeln!(rt.stdout(), "{} {} {}", answer, found.marks, found.set)
-}
-
-fn weave(
-    rt: &HostRuntime,
-    number: u64,
-    frames: u64,
-    incoming: &[u8],
-    out: &mut [u8],
-) -> Result<(), Error> {
-    let outcome = weave::weave(number, frames, incoming, out);
-    show_outcome(rt, outcome, out)
-}
-
-fn unweave(
-    rt: &HostRuntime,
-    number: u64,
-    frames: u64,
-    incoming: &[u8],
-    out: &mut [u8],
-) -> Result<(), Error> {
-    let outcome = weave::unweave(number, frames, incoming, out);
-    show_outcome(rt, outcome, out)
 }
 
 // The answers of all frames; those that are not there are zeros.
@@ -245,12 +213,12 @@ fn call_on(
     let number = head.number;
     let chosen = head.chosen;
     match head.call {
-        b'E' => encode(rt, number, first, third),
+        b'E' => show_outcome(rt, link::encode::encode(number, first, third), third),
         b'D' => decode(rt, number, first, second, third),
         b'W' => window(rt, number, first, chosen),
         b'M' => marks(rt, number, first, second, chosen),
-        b'V' => weave(rt, number, chosen, first, third),
-        b'U' => unweave(rt, number, chosen, first, third),
+        b'V' => show_outcome(rt, weave::weave(number, chosen, first, third), third),
+        b'U' => show_outcome(rt, weave::unweave(number, chosen, first, third), third),
         b'F' => decode_woven(rt, number, chosen, first, second, third),
         b'L' => desk_line(rt, first),
         _ => Ok(()),

@@ -1,9 +1,9 @@
 -- What the first "no" of a list of questions says, and what a call knows when every answer was "yes".
--- Holds: of one question `first_yes`, `first_no_lem`; of a list before others `append_yes`, `append_no`; `numbered`, `AllYes`, `all_yes`, `yes_all` (number 0
+-- Holds: of one question `first_yes`, `first_no_lem`; of a list before others `append_yes`; `numbered`, `AllYes`, `all_yes`, `yes_all` (number 0
 -- says that every answer was "yes"), `true_of`, `number_of`; what is asked of woven frames after the questions that need no setting, `weaving_later`,
 -- `woven_decoding_later`; of a share of the room `share`, `shares`; of question 4 `largest_symbols`, `symbols_to_position`, `symbols_to_whole`,
 -- `whole_symbols`, `symbols_asked`, `position_asked`; what a call knows, `FrameShape`, `DecodingYes`, `EncodingYes`, `WovenYes`, `WovenDecodingYes`,
--- `decoding_yes`, `encoding_yes`, `marks_yes`, `weaving_yes`, `woven_decoding_yes`; from that the answer "yes", `decoding_all_yes`, `weaving_again`; the
+-- `decoding_yes`, `encoding_yes`, `weaving_yes`, `woven_decoding_yes`; from that the answer "yes", `decoding_all_yes`, `weaving_again`; the
 -- areas' sizes, `message_most`, `transmission_most`, `transmission_small`.
 use mathlib.Core.Path.{◌≡◌, refl, sym, ap, subst, ◌∙◌}
 use mathlib.Core.Bool.{Bool, true, false, cond, not, ◌&&◌}
@@ -11,7 +11,7 @@ use mathlib.Core.List.{List, [], ◌∷◌, ◌++◌}
 use Prim.Native.Nat.{ℕ, zero, suc, max, ◌+◌, ◌-◌, ◌*◌, ◌/◌, ◌%◌, ◌≤◌, ◌<◌}
 use native.Mathlib.Nat.{not-suc-le-zero, le_of_suc-le-suc, div-add-mod, div-add-mod', le-div_iff_mul-le, le_trans, mul_comm, mul-le-mul, mul-le-mul_right, mul-mod_left}
 use native.Mathlib.Omega.{arith}
-use lib.Dec.{T as Passes, eqb, leb, ltb, leb→le, le→leb, ltb→lt, eqb→eq}
+use lib.Dec.{T as Passes, eqb, leb, ltb, leb→le, le→leb, eqb→eq}
 use Rattle.std.specs.List.{fold, position, position_or_len}
 use Rattle.std.specs.Prelude.{Option, Some, None}
 use Rattle.std.specs.Option.{MatchOption}
@@ -22,6 +22,7 @@ use Rattle.algebra.specs.Ops.{pick}
 use Rattle.algebra.proofs.Tests.{and_left, and_right}
 use Rattle.field.specs.Symbols.{Symbols}
 use Rattle.field.proofs.Symbols.{symbols_none as no_symbols, symbols_more}
+use Rattle.code.specs.parts.Residual.{frame_length}
 use Rattle.code.specs.declared.Setting.{Setting}
 use Rattle.code.specs.Settings.{is_setting, setting_of}
 use Rattle.code.specs.Windows.{window_length, Message}
@@ -29,7 +30,7 @@ use Rattle.code.proofs.Settings.{largest_of, Sizes, sizes_of}
 use Rattle.question.specs.declared.answer.Answer.{Answer}
 use Rattle.question.specs.Questions.{Question, ask, answer, symbol_question, transmission_question, first_no, most_blocks, most_frames}
 use Rattle.question.specs.Questions.{most_symbols, most_information, blocks_of, symbols_to, area_questions, decoding_questions}
-use Rattle.question.specs.Questions.{encoding_questions, marks_questions, woven_questions, weaving_questions, woven_decoding_questions}
+use Rattle.question.specs.Questions.{encoding_questions, woven_questions, weaving_questions, woven_decoding_questions}
 
 pub true_of : (t : Bool) → Passes t → t ≡ true
 true_of true h = refl
@@ -74,17 +75,7 @@ yes_all (x ∷ rest) t = at x.holds t.0 (yes_all rest t.1)
 pub number_of : {r s : Answer} → r ≡ s → r.number ≡ 0 → s.number ≡ 0
 number_of asked e = ap (λ (t : Answer). t.number) (sym asked) ∙ e
 
--- A list of questions before others: its "no" is the answer, and if it has none the others are asked.
-pub append_no : (a b : List Question) → ((first_no a).number ≡ 0 → ⊥) → first_no (a ++ b) ≡ first_no a
-append_no [] b h = absurd (h refl)
-append_no (x ∷ a) b h = at (append_no a b) x.holds h
-  where
-    at : (((first_no a).number ≡ 0 → ⊥) → first_no (a ++ b) ≡ first_no a) → (t : Bool)
-        → ((pick t (first_no a) (answer x.number x.place 0)).number ≡ 0 → ⊥)
-        → pick t (first_no (a ++ b)) (answer x.number x.place 0) ≡ pick t (first_no a) (answer x.number x.place 0)
-    at more true h = more h
-    at more false h = refl
-
+-- A list of questions before others: if it has no "no", the others are asked.
 pub append_yes : (a b : List Question) → Passes (numbered a) → (first_no a).number ≡ 0 → first_no (a ++ b) ≡ first_no b
 append_yes [] b n e = refl
 append_yes (x ∷ a) b n e = at (append_yes a b (and_right (not (eqb x.number 0)) (numbered a) n)) x.holds e
@@ -103,7 +94,7 @@ abbrev pub woven_decoding_later : ℕ → List ℕ → ℕ → ℕ → Setting �
 woven_decoding_later D reception message_room transmission_room p =
     symbol_question p.q reception
     ∷ ask 5 (leb (D * (blocks_of p (length reception / D) * p.k)) message_room)
-    ∷ ask 6 (leb (D * ((blocks_of p (length reception / D) + p.m) * p.n)) transmission_room)
+    ∷ ask 6 (leb (D * frame_length p (blocks_of p (length reception / D))) transmission_room)
     ∷ []
 
 -- A share of the room: D frames have room where each has it in its share.
@@ -125,7 +116,7 @@ shares D reception message_room transmission_room p h =
     let T = blocks_of p (length reception / D) in
     let four = symbol_question p.q reception in
     ap (λ (t : Bool). first_no (four ∷ ask 5 t ∷ transmission_question p T (transmission_room / D) ∷ [])) (share D (T * p.k) message_room h)
-    ∙ ap (λ (t : Bool). first_no (four ∷ ask 5 (leb (D * (T * p.k)) message_room) ∷ ask 6 t ∷ [])) (share D ((T + p.m) * p.n) transmission_room h)
+    ∙ ap (λ (t : Bool). first_no (four ∷ ask 5 (leb (D * (T * p.k)) message_room) ∷ ask 6 t ∷ [])) (share D (frame_length p T) transmission_room h)
 
 -- No byte exceeds the largest.
 at_most_largest : (l : List ℕ) (most : ℕ) → (most ≤ fold max most l) × ((i : ℕ) → i < length l → get_or l i 0 ≤ fold max most l)
@@ -198,7 +189,7 @@ pub record FrameShape (p : Setting) (long : ℕ) : Type 0 where
   pub sizes : Sizes p
   pub blocks : 1 ≤ blocks_of p long
   pub most : blocks_of p long ≤ most_blocks
-  pub long_is : long ≡ (blocks_of p long + p.m) * p.n
+  pub long_is : long ≡ frame_length p (blocks_of p long)
 
 blocks_of_length : (n m long : ℕ) → 0 < n → long % n ≡ 0 → (m + 1) * n ≤ long → (1 ≤ long / n - m) × (long ≡ (long / n - m + m) * n)
 blocks_of_length n m long positive whole room =
@@ -223,14 +214,14 @@ message_most number p blocks known e h =
     (le_trans (mul-le-mul_right (setting_of number).k h) (largest_of (λ p. most_blocks * p.k) number known))
 
 pub transmission_most : (number : ℕ) (p : Setting) (blocks : ℕ) → Passes (is_setting number) → p ≡ setting_of number → blocks ≤ most_blocks
-    → (blocks + p.m) * p.n ≤ most_symbols
+    → frame_length p blocks ≤ most_symbols
 transmission_most number p blocks known e h =
     let top : blocks + (setting_of number).m ≤ most_blocks + (setting_of number).m = omega arith in
-    subst (λ (s : Setting). (blocks + s.m) * s.n ≤ most_symbols) (sym e)
-    (le_trans (mul-le-mul_right (setting_of number).n top) (largest_of (λ p. (most_blocks + p.m) * p.n) number known))
+    subst (λ (s : Setting). frame_length s blocks ≤ most_symbols) (sym e)
+    (le_trans (mul-le-mul_right (setting_of number).n top) (largest_of (λ p. frame_length p most_blocks) number known))
 
 -- Bounds of every setting there can be.
-pub transmission_small : (p : Setting) (T : ℕ) → Sizes p → T ≤ most_blocks → (T + p.m) * p.n ≤ (most_blocks + 255) * 255
+pub transmission_small : (p : Setting) (T : ℕ) → Sizes p → T ≤ most_blocks → frame_length p T ≤ (most_blocks + 255) * 255
 transmission_small p T s h = let top : T + p.m ≤ most_blocks + 255 = omega (arith, s.memory_most) in mul-le-mul top s.symbols_most
 
 -- What decoding knows when questions 1 to 6 got "yes".
@@ -238,10 +229,10 @@ pub record DecodingYes (number : ℕ) (reception : List ℕ) (message_room trans
   pub setting : Passes (is_setting number)
   pub blocks : 1 ≤ blocks_of (setting_of number) (length reception)
   pub most : blocks_of (setting_of number) (length reception) ≤ most_blocks
-  pub long : length reception ≡ (blocks_of (setting_of number) (length reception) + (setting_of number).m) * (setting_of number).n
+  pub long : length reception ≡ frame_length (setting_of number) (blocks_of (setting_of number) (length reception))
   pub symbols : Symbols (setting_of number).q reception
   pub has_message_room : blocks_of (setting_of number) (length reception) * (setting_of number).k ≤ message_room
-  pub has_transmission_room : (blocks_of (setting_of number) (length reception) + (setting_of number).m) * (setting_of number).n ≤ transmission_room
+  pub has_transmission_room : frame_length (setting_of number) (blocks_of (setting_of number) (length reception)) ≤ transmission_room
 
 pub decoding_yes : (number : ℕ) (reception : List ℕ) (message_room transmission_room : ℕ)
     → (first_no (decoding_questions number reception message_room transmission_room)).number ≡ 0 → DecodingYes number reception message_room transmission_room
@@ -256,7 +247,7 @@ decoding_yes number reception message_room transmission_room e =
       long = frame.long_is;
       symbols = whole_symbols p.q reception (eqb→eq (symbols_to p.q reception) (length reception) all.1.1.1.0);
       has_message_room = leb→le (blocks_of p (length reception) * p.k) message_room all.1.1.1.1.0;
-      has_transmission_room = leb→le ((blocks_of p (length reception) + p.m) * p.n) transmission_room all.1.1.1.1.1.0;
+      has_transmission_room = leb→le (frame_length p (blocks_of p (length reception))) transmission_room all.1.1.1.1.1.0;
     }
 
 -- The other way round: what decoding knows is all that it asks.
@@ -272,14 +263,14 @@ length_test {p} {long} frame =
 pub decoding_all_yes : (number : ℕ) (reception : List ℕ) (message_room transmission_room : ℕ) → Passes (is_setting number)
     → FrameShape (setting_of number) (length reception) → Symbols (setting_of number).q reception
     → blocks_of (setting_of number) (length reception) * (setting_of number).k ≤ message_room
-    → (blocks_of (setting_of number) (length reception) + (setting_of number).m) * (setting_of number).n ≤ transmission_room
+    → frame_length (setting_of number) (blocks_of (setting_of number) (length reception)) ≤ transmission_room
     → (first_no (decoding_questions number reception message_room transmission_room)).number ≡ 0
 decoding_all_yes number reception message_room transmission_room known frame S messages transmissions =
     let p = setting_of number in
     let T = blocks_of p (length reception) in
     let four = subst Passes (sym (eq-eqb (symbols_to p.q reception) (length reception) (symbols_to_whole p.q reception S))) tt in
     let five = le→leb (T * p.k) message_room messages in
-    let six = le→leb ((T + p.m) * p.n) transmission_room transmissions in
+    let six = le→leb (frame_length p T) transmission_room transmissions in
     ap (λ (t : Answer). t.number)
     (yes_all (decoding_questions number reception message_room transmission_room)
     (known, (length_test frame, (le→leb T most_blocks frame.most, (four, (five, (six, tt)))))))
@@ -289,7 +280,7 @@ pub record EncodingYes (number : ℕ) (message : List ℕ) (transmission_room : 
   pub setting : Passes (is_setting number)
   pub most : length message / (setting_of number).k ≤ most_blocks
   pub message_of : Message (setting_of number) (length message / (setting_of number).k) message
-  pub room : (length message / (setting_of number).k + (setting_of number).m) * (setting_of number).n ≤ transmission_room
+  pub room : frame_length (setting_of number) (length message / (setting_of number).k) ≤ transmission_room
 
 pub encoding_yes : (number : ℕ) (message : List ℕ) (transmission_room : ℕ)
     → (first_no (encoding_questions number message transmission_room)).number ≡ 0 → EncodingYes number message transmission_room
@@ -310,15 +301,8 @@ encoding_yes number message transmission_room e =
             long = omega (arith, div-add-mod' (length message) p.k);
             symbols = whole_symbols p.q message (eqb→eq (symbols_to p.q message) (length message) all.1.1.1.0);
           };
-      room = leb→le ((T + p.m) * p.n) transmission_room all.1.1.1.1.0;
+      room = leb→le (frame_length p T) transmission_room all.1.1.1.1.0;
     }
-
--- What marking knows when its questions got "yes".
-pub marks_yes : (number reception_long transmission_long j : ℕ) → (first_no (marks_questions number reception_long transmission_long j)).number ≡ 0
-    → (j < blocks_of (setting_of number) reception_long) × (reception_long ≡ transmission_long)
-marks_yes number reception_long transmission_long j e =
-    let all = all_yes (marks_questions number reception_long transmission_long j) tt e in
-    (ltb→lt j (blocks_of (setting_of number) reception_long) all.1.1.1.0, eqb→eq reception_long transmission_long all.1.1.1.1.0)
 
 -- What is known of D woven frames of together this length, when 1, 14, 15, 2 and 3 got "yes".
 pub record WovenYes (number D long : ℕ) : Type 0 where
@@ -375,7 +359,7 @@ pub record WovenDecodingYes (number D : ℕ) (reception : List ℕ) (message_roo
   pub woven : WovenYes number D (length reception)
   pub symbols : Symbols (setting_of number).q reception
   pub has_message_room : D * (blocks_of (setting_of number) (length reception / D) * (setting_of number).k) ≤ message_room
-  pub has_transmission_room : D * ((blocks_of (setting_of number) (length reception / D) + (setting_of number).m) * (setting_of number).n) ≤ transmission_room
+  pub has_transmission_room : D * frame_length (setting_of number) (blocks_of (setting_of number) (length reception / D)) ≤ transmission_room
 
 pub woven_decoding_yes : (number D : ℕ) (reception : List ℕ) (message_room transmission_room : ℕ)
     → (first_no (woven_decoding_questions number D reception message_room transmission_room)).number ≡ 0
@@ -389,5 +373,5 @@ woven_decoding_yes number D reception message_room transmission_room e =
       woven = woven_of number D (length reception) all.0;
       symbols = whole_symbols p.q reception (eqb→eq (symbols_to p.q reception) (length reception) all.1.0);
       has_message_room = leb→le (D * (T * p.k)) message_room all.1.1.0;
-      has_transmission_room = leb→le (D * ((T + p.m) * p.n)) transmission_room all.1.1.1.0;
+      has_transmission_room = leb→le (D * frame_length p T) transmission_room all.1.1.1.0;
     }

@@ -1,17 +1,18 @@
 -- What a call knows from its questions' outcome, of the shape that they found.
 -- Holds: of an outcome `asked_yes`, `refusal_numbered`; of a shape `reception_setting`, `reception_long`, `reception_blocks`, `message_setting`,
 -- `message_blocks`; of what is asked after the shape was found `after_frame`, `after_count`, `after_woven`; of a call whose questions got "yes" `DecodingKnown`,
--- `EncodingKnown`, `WovenKnown`, `decoding_known`, `encoding_known`, `marks_known`, `weaving_known`, `woven_decoding_known`.
+-- `EncodingKnown`, `WovenKnown`, `decoding_known`, `encoding_known`, `weaving_known`, `woven_decoding_known`.
 use mathlib.Core.Path.{◌≡◌, sym, ap, subst, ◌∙◌}
 use mathlib.Core.Bool.{true}
 use mathlib.Core.List.{List, ◌++◌}
-use Prim.Native.Nat.{ℕ, ◌+◌, ◌*◌, ◌/◌, ◌%◌, ◌≤◌, ◌<◌}
+use Prim.Native.Nat.{ℕ, ◌+◌, ◌*◌, ◌/◌, ◌%◌, ◌≤◌}
 use native.Mathlib.Nat.{mul-div_cancel, mul_comm}
 use native.Mathlib.Omega.{arith}
 use lib.Dec.{T as Passes}
 use lib.ListN.{length}
 use borrow.Author.Tests.{le-leb, eq-eqb}
 use Rattle.field.specs.Symbols.{Symbols}
+use Rattle.code.specs.parts.Residual.{frame_length}
 use Rattle.code.specs.declared.Setting.{Setting}
 use Rattle.code.specs.declared.SettingNumber.{SettingNumber}
 use Rattle.code.specs.Settings.{is_setting, setting_of}
@@ -26,12 +27,12 @@ use Rattle.question.specs.declared.refusal.Refusal.TheVariants.{UnevenFrames}
 use Rattle.question.specs.declared.shape.Shape.{Shape}
 use Rattle.question.specs.declared.shape.WovenShape.{WovenShape}
 use Rattle.question.specs.Questions.{Question, answer, first_no, blocks_of, most_frames, length_questions, frame_questions, area_questions}
-use Rattle.question.specs.Questions.{decoding_questions, encoding_questions, marks_questions}
+use Rattle.question.specs.Questions.{decoding_questions, encoding_questions}
 use Rattle.question.specs.Questions.{woven_questions, weaving_questions, woven_decoding_questions}
 use Rattle.question.specs.Refusals.{number_of}
 use Rattle.question.specs.parts.Shapes.{ReceptionOf, MessageOf, WovenOf}
 use Rattle.question.proofs.Questions.{true_of, append_yes, shares, woven_decoding_later}
-use Rattle.question.proofs.Questions.{decoding_yes, encoding_yes, marks_yes, weaving_yes, woven_decoding_yes}
+use Rattle.question.proofs.Questions.{decoding_yes, encoding_yes, weaving_yes, woven_decoding_yes}
 
 -- The outcome "yes" says that every question got it.
 pub asked_yes : {a : Answer} → answer 0 0 0 ≡ a → a.number ≡ 0
@@ -60,8 +61,8 @@ module _ {number long : ℕ} {s : Shape} (r : ReceptionOf number long s) where
   pub reception_setting : parameters_of s.setting ≡ setting_of number
   reception_setting = ap setting_of r.numbered
 
-  pub reception_long : long ≡ (s.blocks + (parameters_of s.setting).m) * (parameters_of s.setting).n
-  reception_long = r.blocks ∙ ap (λ (p : Setting). (s.blocks + p.m) * p.n) (sym reception_setting)
+  pub reception_long : long ≡ frame_length (parameters_of s.setting) s.blocks
+  reception_long = r.blocks ∙ ap (λ (p : Setting). frame_length p s.blocks) (sym reception_setting)
 
   pub reception_blocks : s.blocks ≡ blocks_of (setting_of number) long
   reception_blocks =
@@ -118,10 +119,10 @@ module _ {number long : ℕ} {s : Shape} (r : MessageOf number long s) where
 
 -- What decoding knows of the shape that it found.
 pub record DecodingKnown (s : Shape) (reception : List ℕ) (message_room transmission_room : ℕ) : Type 0 where
-  pub long : length reception ≡ (s.blocks + (parameters_of s.setting).m) * (parameters_of s.setting).n
+  pub long : length reception ≡ frame_length (parameters_of s.setting) s.blocks
   pub symbols : Symbols (parameters_of s.setting).q reception
   pub has_message_room : s.blocks * (parameters_of s.setting).k ≤ message_room
-  pub has_transmission_room : (s.blocks + (parameters_of s.setting).m) * (parameters_of s.setting).n ≤ transmission_room
+  pub has_transmission_room : frame_length (parameters_of s.setting) s.blocks ≤ transmission_room
 
 pub decoding_known : {number : ℕ} {s : Shape} (reception : List ℕ) (message_room transmission_room : ℕ) → ReceptionOf number (length reception) s
     → answer 0 0 0 ≡ first_no (decoding_questions number reception message_room transmission_room) → DecodingKnown s reception message_room transmission_room
@@ -136,14 +137,14 @@ decoding_known {number} {s} reception message_room transmission_room r asked =
           subst (λ (p : Setting). s.blocks * p.k ≤ message_room) (sym p)
           (subst (λ (t : ℕ). t * (setting_of number).k ≤ message_room) (sym T) yes.has_message_room);
       has_transmission_room =
-          subst (λ (p : Setting). (s.blocks + p.m) * p.n ≤ transmission_room) (sym p)
-          (subst (λ (t : ℕ). (t + (setting_of number).m) * (setting_of number).n ≤ transmission_room) (sym T) yes.has_transmission_room);
+          subst (λ (p : Setting). frame_length p s.blocks ≤ transmission_room) (sym p)
+          (subst (λ (t : ℕ). frame_length (setting_of number) t ≤ transmission_room) (sym T) yes.has_transmission_room);
     }
 
 -- What encoding knows of the shape that it found.
 pub record EncodingKnown (s : Shape) (message : List ℕ) (transmission_room : ℕ) : Type 0 where
   pub message_of : Message (parameters_of s.setting) s.blocks message
-  pub room : (s.blocks + (parameters_of s.setting).m) * (parameters_of s.setting).n ≤ transmission_room
+  pub room : frame_length (parameters_of s.setting) s.blocks ≤ transmission_room
 
 pub encoding_known : {number : ℕ} {s : Shape} (message : List ℕ) (transmission_room : ℕ) → MessageOf number (length message) s
     → answer 0 0 0 ≡ first_no (encoding_questions number message transmission_room) → EncodingKnown s message transmission_room
@@ -156,28 +157,21 @@ encoding_known {number} {s} message transmission_room r asked =
           subst (λ (p : Setting). Message p s.blocks message) (sym p)
           (subst (λ (t : ℕ). Message (setting_of number) t message) (sym T) yes.message_of);
       room =
-          subst (λ (p : Setting). (s.blocks + p.m) * p.n ≤ transmission_room) (sym p)
-          (subst (λ (t : ℕ). (t + (setting_of number).m) * (setting_of number).n ≤ transmission_room) (sym T) yes.room);
+          subst (λ (p : Setting). frame_length p s.blocks ≤ transmission_room) (sym p)
+          (subst (λ (t : ℕ). frame_length (setting_of number) t ≤ transmission_room) (sym T) yes.room);
     }
-
--- What marking knows of the shape that it found: window j is one of the frame's.
-pub marks_known : {number reception_long : ℕ} {s : Shape} (transmission_long j : ℕ) → ReceptionOf number reception_long s
-    → answer 0 0 0 ≡ first_no (marks_questions number reception_long transmission_long j) → (j < s.blocks) × (reception_long ≡ transmission_long)
-marks_known {number} {reception_long} {s} transmission_long j r asked =
-    let yes = marks_yes number reception_long transmission_long j (asked_yes asked) in
-    (subst (λ (t : ℕ). j < t) (sym (reception_blocks r)) yes.0, yes.1)
 
 -- What is known of woven frames of the shape that was found.
 pub record WovenKnown (w : WovenShape) (incoming : List ℕ) : Type 0 where
   pub symbols : Symbols (parameters_of w.frame.setting).q incoming
-  pub long : length incoming ≡ w.frames * ((w.frame.blocks + (parameters_of w.frame.setting).m) * (parameters_of w.frame.setting).n)
+  pub long : length incoming ≡ w.frames * frame_length (parameters_of w.frame.setting) w.frame.blocks
 
 woven_long : {number frames long : ℕ} {w : WovenShape} → WovenOf number frames long w
-    → long ≡ w.frames * ((w.frame.blocks + (parameters_of w.frame.setting).m) * (parameters_of w.frame.setting).n)
+    → long ≡ w.frames * frame_length (parameters_of w.frame.setting) w.frame.blocks
 woven_long {number} {frames} {long} {w} r =
     let one = reception_long r.frame in
     let p = parameters_of w.frame.setting in
-    r.whole ∙ ap (λ (t : ℕ). t * frames) one ∙ ap (λ (t : ℕ). (w.frame.blocks + p.m) * p.n * t) (sym r.count) ∙ mul_comm _ _
+    r.whole ∙ ap (λ (t : ℕ). t * frames) one ∙ ap (λ (t : ℕ). frame_length p w.frame.blocks * t) (sym r.count) ∙ mul_comm _ _
 
 pub weaving_known : {number frames : ℕ} {w : WovenShape} (incoming : List ℕ) (room : ℕ) → WovenOf number frames (length incoming) w
     → answer 0 0 0 ≡ first_no (weaving_questions number frames incoming room) → WovenKnown w incoming × (length incoming ≤ room)
@@ -190,7 +184,7 @@ pub woven_decoding_known : {number frames : ℕ} {w : WovenShape} (reception : L
     → WovenOf number frames (length reception) w
     → answer 0 0 0 ≡ first_no (woven_decoding_questions number frames reception message_room transmission_room)
     → WovenKnown w reception × (w.frames * (w.frame.blocks * (parameters_of w.frame.setting).k) ≤ message_room)
-    × (w.frames * ((w.frame.blocks + (parameters_of w.frame.setting).m) * (parameters_of w.frame.setting).n) ≤ transmission_room)
+    × (w.frames * frame_length (parameters_of w.frame.setting) w.frame.blocks ≤ transmission_room)
 woven_decoding_known {number} {frames} {w} reception message_room transmission_room r asked =
     let yes = woven_decoding_yes number frames reception message_room transmission_room (asked_yes asked) in
     let p = reception_setting r.frame in
@@ -199,7 +193,7 @@ woven_decoding_known {number} {frames} {w} reception message_room transmission_r
       subst (λ (D : ℕ). D * (w.frame.blocks * (parameters_of w.frame.setting).k) ≤ message_room) (sym r.count)
           (subst (λ (p : Setting). frames * (w.frame.blocks * p.k) ≤ message_room) (sym p)
           (subst (λ (t : ℕ). frames * (t * (setting_of number).k) ≤ message_room) (sym T) yes.has_message_room)),
-      subst (λ (D : ℕ). D * ((w.frame.blocks + (parameters_of w.frame.setting).m) * (parameters_of w.frame.setting).n) ≤ transmission_room) (sym r.count)
-          (subst (λ (p : Setting). frames * ((w.frame.blocks + p.m) * p.n) ≤ transmission_room) (sym p)
-          (subst (λ (t : ℕ). frames * ((t + (setting_of number).m) * (setting_of number).n) ≤ transmission_room) (sym T) yes.has_transmission_room)),
+      subst (λ (D : ℕ). D * frame_length (parameters_of w.frame.setting) w.frame.blocks ≤ transmission_room) (sym r.count)
+          (subst (λ (p : Setting). frames * frame_length p w.frame.blocks ≤ transmission_room) (sym p)
+          (subst (λ (t : ℕ). frames * frame_length (setting_of number) t ≤ transmission_room) (sym T) yes.has_transmission_room)),
     )

@@ -16,7 +16,7 @@ ghost use Rattle.question.specs.parts.Shapes.{ReceptionOf, MessageOf, WovenOf};
 
 use code::{Setting, SettingNumber};
 use refusal::Refusal;
-use shape::{MOST_BLOCKS, MOST_FRAMES, Shape, WovenShape};
+use shape::{MOST_BLOCKS, MOST_FRAMES, Rooms, Shape, WovenShape};
 
 // The largest byte, which no byte exceeds. No early exit: the compiler looks at many bytes at once.
 fn largest_byte(bytes: &[u8]) -> u8
@@ -51,7 +51,7 @@ fn length_questions(setting: SettingNumber, long: usize) -> Result<Shape, Refusa
     ensures shape { IfOk result (ReceptionOf (number_of setting) «long») }
 {
     let p = Setting::from(setting);
-    if long % p.n != 0 || long < (p.m + 1) * p.n {
+    if long % p.n != 0 || long < code::window_length(p) {
         return Err(Refusal::FrameLength);
     }
     let blocks = long / p.n - p.m;
@@ -70,37 +70,27 @@ pub fn frame_questions(number: u64, long: usize) -> Result<Shape, Refusal>
     length_questions(setting, long)
 }
 
-// 4, 5 and 6 of frames of this shape, in areas with this much room for each.
-fn area_questions(
-    shape: Shape,
-    reception: &[u8],
-    message_room: usize,
-    transmission_room: usize,
-) -> Result<(), Refusal>
-    ensures { asked result ≡ first_no (area_questions (parameters_of shape.setting) shape.blocks reception.now message_room transmission_room) }
+// 4, 5 and 6 of frames of this shape, in areas with these rooms for each.
+fn area_questions(shape: Shape, reception: &[u8], rooms: Rooms) -> Result<(), Refusal>
+    ensures { asked result ≡ first_no (area_questions (parameters_of shape.setting) shape.blocks reception.now rooms.message rooms.transmission) }
 {
     symbol_question(shape.parameters().q, reception)?;
-    if message_room < shape.message_length() {
+    if rooms.message < shape.message_length() {
         return Err(Refusal::MessageRoom);
     }
-    if transmission_room < shape.transmission_length() {
+    if rooms.transmission < shape.transmission_length() {
         return Err(Refusal::TransmissionRoom);
     }
     Ok(())
 }
 
 // Decoding: 1, 2, 3, 4, 5, 6.
-pub fn decoding_questions(
-    number: u64,
-    reception: &[u8],
-    message_room: usize,
-    transmission_room: usize,
-) -> Result<Shape, Refusal>
-    ensures answer { asked result ≡ first_no (decoding_questions number reception.now message_room transmission_room) }
+pub fn decoding_questions(number: u64, reception: &[u8], rooms: Rooms) -> Result<Shape, Refusal>
+    ensures answer { asked result ≡ first_no (decoding_questions number reception.now rooms.message rooms.transmission) }
     ensures shape { IfOk result (ReceptionOf number (length reception.now)) }
 {
     let shape = frame_questions(number, reception.len())?;
-    area_questions(shape, reception, message_room, transmission_room)?;
+    area_questions(shape, reception, rooms)?;
     Ok(shape)
 }
 
@@ -199,15 +189,12 @@ pub fn woven_decoding_questions(
     number: u64,
     frames: u64,
     reception: &[u8],
-    message_room: usize,
-    transmission_room: usize,
+    rooms: Rooms,
 ) -> Result<WovenShape, Refusal>
-    ensures answer { asked result ≡ first_no (woven_decoding_questions number frames reception.now message_room transmission_room) }
+    ensures answer { asked result ≡ first_no (woven_decoding_questions number frames reception.now rooms.message rooms.transmission) }
     ensures shape { IfOk result (WovenOf number frames (length reception.now)) }
 {
     let shape = woven_questions(number, frames, reception.len())?;
-    let message_share = message_room / shape.frames;
-    let transmission_share = transmission_room / shape.frames;
-    area_questions(shape.frame, reception, message_share, transmission_share)?;
+    area_questions(shape.frame, reception, shape.share(rooms))?;
     Ok(shape)
 }

@@ -1,6 +1,7 @@
-// The shapes of frames.
-ghost use Rattle.std.specs.Prelude.{◌≡◌, ◌+◌, ◌*◌, ◌≤◌};
+// The shapes of frames, and the rooms that are lent for them.
+ghost use Rattle.std.specs.Prelude.{◌≡◌, ◌*◌, ◌/◌, ◌≤◌};
 ghost use Rattle.code.specs.parts.SettingNumbers.{parameters_of};
+ghost use Rattle.code.specs.parts.Residual.{frame_length};
 ghost use Rattle.question.specs.Questions.{most_blocks, most_frames};
 
 use code::{Setting, SettingNumber};
@@ -37,11 +38,18 @@ impl Shape {
 
     // (T+m) × n, the length of its transmission.
     pub fn transmission_length(self) -> usize
-        ensures { result ≡ (self.blocks + (parameters_of self.setting).m) * (parameters_of self.setting).n }
+        ensures { result ≡ frame_length (parameters_of self.setting) self.blocks }
     {
         let p = self.parameters();
         (self.blocks + p.m) * p.n
     }
+}
+
+// Room for messages and for their transmissions, in symbols.
+#[derive(Clone, Copy)]
+pub struct Rooms {
+    pub message: usize,
+    pub transmission: usize,
 }
 
 // The shape of woven frames: that of each, and how many.
@@ -51,4 +59,16 @@ pub struct WovenShape {
     pub frames: usize,
     pub ghost several: { 2 ≤ frames },
     pub ghost few: { frames ≤ most_frames },
+}
+
+impl WovenShape {
+    // One frame's share of the rooms for all of them.
+    pub fn share(self, rooms: Rooms) -> Rooms
+        ensures { (result.message ≡ rooms.message / self.frames) × (result.transmission ≡ rooms.transmission / self.frames) }
+    {
+        Rooms {
+            message: rooms.message / self.frames,
+            transmission: rooms.transmission / self.frames,
+        }
+    }
 }

@@ -1,5 +1,5 @@
 -- A generator's rows, laid out one after the other.
--- Holds: `Filled`, `filled_none`, `filled_long`, `filled_more`, `laid_out` (the filled rows are the table's); `row_list` (a row of the nested table), `rows_of` (a
+-- Holds: `Filled`, `filled_long`, `filled_more`, `laid_out` (the filled rows are the table's); `row_list` (a row of the nested table), `rows_of` (a
 -- generator laid out is the setting's rows).
 use mathlib.Core.Path.{◌≡◌, sym, ap, ap₂, subst, ◌∙◌}
 use mathlib.Core.List.{List, []}
@@ -25,9 +25,6 @@ module _ (n powers : ℕ) (table : List (List (List ℕ))) where
   -- The first a rows stand in their places.
   pub record Filled (a : ℕ) (rows : List ℕ) : Type 0 where
     pub at : (b i : ℕ) → b < a → i < n → get_or rows (b * n + i) 0 ≡ get_or (row_in_turn powers table b) i 0
-
-  pub filled_none : (rows : List ℕ) → Filled 0 rows
-  filled_none rows = record { at = λ b i l h. absurd (omega arith) }
 
   -- One row more, copied to the `size` places from a × n on.
   module _ (a size : ℕ) (rows row : List ℕ) (f : Filled a rows) (is : row ≡ row_in_turn powers table a) (long : length row ≡ n) (whole : size ≡ length row)

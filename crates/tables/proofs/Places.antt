@@ -1,9 +1,8 @@
 -- Where symbols stand in a setting's rows, with the bounds that the code asks; sums that the loops make.
--- Holds: `Place`, `place_of`, `first_place`; `product_sum`, `product_sum_all` (the sum over the rows of G_j), `combination_sum`, `combination_sum_all`.
+-- Holds: `place_of`, `first_place`; `product_sum`, `product_sum_all` (the sum over the rows of G_j), `combination_sum`, `combination_sum_all`.
 use mathlib.Core.Path.{◌≡◌, sym, ap, subst}
 use mathlib.Core.List.{List}
 use Prim.Native.Nat.{ℕ, ◌+◌, ◌-◌, ◌*◌, ◌≤◌, ◌<◌}
-use native.Mathlib.Nat.{mul-le-mul_left}
 use native.Mathlib.Numerals.{add-one}
 use native.Mathlib.Omega.{arith}
 use lib.Arith.{digits_lt}
@@ -12,6 +11,7 @@ use Rattle.algebra.specs.Sum.{sum}
 use Rattle.algebra.proofs.Sums.{sum_ext}
 use Rattle.area.specs.Lists.{view}
 use Rattle.field.specs.Fields.{ops_of}
+use Rattle.field.specs.parts.Sequences.{at}
 use Rattle.code.specs.declared.Setting.{Setting}
 use Rattle.code.specs.Generator.{times_g}
 use Rattle.code.specs.Level.{combination}
@@ -21,46 +21,32 @@ use Rattle.code.proofs.Settings.{block_positive}
 use Rattle.code.proofs.CodeBelow.{row_symbol_below}
 use Rattle.tables.specs.parts.Rows.{rows_length, RowsOf}
 
--- The steps of computing a place stay within the rows, and the symbol there is the generator's.
-pub record Place (p : Setting) (rows : List ℕ) (j r i : ℕ) : Type 0 where
-  pub group : r * (p.m + 1) ≤ length rows
-  pub row : r * (p.m + 1) + j ≤ length rows
-  pub start : (r * (p.m + 1) + j) * p.n ≤ length rows
-  pub place : (r * (p.m + 1) + j) * p.n + i < length rows
-  pub below : get_or rows ((r * (p.m + 1) + j) * p.n + i) 0 < p.q
-
-pub place_of : (p : Setting) → Sound p → (rows : List ℕ) → RowsOf p rows → (j r i : ℕ) → j ≤ p.m → r < p.k → i < p.n → Place p rows j r i
+-- The place of symbol i of row r of G_j is in the rows, and the symbol there is below q.
+pub place_of : (p : Setting) → Sound p → (rows : List ℕ) → RowsOf p rows → (j r i : ℕ) → j ≤ p.m → r < p.k → i < p.n
+    → ((r * (p.m + 1) + j) * p.n + i < length rows) × (get_or rows ((r * (p.m + 1) + j) * p.n + i) 0 < p.q)
 place_of p S rows R j r i lj lr li =
     let inside : j < p.m + 1 = omega arith in
     let fits : (r * (p.m + 1) + j) * p.n + i < rows_length p = digits_lt (digits_lt lr inside) li in
-    let wide : r * (p.m + 1) + j ≤ (r * (p.m + 1) + j) * p.n = omega (arith, mul-le-mul_left (r * (p.m + 1) + j) (block_positive p S)) in
-    record {
-      group = omega (arith, R.room);
-      row = omega (arith, R.room);
-      start = omega (arith, R.room);
-      place = omega (arith, R.room);
-      below = subst (λ (t : ℕ). t < p.q) (sym (R.at j r i inside lr li)) (row_symbol_below p S j r i);
-    }
+    (omega (arith, fits, R.room), subst (λ (t : ℕ). t < p.q) (sym (R.at j r i inside lr li)) (row_symbol_below p S j r i))
 
 -- There is a first symbol.
 pub first_place : (p : Setting) → Sound p → (rows : List ℕ) → RowsOf p rows → (0 < length rows) × (get_or rows 0 0 < p.q)
 first_place p S rows R =
-    let at : Place p rows 0 0 0 = place_of p S rows R 0 0 0 (omega arith) S.information (block_positive p S) in
+    let at = place_of p S rows R 0 0 0 (omega arith) S.information (block_positive p S) in
     let first : (0 * (p.m + 1) + 0) * p.n + 0 ≡ 0 = omega arith in
-    (subst (λ (t : ℕ). t < length rows) first at.place, subst (λ (t : ℕ). get_or rows t 0 < p.q) first at.below)
+    (subst (λ (t : ℕ). t < length rows) first at.0, subst (λ (t : ℕ). get_or rows t 0 < p.q) first at.1)
 
 -- The first r terms of the sum over the rows of G_j, from the lent rows.
-abbrev pub product_sum : ℕ → List ℕ → List ℕ → ℕ → ℕ → ℕ → ℕ → ℕ → ℕ → ℕ
-product_sum q rows information from n powers j i r =
-    sum (ops_of q) r (λ a. (ops_of q).mul (get_or information (from + a) 0) (get_or rows ((a * powers + j) * n + i) 0))
+abbrev pub product_sum : ℕ → List ℕ → List ℕ → ℕ → ℕ → ℕ → ℕ → ℕ → ℕ
+product_sum q rows block n powers j i r = sum (ops_of q) r (λ a. (ops_of q).mul (at block a) (get_or rows ((a * powers + j) * n + i) 0))
 
 -- The whole sum is (information block) × G_j.
-pub product_sum_all : (p : Setting) (rows information : List ℕ) (from j i : ℕ) → RowsOf p rows → j ≤ p.m → i < p.n
-    → product_sum p.q rows information from p.n (p.m + 1) j i p.k ≡ times_g (code_of p) (λ a. get_or information (from + a) 0) j i
+pub product_sum_all : (p : Setting) (rows block : List ℕ) (j i : ℕ) → RowsOf p rows → j ≤ p.m → i < p.n
+    → product_sum p.q rows block p.n (p.m + 1) j i p.k ≡ times_g (code_of p) (at block) j i
 unfolding times_g
-product_sum_all p rows information from j i R lj li =
+product_sum_all p rows block j i R lj li =
     let below : j < p.m + 1 = omega arith in
-    sum_ext (ops_of p.q) p.k _ _ (λ a l. ap ((ops_of p.q).mul (get_or information (from + a) 0)) (R.at j a i below l li))
+    sum_ext (ops_of p.q) p.k _ _ (λ a l. ap ((ops_of p.q).mul (at block a)) (R.at j a i below l li))
 
 -- The first j terms of a combination.
 abbrev pub combination_sum : Setting → List ℕ → ℕ → ℕ → ℕ → ℕ

@@ -1,18 +1,18 @@
 // The generator of each setting as a nested table, and its rows laid out: made once in a library call and lent down.
 #![tactic(auto)]
 
-ghost use Rattle.std.specs.Prelude.{◌≡◌, ◌+◌, ◌*◌, ◌≤◌, ◌<◌, length, get_or};
-ghost use Rattle.area.specs.Lists.{view};
+ghost use Rattle.std.specs.Prelude.{◌≡◌, ◌*◌, ◌≤◌, ◌<◌, length};
 ghost use Rattle.field.specs.parts.Operations.{Is};
 ghost use Rattle.field.specs.Symbols.{Symbols};
+ghost use Rattle.field.specs.parts.Sequences.{at};
 ghost use Rattle.code.specs.Generator.{times_g};
-ghost use Rattle.code.specs.Level as level;
 ghost use Rattle.code.specs.parts.SettingNumbers.{parameters_of};
 ghost use Rattle.code.specs.Settings.{code_of};
 ghost use Rattle.code.specs.Windows.{window_length};
 ghost use Rattle.tables.specs.parts.Rows.{rows_length, Narrow, LaidOut, RowsOf, Ready};
 ghost use Rattle.tables.specs.parts.RowsAdded.{RowsAdded};
 
+pub mod combination;
 mod multiples;
 
 use code::{Setting, SettingNumber};
@@ -151,33 +151,17 @@ impl Tables {
         }
     }
 
-    // Symbol i of (the k information symbols at `from`) × G_j.
-    pub fn times_g(&self, information: &[u8], from: usize, j: usize, i: usize) -> u8
-        requires { Symbols self.now.setting.q information.now × (from + self.now.setting.k ≤ length information.now) × (j ≤ self.now.setting.m) × (i < self.now.setting.n) }
-        ensures { Is self.now.setting.q result (times_g (code_of self.now.setting) (λ a. get_or information.now (from + a) 0) j i) }
+    // Symbol i of (an information block) × G_j.
+    pub fn times_g(&self, block: &[u8], j: usize, i: usize) -> u8
+        requires { Symbols self.now.setting.q block.now × (length block.now ≡ self.now.setting.k) × (j ≤ self.now.setting.m) × (i < self.now.setting.n) }
+        ensures { Is self.now.setting.q result (times_g (code_of self.now.setting) (at block.now) j i) }
     {
         let p = self.setting;
         let powers = p.m + 1;
         let mut sum: u8 = 0;
-        for r in 0..p.k {
+        for (r, &symbol) in block.iter().enumerate() {
             let row = (r * powers + j) * p.n;
-            sum = self
-                .field
-                .add_product(sum, information[from + r], self.rows[row + i]);
-        }
-        sum
-    }
-
-    // Symbol i of the level-l combination of the l + 1 information blocks.
-    pub fn combination(&self, information: &[u8], l: usize, i: usize) -> u8
-        requires { Symbols self.now.setting.q information.now × ((l + 1) * self.now.setting.k ≤ length information.now) × (l ≤ self.now.setting.m) × (i < self.now.setting.n) }
-        ensures { Is self.now.setting.q result (level.combination (code_of self.now.setting) l (view self.now.setting.k information.now) i) }
-    {
-        let k = self.setting.k;
-        let mut sum: u8 = 0;
-        for j in 0..l + 1 {
-            let part = self.times_g(information, (l - j) * k, j, i);
-            sum = self.field.add(sum, part);
+            sum = self.field.add_product(sum, symbol, self.rows[row + i]);
         }
         sum
     }
@@ -187,13 +171,11 @@ impl Tables {
         requires { (r < self.now.setting.k) × (v < self.now.setting.q) × (length window.old ≡ window_length self.now.setting) × Symbols self.now.setting.q window.old }
         ensures { RowsAdded self.now.setting r v window.old window.new }
     {
-        let size = (self.setting.m + 1) * self.setting.n;
-        let start = r * size;
-        let end = start + size;
+        let length = code::window_length(self.setting);
         let multiple = Multiple {
             field: &self.field,
             v,
-            row: &self.rows[start..end],
+            row: area::part(&self.rows, length, r),
         };
         multiple.add(window);
     }

@@ -51,12 +51,12 @@ impl Multiple<'_> {
         4 * fours
     }
 
-    // Adds the multiple to the symbols of the area from a place on, the last first.
+    // Adds the multiple to the symbols of the area from a place on.
     fn add_from(&self, from: usize, area: &mut [u8])
         requires { (from ≤ length area.old) × Symbols self.now.field.now.q area.old × (length self.now.row.now ≡ length area.old) }
         ensures { MultipleAdded self.now.field.now.q self.now.v from (length area.old) self.now.row.now area.old area.new }
     {
-        for i in (from..area.len()).rev() {
+        for i in from..area.len() {
             self.add_place(i, area);
         }
     }

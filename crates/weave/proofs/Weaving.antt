@@ -1,8 +1,7 @@
 -- Woven frames: where each symbol goes, that weaving and unweaving undo each other, the columns of rows of symbols, and the calls.
 -- Holds: `whole_frames` (the size of a frame); `length_transposed`, `transposed_symbol`, `transposed_twice`, `transposed_symbols`; `length_woven`,
 -- `length_unwoven`, `woven_place`, `undone`, `rewoven`; of a column `column_length`, `column_symbol`, `column_symbols`, `column_part` (it is a frame of the
--- unwoven area), `column_one`; of the loops over its symbols and over the columns `column_of_symbols`, `column_size`, `column_room`,
--- `transposed_of_columns`; of the calls `Movable`, `movable`, `unwoven_columns`, `laid_moved`.
+-- unwoven area), `column_one`, `column_size`; of the loop over the columns `column_room`, `transposed_of_columns`; of the calls `Movable`, `movable`, `unwoven_columns`, `laid_moved`.
 use mathlib.Core.Path.{◌≡◌, sym, ap, ◌∙◌, subst}
 use mathlib.Core.List.{List, ◌++◌}
 use Prim.Native.Nat.{ℕ, ◌+◌, ◌*◌, ◌/◌, ◌%◌, ◌≤◌, ◌<◌}
@@ -128,14 +127,6 @@ column_one l =
     sym
     (tabulated l (length l / 1) (λ i. get_or l (i * 1 + 0) 0) (sym (div-one (length l)))
     (λ i h. let place : i ≡ i * 1 + 0 = omega arith in ap (λ (t : ℕ). get_or l t 0) place))
-
--- A list that holds a column's symbols is the column.
-pub column_of_symbols : (columns c : ℕ) (rows out : List ℕ) → c < columns → length rows ≡ length out * columns
-    → ((i : ℕ) → i < length out → get_or out i 0 ≡ get_or rows (i * columns + c) 0) → out ≡ column_of columns c rows
-column_of_symbols columns c rows out h long symbols =
-    let some : 1 ≤ columns = omega arith in
-    let size : length rows / columns ≡ length out = whole_frames columns (length out) (length rows) some (omega (arith, long)) in
-    tabulated out (length rows / columns) (λ i. get_or rows (i * columns + c) 0) (sym size) (λ i l. symbols i (omega (arith, size)))
 
 -- The size of a column of rows whose number is known.
 pub column_size : (rows columns c : ℕ) (l : List ℕ) → length l ≡ rows * columns → c < columns → length (column_of columns c l) ≡ rows

@@ -1,22 +1,14 @@
 // Frames woven against bursts (02, #104): symbol i of frame f of D goes to i × D + f. The calls take any numbers for the setting and D: the questions are asked here.
 #![tactic(auto)]
 
-ghost use Rattle.std.specs.Prelude.{◌≡◌, ◌*◌, ◌<◌, length};
+pub mod column;
+
+ghost use Rattle.std.specs.Prelude.{◌≡◌, ◌*◌, length};
 ghost use Rattle.question.specs.Refusals.{asked};
 ghost use Rattle.weave.specs.Weaving.{transposed, woven, unwoven, Laid};
-ghost use Rattle.weave.specs.parts.Columns.{column_of};
 
+use column::Column;
 use question::refusal::Refusal;
-
-// Column c of rows of `columns` symbols, a symbol of each row. Of a woven area: frame c.
-pub fn take_column(columns: usize, c: usize, rows: &[u8], out: &mut [u8])
-    requires { (c < columns) × (length rows.now ≡ length out.old * columns) }
-    ensures { out.new ≡ column_of columns c rows.now }
-{
-    for (i, symbol) in out.iter_mut().enumerate() {
-        *symbol = rows[i * columns + c];
-    }
-}
 
 // The columns, one after another.
 fn transpose(rows: usize, columns: usize, incoming: &[u8], out: &mut [u8])
@@ -25,8 +17,14 @@ fn transpose(rows: usize, columns: usize, incoming: &[u8], out: &mut [u8])
 {
     // By index: after `chunks_exact_mut` a proof knows the length of the area and none of its symbols.
     for c in 0..columns {
+        let column = Column {
+            rows: incoming,
+            columns,
+            c,
+            long: rows,
+        };
         let start = c * rows;
-        take_column(columns, c, incoming, &mut out[start..start + rows]);
+        column.take(&mut out[start..start + rows]);
     }
 }
 

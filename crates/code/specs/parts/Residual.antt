@@ -1,4 +1,5 @@
--- The residual: what is left of a reception once a message's transmission is taken out (01, "Reading a reception"). Holds: `IsResidual`; `window_at`.
+-- The residual: what is left of a reception once a message's transmission is taken out (01, "Reading a reception"). Holds: `IsResidual`; of frames `frame_length`,
+-- `window_at`.
 use Rattle.std.specs.Prelude.{◌≡◌, List, ℕ, ◌+◌, ◌*◌, ◌<◌, take, drop}
 use Rattle.algebra.specs.Ops.{sub}
 use Rattle.area.specs.Lists.{view}
@@ -12,6 +13,10 @@ use Rattle.code.specs.Settings.{code_of}
 pub record IsResidual (p : Setting) (T : ℕ) (reception message residual : List ℕ) : Type 0 where
   pub symbol : (s i : ℕ) → s < T + p.m → i < p.n
       → view p.n residual s i ≡ sub (ops_of p.q) (view p.n reception s i) (sent_symbol (code_of p) (view p.k message) s i)
+
+-- How many symbols a frame of T information blocks has: T+m blocks of n.
+abbrev pub frame_length : Setting → ℕ → ℕ
+frame_length p T = (T + p.m) * p.n
 
 -- Window j of a frame.
 abbrev pub window_at : Setting → List ℕ → ℕ → List ℕ

@@ -1,4 +1,4 @@
--- What every function below the public calls asks of the setting in hand. Holds: `Sound`.
+-- What the functions of a setting's sizes ask of it, and what tables know of theirs. Holds: `Sound`.
 use Rattle.std.specs.Prelude.{◌≡◌, ◌+◌, ◌-◌, ◌*◌, ◌≤◌}
 use Rattle.field.specs.parts.Operations.{Good}
 use Rattle.code.specs.declared.Setting.{Setting}

@@ -7,13 +7,13 @@ use Rattle.code.specs.declared.Setting.{Setting}
 use Rattle.code.specs.Code.{distances_to}
 use Rattle.code.specs.Windows.{Fits}
 use Rattle.code.specs.parts.Cost.{zero_cost}
-use Rattle.code.specs.parts.Residual.{IsResidual, window_at}
+use Rattle.code.specs.parts.Residual.{IsResidual, frame_length, window_at}
 
 -- The areas of a frame: a guessed message of T blocks, and the residual of a reception for it.
 pub record FrameAreas (p : Setting) (T : ℕ) (message residual : List ℕ) : Type 0 where
   pub message_long : length message ≡ T * p.k
   pub message_symbols : Symbols p.q message
-  pub residual_long : length residual ≡ (T + p.m) * p.n
+  pub residual_long : length residual ≡ frame_length p T
   pub residual_symbols : Symbols p.q residual
 
 -- A guessed message and the residual of the reception for it; every message that fits equals the guess before block j.

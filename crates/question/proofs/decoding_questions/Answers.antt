@@ -10,5 +10,5 @@ returns-in_err-area_questions-clause-answer c =
     let a = c.args in
     let e =
     c.in_err-area_questions.ensures
-    ∙ after_frame (λ p T. area_questions p T a.reception.now a.message_room a.transmission_room) c.in_ok-shape.ensures.shape c.in_ok-shape.ensures.answer in
+    ∙ after_frame (λ p T. area_questions p T a.reception.now a.rooms.message a.rooms.transmission) c.in_ok-shape.ensures.shape c.in_ok-shape.ensures.answer in
     search rules

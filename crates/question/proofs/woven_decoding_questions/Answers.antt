@@ -8,12 +8,12 @@ pub returns-in_err-area_questions-clause-answer : goal.returns-in_err-area_quest
 returns-in_err-area_questions-clause-answer c =
     let a = c.args in
     let e =
-    c.in_err-area_questions.ensures
-    ∙ after_woven a.reception.now a.message_room a.transmission_room c.in_ok-shape.ensures.shape c.in_ok-shape.ensures.answer in
+    rw (c.share.ensures.0, c.share.ensures.1) at c.in_err-area_questions.ensures
+    ∙ after_woven a.reception.now a.rooms.message a.rooms.transmission c.in_ok-shape.ensures.shape c.in_ok-shape.ensures.answer in
     search rules
 
 pub returns-clause-answer : goal.returns-clause-answer
 returns-clause-answer c =
     let a = c.args in
-    c.in_ok-area_questions.ensures
-    ∙ after_woven a.reception.now a.message_room a.transmission_room c.in_ok-shape.ensures.shape c.in_ok-shape.ensures.answer
+    rw (c.share.ensures.0, c.share.ensures.1) at c.in_ok-area_questions.ensures
+    ∙ after_woven a.reception.now a.rooms.message a.rooms.transmission c.in_ok-shape.ensures.shape c.in_ok-shape.ensures.answer

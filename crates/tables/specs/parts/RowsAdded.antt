@@ -16,8 +16,7 @@ pub record MultipleAdded (q v from to : ℕ) (row before after : List ℕ) : Typ
   pub long : length after ≡ length before
   pub symbols : Symbols q after
   pub inside : (i : ℕ) → from ≤ i → i < to → get_or after i 0 ≡ (ops_of q).add (get_or before i 0) ((ops_of q).mul v (get_or row i 0))
-  pub under : (i : ℕ) → i < from → get_or after i 0 ≡ get_or before i 0
-  pub over : (i : ℕ) → to ≤ i → get_or after i 0 ≡ get_or before i 0
+  pub outside : (i : ℕ) → (from ≤ i → to ≤ i) → get_or after i 0 ≡ get_or before i 0
 
 -- v × row r of G_0, .., G_m was added to the blocks of a window.
 pub record RowsAdded (p : Setting) (r v : ℕ) (before after : List ℕ) : Type 0 where

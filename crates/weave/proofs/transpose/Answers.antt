@@ -14,7 +14,7 @@ loop-c-preserved c =
     let l = c.loop-c in
     let long : length l.out ≡ a.rows * a.columns = l.invariant.long ∙ c.requires.1 in
     let room : l.c * a.rows + a.rows ≤ length l.out = column_room _ _ l.out long _ c.loop-c-test.true in
-    let laid = c.take_column in
+    let laid = c.take in
     let same : laid.new.out ≡ column_of a.columns l.c a.incoming.now = laid.ensures in
     parts_more a.rows (λ g. column_of a.columns g a.incoming.now) a.out.now l.c l.out laid.new.out
     (omega (arith, room, l.invariant.long))

@@ -10,43 +10,37 @@ use Rattle.block.proofs.information.cost.Goals as goal
 use Rattle.block.proofs.information.cost.Goals.{then-received-symbol, else-received-symbol}
 
 pub loop-i-init : goal.loop-i-init
-loop-i-init c = let a = c.args in (omega arith, total_none (symbol a.tables.now.setting a.information.now a.l a.block.now))
+loop-i-init c = (omega arith, total_none (symbol c.args.combination.now c.args.block.now))
 
 pub returns-then-bound-cost : goal.returns-then-bound-cost
 unfolding block_cost
 returns-then-bound-cost c =
     let a = c.args in
     let l = c.loop-i in
-    omega (
-      arith,
-      c.if-bound-cost.true,
-      l.invariant.1,
-      total_part (symbol a.tables.now.setting a.information.now a.l a.block.now) l.i a.tables.now.setting.n (omega arith),
-    )
+    let x = a.combination.now in
+    omega (arith, c.if-bound-cost.true, l.invariant.1, total_part (symbol x a.block.now) l.i x.tables.now.setting.n (omega arith))
 
 pub loop-i-preserved : goal.loop-i-preserved
 loop-i-preserved c =
     let l = c.loop-i in
-    let a = c.args in
-    let p = a.tables.now.setting in
+    let x = c.args.combination.now in
+    let costs = symbol x c.args.block.now in
+    let p = x.tables.now.setting in
     elim c.if-received-symbol.branch [
       | then-received-symbol w ↦ (
         omega (arith, w.cost-is, l.invariant.0),
-        w.cost-is ∙ (ap (λ (t : ℕ). t + 2) l.invariant.1
-            ∙ total_more (symbol p a.information.now a.l a.block.now) l.i 2
-            (cost_differ p.q _ _ (λ e. w.if-received-symbol.true (e ∙ sym c.combination-symbol.ensures.same)))),
+        w.cost-is ∙ ap (λ (t : ℕ). t + 2) l.invariant.1
+            ∙ total_more costs l.i 2 (cost_differ p.q _ _ (λ e. w.if-received-symbol.true (e ∙ sym c.symbol-symbol.ensures.same))),
       )
       | else-received-symbol w ↦ (
         omega (arith, w.cost-is, l.invariant.0),
-        w.cost-is ∙ (l.invariant.1 ∙ total_same (symbol p a.information.now a.l a.block.now) l.i
-            (cost_same p.q _ _ (w.if-received-symbol.false ∙ c.combination-symbol.ensures.same))),
+        w.cost-is ∙ l.invariant.1 ∙ total_same costs l.i (cost_same p.q _ _ (w.if-received-symbol.false ∙ c.symbol-symbol.ensures.same)),
       )
     ]
 
 pub returns : goal.returns
 unfolding block_cost
 returns c =
-    let a = c.args in
     let l = c.loop-i in
-    let done : l.i ≡ a.tables.now.setting.n = omega arith in
-    ap (min a.bound) (rw done at l.invariant.1)
+    let done : l.i ≡ c.args.combination.now.tables.now.setting.n = omega arith in
+    ap (min c.args.bound) (rw done at l.invariant.1)

@@ -1,7 +1,7 @@
 -- `display::Marks`, from an outcome: its answer, and what was found or zeros.
 use mathlib.Core.Path.{◌≡◌, ap₂}
 use Rattle.std.specs.Prelude.{Result, Ok, Err}
-use Rattle.std.specs.Result.{result_unwrap_or}
+use Rattle.std.specs.Result.{ResultUnwrapsOrElse}
 use Rattle.std.proofs.Common.{rules}
 use Rattle.question.specs.declared.answer.Answer.{Answer}
 use Rattle.question.specs.declared.refusal.Refusal.{Refusal}
@@ -15,12 +15,12 @@ use Rattle.display.proofs.MarksFromResultDifferencesRefusal.from.Goals as goal
 abbrev marks : Answer → Differences → Marks
 marks r d = record { answer = r; marks = d.marks; set = d.set }
 
-of_outcome : (o : Result Differences Refusal) {r : Answer} {found : Differences} → r ≡ asked o → found ≡ result_unwrap_or o (record { marks = 0; set = 0 })
-    → marks r found ≡ marks_answer o
+of_outcome : (o : Result Differences Refusal) {r : Answer} {found : Differences} → r ≡ asked o
+    → ResultUnwrapsOrElse o (λ d. (d.marks ≡ 0) × (d.set ≡ 0)) found → marks r found ≡ marks_answer o
 of_outcome (Ok x) a f = ap₂ marks a f
-of_outcome (Err x) a f = ap₂ marks a f
+of_outcome (Err x) a f = cc
 
 pub returns : goal.returns
 returns c =
     let answer : c.from-answer.result ≡ asked c.args.outcome = search rules in
-    of_outcome c.args.outcome answer c.unwrap_or-found.ensures
+    of_outcome c.args.outcome answer c.unwrap_or_default-found.ensures

@@ -1,10 +1,8 @@
 -- `link::decode::decode`: what question 7 says in front of what the areas held.
 use mathlib.Core.Path.{◌≡◌, ◌∙◌}
-use Prim.Native.Nat.{◌+◌, ◌*◌}
 use native.Mathlib.Omega.{arith}
 use lib.ListN.{length, take}
 use lib.Seq.{length-take-le}
-use Rattle.code.specs.parts.SettingNumbers.{parameters_of}
 use Rattle.question.proofs.Shapes.{decoding_known}
 use Rattle.link.proofs.Decoding.{decoded_asked}
 use Rattle.link.proofs.decode.decode.Goals as goal
@@ -13,18 +11,15 @@ pub decode_frame-requires : goal.decode_frame-requires
 decode_frame-requires c =
     let a = c.args in
     let asked = c.in_ok-shape.ensures in
-    let s = c.in_ok-shape.shape in
-    let p = parameters_of s.setting in
     let short = c.message_length-short in
     let long = c.transmission_length-long in
     let known = decoding_known a.reception.now (length a.message.now) (length a.transmission.now) asked.shape asked.answer in
-    let front : length (take long.result a.transmission.now) ≡ (s.blocks + p.m) * p.n =
-    length-take-le _ _ (omega (arith, long.ensures, known.has_transmission_room)) ∙ long.ensures in (
-      omega arith,
-      omega (arith, known.long, front),
+    let front : length (take long.result a.transmission.now) ≡ long.result =
+    length-take-le _ _ (omega (arith, long.ensures, known.has_transmission_room)) in (
+      front,
       known.symbols,
       length-take-le _ _ (omega (arith, short.ensures, known.has_message_room)) ∙ short.ensures,
-      front,
+      front ∙ long.ensures,
     )
 
 pub returns : goal.returns

@@ -1,20 +1,29 @@
 -- `link::decode::restore`: the first i places are restored.
-use mathlib.Core.Path.{◌≡◌}
-use Prim.Native.Nat.{◌/◌, ◌≤◌}
+use mathlib.Core.Path.{sym, subst}
+use Prim.Native.Nat.{ℕ, ◌≤◌, ◌<◌}
 use native.Mathlib.Omega.{arith}
-use lib.ListN.{length}
-use Rattle.weave.specs.parts.Columns.{column_of}
-use Rattle.weave.proofs.Weaving.{whole_frames, column_symbol}
+use Rattle.weave.specs.parts.Columns.{symbols_of}
+use Rattle.weave.proofs.Weaving.{column_size, column_symbols}
 use Rattle.link.proofs.Decoding.{restored_more}
 use Rattle.link.proofs.decode.restore.Goals as goal
+
+pub subtract-requires : goal.subtract-requires
+subtract-requires c =
+    let q = c.args.field.now.q in
+    let k = c.args.reception.now in
+    let l = c.loop-i in
+    let least : l.i ≤ l.i = omega arith in
+    let size = column_size k.long k.columns k.c k.rows.now k.whole k.within in
+    let symbols = column_symbols k.columns k.c k.rows.now q k.within c.requires.1 in (
+      subst (λ (t : ℕ). t < q) (sym c.symbol.ensures) (symbols.below l.i (omega (arith, size, c.requires.0, l.invariant.long))),
+      subst (λ (t : ℕ). t < q) (sym (l.invariant.outside l.i least)) (c.requires.2.below l.i (omega (arith, l.invariant.long))),
+    )
 
 pub loop-i-preserved : goal.loop-i-preserved
 loop-i-preserved c =
     let a = c.args in
+    let k = a.reception.now in
     let l = c.loop-i in
-    let some : 1 ≤ a.frames = omega (arith, c.requires.0) in
-    let size : length a.woven.now / a.frames ≡ length a.residual.now =
-    whole_frames a.frames (length a.residual.now) (length a.woven.now) some (omega (arith, c.requires.1)) in
-    restored_more a.field.now.q (column_of a.frames a.f a.woven.now) a.residual.now l.i l.residual c.subtract.result l.invariant
+    restored_more a.field.now.q (symbols_of k) a.residual.now l.i l.residual c.subtract.result l.invariant
     (omega (arith, l.invariant.long))
-    (rw (column_symbol a.frames a.f a.woven.now l.i (omega (arith, size, l.invariant.long))) c.subtract.ensures.same)
+    (rw (← c.symbol.ensures) c.subtract.ensures.same)

@@ -4,4 +4,4 @@ use Rattle.tables.proofs.Places.{product_sum}
 use Rattle.tables.proofs.Tables.times_g.Given as goal
 
 abbrev pub invariant-loop-r : goal.invariant-loop-r
-invariant-loop-r l = Is l.self.setting.q l.sum (product_sum l.self.setting.q l.self.rows l.information l.from l.p.n l.powers l.j l.i l.r)
+invariant-loop-r l = Is l.self.setting.q l.sum (product_sum l.self.setting.q l.self.rows l.block l.p.n l.powers l.j l.i l.r)

@@ -1,4 +1,5 @@
 -- `Multiple::add_four`: symbol after symbol.
+use mathlib.Core.Path.{refl}
 use mathlib.Core.List.{List}
 use Prim.Native.Nat.{ℕ, ◌+◌}
 use native.Mathlib.Omega.{arith}
@@ -10,9 +11,7 @@ use Rattle.tables.proofs.multiples.Multiple.add_four.Goals as goal
 next : {q v i : ℕ} {row before between after : List ℕ} (count : ℕ) → MultipleAdded q v i (i + count) row before between
     → MultipleAdded q v (i + count) (i + count + 1) row between after
     → MultipleAdded q v i (i + (count + 1)) row before after
-next {q} {v} {i} {row} {before} {between} {after} count L M =
-    added_up q v row i (i + count) (i + count) (i + count + 1) (i + (count + 1)) (omega arith) (omega arith) (omega arith) (omega arith)
-    before between after L M
+next count L M = added_up L M refl (omega arith) (omega arith) (omega arith)
 
 pub add_place-requires-3 : goal.add_place-requires-3
 add_place-requires-3 c =

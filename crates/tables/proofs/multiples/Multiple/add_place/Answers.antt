@@ -14,4 +14,4 @@ add_product-requires c =
 pub returns : goal.returns
 returns c =
     let a = c.args in
-    added_one a.self.now.field.now.q a.self.now.v a.self.now.row.now a.i a.area.now c.add_product.result c.requires.0 c.requires.2 c.add_product.ensures
+    added_one a.i a.area.now c.add_product.result c.requires.0 c.requires.2 c.add_product.ensures

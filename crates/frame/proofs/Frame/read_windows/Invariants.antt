@@ -1,0 +1,6 @@
+-- `frame::Frame::read_windows`: the windows before j were read.
+use Rattle.frame.specs.parts.Frame.{Settled}
+use Rattle.frame.proofs.Frame.read_windows.Given as goal
+
+abbrev pub invariant-loop-j : goal.invariant-loop-j
+invariant-loop-j l = Settled l.self.tables.now.setting l.self.blocks l.initial.residual l.j l.message l.residual

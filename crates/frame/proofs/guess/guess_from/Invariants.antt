@@ -1,6 +1,0 @@
--- `frame::guess::guess_from`: whatever is guessed, the residual stays that of the guess.
-use Rattle.frame.specs.parts.Frame.{Revised}
-use Rattle.frame.proofs.guess.guess_from.Given as goal
-
-abbrev pub invariant-loop-turn : goal.invariant-loop-turn
-invariant-loop-turn l = Revised l.tables.setting l.blocks l.i l.initial.message l.initial.residual l.message l.residual

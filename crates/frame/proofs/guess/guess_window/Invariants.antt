@@ -1,6 +1,0 @@
--- `frame::guess::guess_window`: blocks are guessed one after the other.
-use Rattle.frame.specs.parts.Frame.{Revised}
-use Rattle.frame.proofs.guess.guess_window.Given as goal
-
-abbrev pub invariant-loop-s : goal.invariant-loop-s
-invariant-loop-s l = Revised l.tables.setting l.blocks l.j l.initial.message l.initial.residual l.message l.residual

@@ -1,8 +1,0 @@
--- `weave::take_column`: the first i symbols are those of the column.
-use mathlib.Core.Path.{◌≡◌}
-use Prim.Native.Nat.{ℕ, ◌+◌, ◌*◌, ◌<◌}
-use lib.ListN.{get_or}
-use Rattle.weave.proofs.take_column.Given as goal
-
-abbrev pub invariant-loop-i : goal.invariant-loop-i
-invariant-loop-i l = (a : ℕ) → a < l.i → get_or l.out a 0 ≡ get_or l.rows (a * l.columns + l.c) 0
