@@ -1,5 +1,5 @@
 -- The tables of a setting: the generator as 01 keeps it and its rows one after the other.
--- Holds: `generator_of`, `generator_row`, `rows_length`; the limits `longest_rows`, `longest_block`, `Narrow`; `LaidOut`, `RowsOf`, `Ready`.
+-- Holds: `generator_of`, `rows_length`; the limits `longest_rows`, `longest_block`, `Narrow`; `LaidOut`, `RowsOf`, `Ready`.
 use Rattle.std.specs.Prelude.{◌≡◌, List, [], ℕ, ◌+◌, ◌*◌, ◌≤◌, ◌<◌, length, get_or}
 use Rattle.area.specs.Lists.{tabulate}
 use Rattle.field.specs.parts.Products.{Products, ProductsOf}
@@ -11,10 +11,6 @@ use Rattle.code.specs.parts.Sound.{Sound}
 -- "kept power of z by power of z, row by row, as one nested table"
 unfoldable pub generator_of : Setting → List (List (List ℕ))
 generator_of p = tabulate (p.m + 1) (λ j. tabulate p.k (λ r. tabulate p.n (λ i. row_symbol (code_of p) j r i)))
-
--- Row r of G_j, read off the nested table.
-abbrev pub generator_row : Setting → ℕ → ℕ → List ℕ
-generator_row p j r = get_or (get_or (generator_of p) j []) r []
 
 -- How many symbols a setting's rows have.
 abbrev pub rows_length : Setting → ℕ
