@@ -7,4 +7,5 @@ pub mod LocatorPair
 pub mod Spectra
 pub mod CandidateBelow
 pub mod InformationRead
+pub mod Marking
 pub mod Step

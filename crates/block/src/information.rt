@@ -84,21 +84,3 @@ pub fn read(tables: &Tables, blocks: usize, values: &[u8; PLACES]) -> Informatio
     }
     information
 }
-
-// What the received block costs against a combination, counted up to the bound: a cost that reaches it may be larger.
-pub fn cost(combination: &Combination, block: &[u8], bound: usize) -> usize
-    requires { length block.now ≡ combination.now.tables.now.setting.n }
-    ensures { min bound result ≡ min bound (level_cost combination.now.tables.now.setting (at block.now) combination.now.l (view combination.now.tables.now.setting.k combination.now.information.now)) }
-{
-    let mut cost: usize = 0;
-    for (i, &received) in block.iter().enumerate() {
-        if bound <= cost {
-            return cost;
-        }
-        let symbol = combination.symbol(i);
-        if received != symbol {
-            cost += 2;
-        }
-    }
-    cost
-}

@@ -5,12 +5,14 @@
 // syndromes are zero, the block is rebuilt from the rows and compared, so a good answer rests on nothing else.
 #![tactic(auto)]
 
-pub mod information;
+mod information;
 mod locator;
+mod marks;
 mod received;
 mod spectrum;
 
-ghost use Rattle.std.specs.Prelude.{◌≡◌, ◌≤◌, length};
+ghost use Rattle.std.specs.Prelude.{◌≡◌, ◌*◌, ◌≤◌, length};
+ghost use Rattle.area.specs.parts.Weights.{weight_of};
 ghost use Rattle.field.specs.Symbols.{Symbols};
 ghost use Rattle.block.specs.parts.Step.{Step};
 
@@ -24,21 +26,24 @@ pub const PLACES: usize = tables::LONGEST_BLOCK + 1;
 // The information blocks that a received block leads to, one after the other from the front.
 pub type Information = [u8; PLACES];
 
-// The l + 1 information blocks of the level-l combination that costs the received block less than d_l, or none if there is no such combination.
-pub fn repair(tables: &Tables, block: &[u8], l: usize) -> Option<Information>
-    requires { (length block.now ≡ tables.now.setting.n) × Symbols tables.now.setting.q block.now × (l ≤ tables.now.setting.m) }
-    ensures { Step tables.now.setting l block.now result }
+// The l + 1 information blocks of the level-l combination that costs the received block less than d_l, or none if there is no such combination; and a mark for
+// each symbol, set where the received block differs from that combination, and nowhere if there is none.
+pub fn repair(tables: &Tables, block: &[u8], l: usize, marks: &mut [u8]) -> Option<Information>
+    requires { (length block.now ≡ tables.now.setting.n) × Symbols tables.now.setting.q block.now × (l ≤ tables.now.setting.m) × (length marks.old ≡ tables.now.setting.n) }
+    ensures { Step tables.now.setting l block.now marks.new result }
 {
     let distance = code::level_distance(tables.setting, l);
     let received = Received { tables, block, l };
     let start = received.begin();
     let degree = start.locator.degree;
     if distance <= 2 * degree {
+        marks.fill(0);
         return None;
     }
     let information = received.read_candidate(&start);
     // No syndrome differs from zero: the block is of the code, and what was read is its information.
     if degree == 0 {
+        marks.fill(0);
         return Some(information);
     }
     let combination = Combination {
@@ -46,9 +51,12 @@ pub fn repair(tables: &Tables, block: &[u8], l: usize) -> Option<Information>
         information: &information,
         l,
     };
-    let cost = information::cost(&combination, block, distance);
-    if cost < distance {
-        return Some(information);
-    }
-    None
+    marks::mark(&combination, block, distance, marks).then_some(information)
+}
+
+// What a repaired block costs by its marks: two for each.
+pub fn marked_cost(marks: &[u8]) -> usize
+    ensures { result ≡ 2 * weight_of marks.now }
+{
+    2 * area::weight(marks)
 }

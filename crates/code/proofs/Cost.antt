@@ -1,5 +1,5 @@
 -- A symbol's cost on bytes. Only this file looks into `symbol_cost`: its values, its two laws, and the one lemma that joins it with the words of `Fits`.
--- Holds: `cost_same`, `cost_differ`; `cost_apart`, `cost_shift`, the two laws; `cost_count` (costs and counts of differing symbols); `byte_cost`,
+-- Holds: `cost_same`, `cost_differ`; `cost_apart`, `cost_shift`, the two laws; `cost_twice`, `cost_count` (costs and counts of differing symbols); `byte_cost`,
 -- `bytes_apart`, the cost of a byte for an element of the field; `message_cost_lem`; `fits_cost` ("at most t" is a cost of less than d_0 + .. + d_m),
 -- `fits_near`.
 use mathlib.Core.Path.{◌≡◌, sym, ap, ◌∙◌}
@@ -44,14 +44,18 @@ module _ (q : ℕ) where
       at (yes e) = omega (arith, cost_differ v b (λ f. d (sym e ∙ f)))
       at (no h) = omega (arith, cost_differ v a h)
 
-  -- Twice the differing symbols are the cost.
-  pub cost_count : (n : ℕ) (a b : ℕ → ℕ) → 2 * distance n a b ≡ total n (λ i. symbol_cost q (a i) (b i))
+  -- Two for a symbol that differs.
+  pub cost_twice : (v a : ℕ) → 2 * pick (not (eqb v a)) 1 0 ≡ symbol_cost q v a
   unfolding symbol_cost
-  cost_count n a b = sym (total_scale n 2 (λ i. pick (not (eqb (a i) (b i))) 1 0)) ∙ total_ext n _ _ (λ i h. twice (eqb (a i) (b i)))
+  cost_twice v a = twice (eqb v a)
     where
       twice : (t : Bool) → 2 * pick (not t) 1 0 ≡ pick t 0 2
       twice true = omega arith
       twice false = omega arith
+
+  -- Twice the differing symbols are the cost.
+  pub cost_count : (n : ℕ) (a b : ℕ → ℕ) → 2 * distance n a b ≡ total n (λ i. symbol_cost q (a i) (b i))
+  cost_count n a b = sym (total_scale n 2 (λ i. pick (not (eqb (a i) (b i))) 1 0)) ∙ total_ext n _ _ (λ i h. cost_twice (a i) (b i))
 
   -- What receiving a byte costs where an element was sent.
   abbrev pub byte_cost : ℕ → Element q → ℕ

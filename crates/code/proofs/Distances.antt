@@ -1,4 +1,4 @@
--- Sums of the level codes' distances. Holds: `distances_sum` (as a chain makes them), `distances_small`.
+-- Sums of the level codes' distances. Holds: `distances_sum` (as a chain makes them), `distances_small`, `distances_last`.
 use mathlib.Core.Path.{◌≡◌, refl, sym, ap, ◌∙◌}
 use mathlib.Core.List.{map}
 use Prim.Native.Nat.{ℕ, zero, suc, ◌+◌, ◌*◌, ◌≤◌}
@@ -19,3 +19,8 @@ pub distances_small : (n k l : ℕ) → n ≤ 255 → distances_to n k l ≤ (l 
 unfolding distances_to
 distances_small n k zero h = omega arith
 distances_small n k (suc l) h = omega (arith, distances_small n k l h)
+
+pub distances_last : (n k l : ℕ) → level_distance n k l ≤ distances_to n k l
+unfolding distances_to
+distances_last n k zero = omega arith
+distances_last n k (suc l) = omega arith

@@ -1,45 +1,58 @@
 -- One level of a window, from the block step's answer and the cost of the rebuilt blocks.
--- Holds: `step_below`, `tried_far`, `tried_near`.
-use mathlib.Core.Path.{◌≡◌, sym}
+-- Holds: `step_below`, `tried_far`, `some_left`, `tried_near`.
+use mathlib.Core.Path.{◌≡◌, sym, ap, ◌∙◌}
 use mathlib.Core.Bool.{Bool, true, false}
 use mathlib.Core.List.{List}
-use Prim.Native.Nat.{ℕ, ◌+◌, ◌*◌, ◌≤◌}
+use Prim.Native.Nat.{ℕ, ◌+◌, ◌-◌, ◌*◌, ◌≤◌, ◌<◌}
 use native.Mathlib.Omega.{arith}
 use lib.Dec.{ltb}
 use borrow.Author.Tests.{ltb-true, ltb-false}
 use Rattle.std.specs.Prelude.{Some, None}
 use Rattle.std.specs.Bool.{then_some}
 use Rattle.area.specs.Lists.{view, part_at}
+use Rattle.area.specs.parts.Weights.{weight_of}
 use Rattle.field.specs.parts.Sequences.{AllBelow}
 use Rattle.code.specs.declared.Setting.{Setting}
-use Rattle.code.specs.Code.{distances_to}
+use Rattle.code.specs.Code.{level_distance, distances_to}
 use Rattle.code.specs.parts.Sound.{Sound}
-use Rattle.code.specs.parts.Cost.{window_cost}
+use Rattle.code.specs.parts.Cost.{level_cost}
+use Rattle.code.proofs.Distances.{distances_last}
 use Rattle.code.proofs.WindowBelow.{level_refused}
 use Rattle.block.specs.parts.Step.{Step, near, far}
-use Rattle.frame.specs.parts.Window.{LevelTried, serves, fails}
-use Rattle.frame.proofs.RebuiltCost.{part_cost}
+use Rattle.block.proofs.Marking.{marks_cost}
+use Rattle.frame.specs.parts.Window.{cost_before, LevelTried, serves, fails}
+use Rattle.frame.proofs.RebuiltCost.{rebuilt_all, part_cost}
 
 -- The block step's information has symbols below q.
-pub step_below : {p : Setting} {l : ℕ} {block information : List ℕ} → Step p l block (Some information) → AllBelow p.q information
-step_below (near below close) = below
+pub step_below : {p : Setting} {l : ℕ} {block marks information : List ℕ} → Step p l block marks (Some information) → AllBelow p.q information
+step_below (near below close marked) = below
 
-module _ {p : Setting} (S : Sound p) {window : List ℕ} {l : ℕ} (level : l ≤ p.m) where
-  pub tried_far : Step p l (part_at p.n l window) None → LevelTried p window l None
-  tried_far (far none) = fails (λ y Y h. rw (part_cost p l l window y) at (none y (λ b r u v. Y b r)))
+module _ {p : Setting} (S : Sound p) (window : List ℕ) {marks : List ℕ} {l : ℕ} (level : l ≤ p.m) where
+  pub tried_far : Step p l (part_at p.n l window) marks None → LevelTried p window l None
+  tried_far (far none unset) = fails (λ y Y h. rw (part_cost p l l window y) at (none y (λ b r u v. Y b r)))
 
-  tried_refused : {information : List ℕ} → Step p l (part_at p.n l window) (Some information)
-      → distances_to p.n p.k l ≤ window_cost p window l (view p.k information) → LevelTried p window l None
-  tried_refused {information} (near below close) bad =
-      fails (λ y Y good. level_refused p S window y (view p.k information) Y (λ s r. below (s * p.k + r)) l level good
-      (rw (part_cost p l l window (view p.k information)) at close) bad)
+  -- A block was found, and its cost counted from the marks.
+  module _ {information : List ℕ} (step : Step p l (part_at p.n l window) marks (Some information)) {cost : ℕ} (counted : cost ≡ 2 * weight_of marks) where
+    cost_of : Step p l (part_at p.n l window) marks (Some information) → cost ≡ level_cost p (view p.n window l) l (view p.k information)
+    cost_of (near below close marked) =
+        counted ∙ ap (λ (m : List ℕ). 2 * weight_of m) marked ∙ marks_cost p (part_at p.n l window) l (view p.k information)
+        ∙ part_cost p l l window (view p.k information)
 
-  -- Whether the rebuilt blocks cost less than d_0 + .. + d_l decides.
-  pub tried_near : {information : List ℕ} → Step p l (part_at p.n l window) (Some information) → {bound : ℕ} → bound ≡ distances_to p.n p.k l → (b : Bool)
-      → b ≡ ltb (window_cost p window l (view p.k information)) bound → LevelTried p window l (then_some b information)
-  tried_near {information} step {bound} same true e =
-      let less = ltb-true (window_cost p window l (view p.k information)) bound (sym e) in
-      serves (step_below step) (omega (arith, less, same))
-  tried_near {information} step {bound} same false e =
-      let least = ltb-false (window_cost p window l (view p.k information)) bound (sym e) in
-      tried_refused step (omega (arith, least, same))
+    close_of : Step p l (part_at p.n l window) marks (Some information)
+        → level_cost p (view p.n window l) l (view p.k information) < level_distance p.n p.k l
+    close_of (near below close marked) = rw (part_cost p l l window (view p.k information)) at close
+
+    module _ {bound : ℕ} (same : bound ≡ distances_to p.n p.k l) where
+      -- It leaves some of d_0 + .. + d_l for the blocks before it.
+      pub some_left : cost < bound
+      some_left = omega (arith, same, cost_of step, close_of step, distances_last p.n p.k l)
+
+      -- Whether these cost less than that decides.
+      pub tried_near : (b : Bool) → b ≡ ltb (cost_before p window l (view p.k information)) (bound - cost) → LevelTried p window l (then_some b information)
+      tried_near true e =
+          let less = ltb-true (cost_before p window l (view p.k information)) (bound - cost) (sym e) in
+          serves (step_below step) (omega (arith, less, same, cost_of step, rebuilt_all p window (view p.k information) l))
+      tried_near false e =
+          let least = ltb-false (cost_before p window l (view p.k information)) (bound - cost) (sym e) in
+          fails (λ y Y good. level_refused p S window y (view p.k information) Y (λ s r. step_below step (s * p.k + r)) l level good (close_of step)
+          (omega (arith, least, same, some_left, cost_of step, rebuilt_all p window (view p.k information) l)))

@@ -1,8 +1,7 @@
 -- What rebuilt blocks of a window cost, as a loop adds it up. Holds: `rebuilt_term`, `rebuilt_all`; `part_cost`.
-use mathlib.Core.Path.{◌≡◌, ap}
+use mathlib.Core.Path.{◌≡◌, refl, ap}
 use mathlib.Core.List.{List}
 use Prim.Native.Nat.{ℕ, ◌+◌}
-use native.Mathlib.Numerals.{add-one}
 use Rattle.algebra.specs.Weight.{total}
 use Rattle.algebra.proofs.Weights.{total_ext}
 use Rattle.area.specs.Lists.{view, part_at}
@@ -12,14 +11,16 @@ use Rattle.code.specs.declared.Setting.{Setting}
 use Rattle.code.specs.Level.{combination}
 use Rattle.code.specs.parts.Cost.{symbol_cost, block_cost, rebuilt_cost, level_cost, window_cost}
 use Rattle.code.specs.Settings.{code_of}
+use Rattle.frame.specs.parts.Window.{cost_before}
 
--- What block s of a window costs, and the sum of blocks 0 .. l.
+-- What block s of a window costs.
 abbrev pub rebuilt_term : Setting → List ℕ → (ℕ → ℕ → ℕ) → ℕ → ℕ
 rebuilt_term p window y s = level_cost p (view p.n window s) s y
 
-pub rebuilt_all : (p : Setting) (window : List ℕ) (y : ℕ → ℕ → ℕ) (l : ℕ) → total (l + 1) (rebuilt_term p window y) ≡ window_cost p window l y
-unfolding rebuilt_cost
-rebuilt_all p window y l = ap (λ (t : ℕ). total t (rebuilt_term p window y)) (add-one l)
+-- The blocks before block l and block l itself are what blocks 0 .. l cost.
+pub rebuilt_all : (p : Setting) (window : List ℕ) (y : ℕ → ℕ → ℕ) (l : ℕ) → cost_before p window l y + rebuilt_term p window y l ≡ window_cost p window l y
+unfolding rebuilt_cost total
+rebuilt_all p window y l = refl
 
 -- A block of a window, as the part that is lent, costs what the block costs.
 pub part_cost : (p : Setting) (s l : ℕ) (window : List ℕ) (y : ℕ → ℕ → ℕ)

@@ -1,6 +1,7 @@
 -- One turn of reading (01, "Reading a reception"), at a window by itself.
--- Holds: `Near`, `LevelTried` (one level), `LevelSearch` (all levels).
+-- Holds: `Near`, `cost_before`, `LevelTried` (one level), `LevelSearch` (all levels).
 use Rattle.std.specs.Prelude.{◌≡◌, Option, Some, None, List, ℕ, ◌+◌, ◌≤◌, ◌<◌, get_or}
+use Rattle.algebra.specs.Weight.{total}
 use Rattle.area.specs.Lists.{view}
 use Rattle.field.specs.parts.Sequences.{AllBelow}
 use Rattle.code.specs.declared.Setting.{Setting}
@@ -12,6 +13,10 @@ use Rattle.frame.specs.declared.window.Found.{Found}
 -- Blocks 0 .. l of the window are near what y rebuilds: "in at most half of (d_0 + .. + d_l - 1), rounded down", symbols they differ, without the rounding.
 abbrev pub Near : Setting → List ℕ → ℕ → (ℕ → ℕ → ℕ) → Type 0
 Near p window l y = window_cost p window l y < distances_to p.n p.k l
+
+-- What the blocks before block l of the window cost against the blocks rebuilt from y.
+abbrev pub cost_before : Setting → List ℕ → ℕ → (ℕ → ℕ → ℕ) → ℕ
+cost_before p window l y = total l (λ s. level_cost p (view p.n window s) s y)
 
 -- A level serves with information that rebuilds near blocks; or it does not, and block l of every near y is itself far.
 pub data LevelTried (p : Setting) (window : List ℕ) (l : ℕ) : Option (List ℕ) → Type 0 where

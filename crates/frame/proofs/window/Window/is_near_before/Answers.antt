@@ -1,7 +1,7 @@
--- `frame::window::Window::is_near`: what blocks 0 .. s - 1 cost and what they leave of the bound make up the bound, and they leave some of it.
+-- `frame::window::Window::is_near_before`: what blocks 0 .. s - 1 cost and what they leave of the bound make up the bound, and they leave some of it.
 use mathlib.Core.List.{List}
 use mathlib.Core.Path.{◌≡◌, refl, sym, ap, ◌∙◌}
-use Prim.Native.Nat.{ℕ, ◌+◌, ◌*◌, ◌≤◌, min}
+use Prim.Native.Nat.{ℕ, ◌+◌, ◌*◌, ◌≤◌, ◌<◌, min}
 use native.Mathlib.Nat.{mul-le-mul_right}
 use native.Mathlib.Omega.{arith}
 use borrow.Author.Tests.{lt-ltb, le-ltb}
@@ -10,12 +10,13 @@ use Rattle.algebra.proofs.Weights.{total_none, total_part, total_more}
 use Rattle.area.specs.Lists.{view, part_at}
 use Rattle.field.specs.parts.Sequences.{at}
 use Rattle.code.specs.declared.Setting.{Setting}
-use Rattle.code.specs.parts.Cost.{level_cost, window_cost}
-use Rattle.frame.proofs.RebuiltCost.{rebuilt_term, rebuilt_all, part_cost}
-use Rattle.frame.proofs.window.Window.is_near.Goals as goal
+use Rattle.code.specs.parts.Cost.{level_cost}
+use Rattle.frame.specs.parts.Window.{cost_before}
+use Rattle.frame.proofs.RebuiltCost.{rebuilt_term, part_cost}
+use Rattle.frame.proofs.window.Window.is_near_before.Goals as goal
 
 -- Block s lies within the window.
-inside : (s l m n long : ℕ) → s ≤ l → l ≤ m → long ≡ (m + 1) * n → s * n + n ≤ long
+inside : (s l m n long : ℕ) → s < l → l ≤ m → long ≡ (m + 1) * n → s * n + n ≤ long
 inside s l m n long low few e =
     let top : s + 1 ≤ m + 1 = omega arith in
     omega (arith, mul-le-mul_right n top)
@@ -29,7 +30,7 @@ pub loop-s-init : goal.loop-s-init
 loop-s-init c =
     let a = c.args in
     let p = a.self.now.tables.now.setting in
-    (omega (arith, total_none (rebuilt_term p a.self.now.symbols.now (view p.k a.information.now))), omega arith)
+    (omega (arith, total_none (rebuilt_term p a.self.now.symbols.now (view p.k a.information.now))), c.requires.3)
 
 pub returns-then-left-cost : goal.returns-then-left-cost
 returns-then-left-cost c =
@@ -38,16 +39,15 @@ returns-then-left-cost c =
     let l = c.loop-s in
     let y = view p.k a.information.now in
     let term = rebuilt_term p a.self.now.symbols.now y in
-    let same = counted p l.s l.left c.cost-cost.result a.self.now.symbols.now y c.part-block.ensures.part c.cost-cost.ensures in
-    sym (le-ltb (window_cost p a.self.now.symbols.now a.l y) a.bound
+    let same = counted p l.s l.left c.cost_against-cost.result a.self.now.symbols.now y c.part-block.ensures.part c.cost_against-cost.ensures in
+    sym (le-ltb (cost_before p a.self.now.symbols.now a.l y) a.bound
     (omega (
       arith,
       c.if-left-cost.true,
       l.invariant.0,
       same,
       total_more term l.s (term l.s) refl,
-      total_part term (l.s + 1) (a.l + 1) (omega arith),
-      rebuilt_all p a.self.now.symbols.now y a.l,
+      total_part term (l.s + 1) a.l (omega arith),
     )))
 
 pub loop-s-preserved : goal.loop-s-preserved
@@ -57,7 +57,7 @@ loop-s-preserved c =
     let l = c.loop-s in
     let y = view p.k a.information.now in
     let term = rebuilt_term p a.self.now.symbols.now y in
-    let same = counted p l.s l.left c.cost-cost.result a.self.now.symbols.now y c.part-block.ensures.part c.cost-cost.ensures in (
+    let same = counted p l.s l.left c.cost_against-cost.result a.self.now.symbols.now y c.part-block.ensures.part c.cost_against-cost.ensures in (
       omega (arith, c.if-left-cost.false, l.invariant.0, same, total_more term l.s (term l.s) refl),
       omega (arith, c.if-left-cost.false),
     )
@@ -68,12 +68,6 @@ returns c =
     let p = a.self.now.tables.now.setting in
     let l = c.loop-s in
     let y = view p.k a.information.now in
-    let done : l.s ≡ a.l + 1 = omega arith in
-    sym (lt-ltb (window_cost p a.self.now.symbols.now a.l y) a.bound
-    (omega (
-      arith,
-      l.invariant.0,
-      l.invariant.1,
-      ap (λ (t : ℕ). total t (rebuilt_term p a.self.now.symbols.now y)) done,
-      rebuilt_all p a.self.now.symbols.now y a.l,
-    )))
+    let done : l.s ≡ a.l = omega arith in
+    sym (lt-ltb (cost_before p a.self.now.symbols.now a.l y) a.bound
+    (omega (arith, l.invariant.0, l.invariant.1, ap (λ (t : ℕ). total t (rebuilt_term p a.self.now.symbols.now y)) done)))
