@@ -1,7 +1,7 @@
 """Calls with right answers that need no decoder: the examples of 000, 004 and 01, orders of settings 4 and 5 damaged up to the limit and beyond it, orders
-damaged in their closing blocks alone, woven frames with a run of altered symbols, orders and lines of the greatest length, and numbers that are no setting
-or no D. What is sent is made by 01's definition."""
-import itertools
+damaged in their closing blocks alone, woven frames with a run of altered symbols, orders and lines of the greatest length, numbers that are no setting
+or no D, and blocks of every level. What is sent is made by 01's definition."""
+import functools, itertools
 
 # The settings of 01 and 02: q, n, k, m and t.
 SETTINGS = {
@@ -292,6 +292,80 @@ def refused_woven():
             yield decoded_woven(setting, D, clean, 6, [], [0] * (D * 2 * k), clean[1:])
 
 
+def repaired(setting, level, block, code_block):
+    """A block step's code block and marks, symbol 0's mark lowest; where no code block is near enough, none and no mark."""
+    marks = sum(2**i for i, (a, b) in enumerate(zip(block, code_block or block)) if a != b)
+    b, c = areas(block, code_block or [])
+    return {"call": "block_step", "args": {"number": setting, "level": level, "block": b}, "result": [c or None, marks]}
+
+
+def code_block_of(setting, information):
+    """Block l of the transmission of information blocks x_0 to x_l: the sum over j of x_(l-j) × G_j, j from 0 to l."""
+    _, n, k, _, _ = SETTINGS[setting]
+    l = len(information) // k - 1
+    return transmission_of(setting, information)[l * n : (l + 1) * n]
+
+
+@functools.cache
+def code_blocks_of(setting, level):
+    """All code blocks of a level, or none where they are more than 4096."""
+    q, _, k, _, _ = SETTINGS[setting]
+    size = (level + 1) * k
+    all_information = itertools.product(range(q), repeat=size) if q**size <= 4096 else ()
+    return [code_block_of(setting, list(information)) for information in all_information]
+
+
+def distance(a, b):
+    return sum(x != y for x, y in zip(a, b))
+
+
+def spots(n, count):
+    """So many places of a block: its first ones, its last ones, and ones spread over it."""
+    return range(count), range(n - count, n), [(2 * i + 1) * n // (2 * count) for i in range(count)]
+
+
+def moved(code_block, other, count):
+    """A code block with so many of its symbols replaced by another's."""
+    places = [i for i, symbol in enumerate(other) if symbol != code_block[i]][:count]
+    return [other[i] if i in places else symbol for i, symbol in enumerate(code_block)]
+
+
+def beyond(setting, level, code_block, limit):
+    """One altered symbol more than a repair undoes. Where code blocks are few all are tried, also on a block between this one and one next to it. Where they
+    are many and d_l is even, 2 × limit + 2, none is near enough; where it is odd one may be, so no such block is here."""
+    _, n, k, _, _ = SETTINGS[setting]
+    blocks = [altered_at(setting, code_block, places) for places in spots(n, limit + 1)]
+    code_blocks = code_blocks_of(setting, level)
+    if code_blocks:
+        next_one = min((c for c in code_blocks if c != code_block), key=lambda c: distance(c, code_block))
+        blocks.append(moved(code_block, next_one, limit + 1))
+    elif (n - (level + 1) * k + 1) % 2 == 1:
+        return
+    for block in blocks:
+        near = [c for c in code_blocks if distance(c, block) <= limit]
+        assert len(near) <= 1
+        yield repaired(setting, level, block, near[0] if near else None)
+
+
+def block_steps():
+    """Blocks of every level of every setting: two code blocks, the first all zero, as they are, with one altered symbol, with as many as a repair undoes, that
+    is half of d_l - 1, and with one more. Where d_l is 1 every block is a code block."""
+    for setting, (q, n, k, m, _) in SETTINGS.items():
+        for level in range(m + 1):
+            size = (level + 1) * k
+            limit = (n - size) // 2
+            for information in ([0] * size, [(i * i + 3 * i + 1) % q for i in range(size)]):
+                code_block = code_block_of(setting, information)
+                yield repaired(setting, level, code_block, code_block)
+                for count in sorted({1, limit}) if limit else ():
+                    for places in spots(n, count):
+                        yield repaired(setting, level, altered_at(setting, code_block, places), code_block)
+                yield from beyond(setting, level, code_block, limit)
+            if n == size:
+                block = [(i * i * i + 5 * i + 3) % q for i in range(n)]
+                yield repaired(setting, level, block, block)
+
+
 def examples():
     none_fits = [
         (1, "2000 4004 4000 0431"),  # 000, Example 4.2 (a)
@@ -395,3 +469,4 @@ def examples():
         yield decoded(setting, wrong, 4, message[1:], transmission[1:], place=9)
         yield decoded(setting, transmission, 5, message[1:], transmission[1:])
         yield decoded(setting, transmission, 6, message, transmission[1:])
+    yield from block_steps()

@@ -1,16 +1,18 @@
 #!/usr/bin/env python3
-"""Makes crates/link_test/stdin and stdout: the calls of calls.jsonl and of examples.py, and what the program must write.
+"""Makes stdin and stdout of crates/link_test and crates/block_test: the calls of calls.jsonl and of examples.py, and what the programs must write.
 
-A line of stdin: the call's letter, the setting, j or D, the lengths of three areas and the areas, all in hexadecimal (crates/link_test/src/main.rt).
-A line of stdout: number, place and count of the answer in decimal, then what the call returned and what it left in the areas; for a desk line, its answer.
+link_test, all calls but block steps. A line of stdin: the call's letter, the setting, j or D, the lengths of three areas and the areas, all in hexadecimal
+(crates/link_test/src/main.rt). A line of stdout: number, place and count of the answer in decimal, then what the call returned and what it left in the areas;
+for a desk line, its answer.
+block_test, the block steps. A line of stdin: the setting, the level and the block, in hexadecimal. Stdout: block-counts.txt, which the program counts by
+itself; then for each line of stdin the code block, in hexadecimal, or none, and a digit for each symbol's mark.
 Run it where it stands; `--check` only says whether the files are up to date."""
 import itertools, json, os, sys
 
 from examples import examples
 
 here = os.path.dirname(os.path.abspath(__file__))
-crate = os.path.join(here, "..", "..", "crates", "link_test")
-
+crates = os.path.join(here, "..", "..", "crates")
 
 
 def said(answer):
@@ -46,23 +48,40 @@ CALLS = {
 # The most bytes of an area there; the few calls with a longer one are made by bench/tests alone.
 LONGEST = 10000
 
-given, expected = [], []
+
+def link_lines(call, arguments, result):
+    letter, areas, returned = CALLS[call]
+    held = areas(arguments)
+    if max(map(len, held)) > 2 * LONGEST:
+        return "", ""
+    numbers = arguments.get("number", 0), arguments.get("j", arguments.get("D", 0))
+    head = [letter, *("%016x" % number for number in numbers), *("%04x" % (len(area) // 2) for area in held)]
+    answer = said(result["answer"]) if "answer" in result else []
+    return " ".join(head) + " " + "".join(held) + "\n", " ".join(answer + returned(result)) + "\n"
+
+
+def block_lines(arguments, result):
+    block, (code_block, marks) = arguments["block"], result
+    digits = "".join(str(marks >> i & 1) for i in range(len(block) // 2))
+    return f"{arguments['number']:x} {arguments['level']:x} {block}\n", f"{code_block or 'none'} {digits}\n"
+
+
+texts = {"link_test/stdin": [], "link_test/stdout": [], "block_test/stdin": []}
+with open(os.path.join(here, "block-counts.txt")) as counts:
+    texts["block_test/stdout"] = [counts.read()]
 with open(os.path.join(here, "calls.jsonl")) as lines:
     for call in itertools.chain(map(json.loads, lines), examples()):
-        letter, areas, returned = CALLS[call["call"]]
-        arguments, result = call["args"], call["result"]
-        held = areas(arguments)
-        if max(map(len, held)) > 2 * LONGEST:
-            continue
-        numbers = arguments.get("number", 0), arguments.get("j", arguments.get("D", 0))
-        head = [letter, *("%016x" % number for number in numbers), *("%04x" % (len(area) // 2) for area in held)]
-        given.append(" ".join(head) + " " + "".join(held) + "\n")
-        answer = said(result["answer"]) if "answer" in result else []
-        expected.append(" ".join(answer + returned(result)) + "\n")
+        kind, arguments, result = call["call"], call["args"], call["result"]
+        if kind == "block_step":
+            program, (given, expected) = "block_test", block_lines(arguments, result)
+        else:
+            program, (given, expected) = "link_test", link_lines(kind, arguments, result)
+        texts[program + "/stdin"].append(given)
+        texts[program + "/stdout"].append(expected)
 
 stale = False
-for name, text in (("stdin", "".join(given)), ("stdout", "".join(expected))):
-    path = os.path.join(crate, name)
+for name, parts in texts.items():
+    path, text = os.path.join(crates, name), "".join(parts)
     if "--check" not in sys.argv:
         with open(path, "w") as f:
             f.write(text)

@@ -1,20 +1,35 @@
 //! Repair of one block: Reed–Solomon decoding at a level, up to half the level's distance.
 
 use super::code::{Block, Code, MAX_N};
-use super::field::Field;
+use super::field::{Field, MAX_Q};
 
 /// A polynomial with a root for each repaired symbol, at most half of a block, lowest power first.
 type Polynomial = [u8; MAX_N / 2 + 1];
 
-/// The level-l codeword within the repair limit of a block, if there is one.
-pub fn repair(code: &Code, l: usize, block: &[u8]) -> Option<Block> {
+/// A repaired block, and which of its symbols the repair altered.
+#[derive(Debug, PartialEq)]
+pub struct Repaired {
+    pub codeword: Block,
+    /// Set where received and repaired symbol differ; none in the room after them.
+    pub marks: [bool; MAX_Q],
+}
+
+impl Repaired {
+    /// A block as it was received, no symbol marked.
+    fn unmarked(code: &Code, block: &[u8]) -> Repaired {
+        Repaired { codeword: code.block(block), marks: [false; MAX_Q] }
+    }
+}
+
+/// The level-l codeword within the repair limit of a block with its marks, if there is one.
+pub fn repair(code: &Code, l: usize, block: &[u8]) -> Option<Repaired> {
     let mut syndromes = Block::default();
     let syndromes = &mut syndromes[..code.syndrome_count(l)];
     for (i, syndrome) in syndromes.iter_mut().enumerate() {
         *syndrome = code.syndrome(block, i);
     }
     if syndromes.iter().all(|&syndrome| syndrome == 0) {
-        return Some(code.block(block));
+        return Some(Repaired::unmarked(code, block));
     }
     let (locator, degree) = locator(&code.field, syndromes, code.repair_limit(l))?;
     correct(code, block, syndromes, &locator[..=degree])
@@ -54,22 +69,25 @@ fn locator(field: &Field, syndromes: &[u8], limit: usize) -> Option<(Polynomial,
     Some((locator, degree))
 }
 
-/// The block with the located symbols corrected, if the locator has all its roots among the places.
-fn correct(code: &Code, block: &[u8], syndromes: &[u8], locator: &[u8]) -> Option<Block> {
+/// The block with the located symbols corrected and marked, if the locator has all its roots among
+/// the places.
+fn correct(code: &Code, block: &[u8], syndromes: &[u8], locator: &[u8]) -> Option<Repaired> {
     let field = &code.field;
     let degree = locator.len() - 1;
     let evaluator = evaluator(field, syndromes, locator);
-    let mut codeword = code.block(block);
+    let mut repaired = Repaired::unmarked(code, block);
+    let symbols = repaired.codeword.iter_mut().zip(&mut repaired.marks);
     let mut found = 0;
-    for (symbol, &place) in codeword.iter_mut().zip(code.places()) {
+    for ((symbol, mark), &place) in symbols.zip(code.places()) {
         let root = field.divide(1, place);
         if field.value(locator, root) == 0 {
             let error = error_value(field, &evaluator[..degree], locator, root);
             *symbol = field.subtract(*symbol, error);
+            *mark = error != 0;
             found += 1;
         }
     }
-    (found == degree).then_some(codeword)
+    (found == degree).then_some(repaired)
 }
 
 /// Forney's error value at the place 1/root: −Ω(root) / (root Λ'(root)), with locator Λ, evaluator Ω.
@@ -143,10 +161,17 @@ mod tests {
         a.iter().zip(b).filter(|(a, b)| a != b).count()
     }
 
-    /// The codewords within the repair limit of a block.
-    fn near(code: &Code, l: usize, codewords: &[Block], block: &Block) -> Vec<Block> {
+    /// A block repaired to this codeword, with its marks by definition.
+    fn repaired_to(codeword: &Block, block: &Block) -> Repaired {
+        let marks = std::array::from_fn(|i| codeword[i] != block[i]);
+        Repaired { codeword: *codeword, marks }
+    }
+
+    /// The block repaired to each of the codewords within the repair limit.
+    fn near(code: &Code, l: usize, codewords: &[Block], block: &Block) -> Vec<Repaired> {
         let is_near = |codeword: &&Block| distance(codeword, block) <= code.repair_limit(l);
-        codewords.iter().filter(is_near).copied().collect()
+        let near = codewords.iter().filter(is_near);
+        near.map(|codeword| repaired_to(codeword, block)).collect()
     }
 
     #[test]
@@ -169,8 +194,17 @@ mod tests {
         }
     }
 
+    /// Whether this is a codeword within the limit, with its marks.
+    fn is_right(code: &Code, l: usize, found: &Repaired, block: &Block) -> bool {
+        let vanishes = |i| code.syndrome(&found.codeword[..code.n], i) == 0;
+        *found == repaired_to(&found.codeword, block)
+            && distance(&found.codeword, block) <= code.repair_limit(l)
+            && (0..code.syndrome_count(l)).all(vanishes)
+    }
+
     /// Of every level, also of those with too many codewords to enumerate: within the limit the
-    /// codeword comes back, beyond it what comes back is a codeword within the limit.
+    /// codeword comes back, beyond it what comes back is a codeword within the limit. Its marks are
+    /// where the two differ.
     #[test]
     fn repair_finds_an_altered_codeword_again() {
         let random = &mut Random::new(11);
@@ -185,12 +219,10 @@ mod tests {
                 }
                 let repaired = repair(code, l, &block[..code.n]);
                 let right = match repaired {
-                    _ if altered <= code.repair_limit(l) => repaired == Some(codeword),
-                    Some(found) => {
-                        distance(&found, &block) <= code.repair_limit(l)
-                            && (0..code.syndrome_count(l))
-                                .all(|i| code.syndrome(&found[..code.n], i) == 0)
+                    _ if altered <= code.repair_limit(l) => {
+                        repaired == Some(repaired_to(&codeword, &block))
                     }
+                    Some(found) => is_right(code, l, &found, &block),
                     None => true,
                 };
                 assert!(right, "setting {setting}, level {l}: {block:?} from {codeword:?}");
@@ -198,7 +230,12 @@ mod tests {
         }
     }
 
-    /// Settings and levels with the stride from block to block, as crates/block_test takes them.
+    /// The verified block step's test program: its input, a block a line, and its output, the counts
+    /// and then an answer a line.
+    const STDIN: &str = include_str!("../../../crates/block_test/stdin");
+    const STDOUT: &str = include_str!("../../../crates/block_test/stdout");
+
+    /// Settings and levels with the stride from block to block, as the program counts them.
     const COUNTED: [(u64, usize, usize); 8] = [
         (1, 0, 1),
         (1, 1, 1),
@@ -221,7 +258,7 @@ mod tests {
     /// and enumeration agree.
     #[test]
     fn counts_are_those_of_the_verified_block_step() {
-        let mut counts = String::new();
+        let mut counts = Vec::new();
         for (setting, l, stride) in COUNTED {
             let code = Code::of(setting).unwrap();
             let codewords = codewords(code, l).expect("few codewords");
@@ -233,8 +270,42 @@ mod tests {
                 near_blocks += usize::from(!near.is_empty());
                 agreed += usize::from(repair(code, l, &block[..code.n]).as_slice() == near);
             }
-            counts += &format!("{setting} {l} {blocks} {near_blocks} {agreed}\n");
+            counts.push(format!("{setting} {l} {blocks} {near_blocks} {agreed}"));
         }
-        assert_eq!(counts, include_str!("../../../crates/block_test/stdout"));
+        assert_eq!(counts, Vec::from_iter(STDOUT.lines().take(COUNTED.len())));
+    }
+
+    /// What the program writes for a line: the codeword or "none", and the marks.
+    fn answer(line: &str) -> String {
+        let words = Vec::from_iter(line.split(' '));
+        let [setting, l, block] = words[..] else { panic!("no block: {line}") };
+        let code = Code::of(number(setting)).unwrap();
+        let symbols = block.as_bytes().chunks(2).map(|digits| std::str::from_utf8(digits).unwrap());
+        let block = Vec::from_iter(symbols.map(|digits| number(digits) as u8));
+        let (codeword, marks) = match repair(code, number(l) as usize, &block) {
+            Some(Repaired { codeword, marks }) => (hexadecimal(&codeword[..code.n]), marks),
+            None => ("none".to_string(), [false; MAX_Q]),
+        };
+        let digits = marks[..code.n].iter().map(|&mark| if mark { '1' } else { '0' });
+        format!("{codeword} {}", String::from_iter(digits))
+    }
+
+    fn number(hexadecimal: &str) -> u64 {
+        u64::from_str_radix(hexadecimal, 16).unwrap()
+    }
+
+    fn hexadecimal(symbols: &[u8]) -> String {
+        symbols.iter().map(|symbol| format!("{symbol:02x}")).collect()
+    }
+
+    /// The verified block step's stored answers, one for each line of the input.
+    #[test]
+    fn answers_are_those_of_the_verified_block_step() {
+        let stored = Vec::from_iter(STDOUT.lines().skip(COUNTED.len()));
+        assert!(!stored.is_empty());
+        assert_eq!(stored.len(), STDIN.lines().count());
+        for (line, right) in STDIN.lines().zip(stored) {
+            assert_eq!(answer(line), right, "{line}");
+        }
     }
 }

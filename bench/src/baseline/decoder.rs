@@ -49,9 +49,9 @@ fn first_information(code: &Code, window: &[u8]) -> Option<Information> {
 /// The information behind the repaired block l, if the blocks rebuilt from it are near enough.
 fn information_at(code: &Code, l: usize, blocks: &[u8]) -> Option<Information> {
     let (earlier, last) = blocks.split_at(l * code.n);
-    let codeword = repair(code, l, last)?;
-    let information = code.information(l, &codeword);
-    let mut differences = distance(&codeword, last);
+    let repaired = repair(code, l, last)?;
+    let information = code.information(l, &repaired.codeword);
+    let mut differences = repaired.marks.iter().filter(|&&mark| mark).count();
     for (i, block) in earlier.chunks_exact(code.n).enumerate() {
         differences += distance(&rebuilt(code, &information, i), block);
     }

@@ -1,8 +1,10 @@
-//! A reader for the JSON of the vectors: objects, lists, strings without escapes, whole numbers.
+//! A reader for the JSON of the vectors: objects, lists, strings without escapes, whole numbers,
+//! null.
 
 use std::collections::HashMap;
 
 pub enum Value {
+    Null,
     Text(String),
     Number(u64),
     Object(HashMap<String, Value>),
@@ -39,11 +41,15 @@ impl Value {
         }
     }
 
-    /// The bytes that a string writes in hexadecimal.
     pub fn bytes(&self, name: &str) -> Vec<u8> {
-        let digits: Vec<u32> = self.text(name).chars().map(|c| c.to_digit(16).unwrap()).collect();
-        digits.chunks(2).map(|pair| (16 * pair[0] + pair[1]) as u8).collect()
+        bytes(self.text(name))
     }
+}
+
+/// The bytes that a string writes in hexadecimal.
+pub fn bytes(text: &str) -> Vec<u8> {
+    let digits: Vec<u32> = text.chars().map(|c| c.to_digit(16).unwrap()).collect();
+    digits.chunks(2).map(|pair| (16 * pair[0] + pair[1]) as u8).collect()
 }
 
 /// Reads one value that is the whole text.
@@ -63,6 +69,7 @@ fn value(text: &str) -> (Value, &str) {
             let (string, rest) = string(text);
             (Value::Text(string), rest)
         }
+        b'n' => (Value::Null, text.strip_prefix("null").expect("null")),
         _ => {
             let end = text.find(|c: char| !c.is_ascii_digit()).unwrap_or(text.len());
             (Value::Number(text[..end].parse().unwrap()), &text[end..])

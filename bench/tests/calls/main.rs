@@ -183,8 +183,6 @@ fn random_woven_decodings() {
 fn stored_windows() {
     let windows = stored::windows();
     assert!(!windows.is_empty());
-    // No stored call is left out.
-    assert_eq!(windows.len() + stored::calls().len(), stored::LINES.lines().count());
     for call in windows {
         let part = baseline::window(call.setting, &call.reception, call.j);
         let answer = baseline::window_answer(call.setting, &call.reception, call.j);
@@ -192,4 +190,24 @@ fn stored_windows() {
         let start = &call.reception[call.start..];
         assert!(part.is_empty() || std::ptr::eq(part.as_ptr(), start.as_ptr()), "{call:?}");
     }
+}
+
+/// The block step, which C has no call for: the right codeword, or none, and its marks.
+#[test]
+fn stored_block_steps() {
+    let steps = stored::block_steps();
+    assert!(!steps.is_empty());
+    for step in steps {
+        let repaired = baseline::block_step(step.setting, step.level, &step.block);
+        let marks = repaired.iter().flat_map(|repaired| repaired.marks).enumerate();
+        let marks = marks.fold(0, |marks, (i, mark)| marks | u64::from(mark) << i);
+        let codeword = repaired.map(|repaired| repaired.codeword[..step.block.len()].to_vec());
+        assert_eq!((&codeword, marks), (&step.codeword, step.marks), "{step:?}");
+    }
+}
+
+#[test]
+fn no_stored_call_is_left_out() {
+    let made = stored::calls().len() + stored::windows().len() + stored::block_steps().len();
+    assert_eq!(made, stored::LINES.lines().count());
 }

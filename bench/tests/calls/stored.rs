@@ -17,6 +17,17 @@ pub struct Window {
     pub part: Vec<u8>,
 }
 
+/// A block, and what its repair at a level must return: a codeword or none, and bit i as symbol
+/// i's mark.
+#[derive(Debug)]
+pub struct BlockStep {
+    pub setting: u64,
+    pub level: usize,
+    pub block: Vec<u8>,
+    pub codeword: Option<Vec<u8>>,
+    pub marks: u64,
+}
+
 /// The calls of the C interface.
 pub fn calls() -> Vec<(Call, Outcome)> {
     LINES.lines().filter_map(|line| call(&json::parse(line))).collect()
@@ -27,14 +38,19 @@ pub fn windows() -> Vec<Window> {
     LINES.lines().filter_map(|line| window(&json::parse(line))).collect()
 }
 
+/// The block steps, which C does not have.
+pub fn block_steps() -> Vec<BlockStep> {
+    LINES.lines().filter_map(|line| block_step(&json::parse(line))).collect()
+}
+
 fn call(line: &Value) -> Option<(Call, Outcome)> {
     let (args, result) = (line.get("args"), line.get("result"));
-    let (setting, answer) = (args.number("number"), answer(result));
+    let setting = args.number("number");
     match line.text("call") {
         "encode" => {
             let (message, transmission) = (args.bytes("message"), args.bytes("tarea"));
             let call = Call::Encode { setting, message, transmission };
-            let transmission = result.bytes("transmission");
+            let (answer, transmission) = (answer(result), result.bytes("transmission"));
             Some((call, Outcome::Encoded { answer, transmission }))
         }
         "decode" => {
@@ -42,13 +58,13 @@ fn call(line: &Value) -> Option<(Call, Outcome)> {
             let (message, transmission) = (args.bytes("marea"), args.bytes("tarea"));
             let call = Call::Decode { setting, reception, message, transmission };
             let (message, transmission) = (result.bytes("message"), result.bytes("transmission"));
-            Some((call, Outcome::Decoded { answer, message, transmission }))
+            Some((call, Outcome::Decoded { answer: answer(result), message, transmission }))
         }
         "marks" => {
             let (reception, transmission) = (args.bytes("reception"), args.bytes("transmission"));
             let call = Call::Marks { setting, reception, transmission, j: args.number("j") };
             let (marks, set) = (result.number("marks"), result.number("ones") as u32);
-            Some((call, Outcome::Marked(Marks { answer, marks, set })))
+            Some((call, Outcome::Marked(Marks { answer: answer(result), marks, set })))
         }
         "weave" => Some(weaving(Way::Weave, args.bytes("frames"), args, result)),
         "unweave" => Some(weaving(Way::Unweave, args.bytes("woven"), args, result)),
@@ -56,7 +72,7 @@ fn call(line: &Value) -> Option<(Call, Outcome)> {
             let (frames, reception) = (args.number("D"), args.bytes("woven"));
             let (message, transmission) = (args.bytes("marea"), args.bytes("tarea"));
             let call = Call::DecodeWoven { setting, frames, reception, message, transmission };
-            let mut woven = Woven { answer, ..Woven::default() };
+            let mut woven = Woven { answer: answer(result), ..Woven::default() };
             for (frame, stored) in woven.frame.iter_mut().zip(result.list("frames")) {
                 *frame = answer_of(stored);
             }
@@ -83,6 +99,19 @@ fn window(line: &Value) -> Option<Window> {
         answer: answer(result),
         start: result.number("start") as usize,
         part: result.bytes("part"),
+    })
+}
+
+fn block_step(line: &Value) -> Option<BlockStep> {
+    let args = line.get("args");
+    (line.text("call") == "block_step").then(|| {
+        let (codeword, marks) = match line.list("result") {
+            [Value::Text(codeword), Value::Number(marks)] => (Some(json::bytes(codeword)), *marks),
+            [Value::Null, Value::Number(marks)] => (None, *marks),
+            _ => panic!("no codeword and marks"),
+        };
+        let (setting, level) = (args.number("number"), args.number("level") as usize);
+        BlockStep { setting, level, block: args.bytes("block"), codeword, marks }
     })
 }
 

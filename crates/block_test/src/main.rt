@@ -1,8 +1,11 @@
 // The block step against plain enumeration: for received blocks of every level of settings 1 to 3, whether it answers with the information that costs less than
 // d_l, and with none where none does. Every block of setting 1; of settings 2 and 3 every block whose number is a multiple of a stride. In the others
 // hardly any block that could be gone through has a code block near it that is not zero.
-// Writes for each setting and level: how many blocks, how many of them near, in how many the two agree.
+// Writes for each setting and level: how many blocks, how many of them near, in how many the two agree, and the marks are right. Then repairs the blocks of
+// the stored input, which are of all settings (`stored`).
 #![tactic(auto)]
+
+mod stored;
 
 ghost use Rattle.std.specs.Prelude.{◌≡◌, ◌+◌, ◌^◌, ◌≤◌, ◌<◌, length};
 ghost use Rattle.field.specs.Symbols.{Symbols};
@@ -83,18 +86,43 @@ impl Received<'_> {
     }
 
     // The information with which the block step answers, by its number.
-    fn repaired(&self) -> Option<usize> {
-        let information = block::repair(self.level.tables, self.block, self.level.l)?;
+    fn repaired(&self, marks: &mut [u8]) -> Option<usize>
+        requires { length marks.old ≡ self.now.level.tables.now.setting.n }
+    {
+        let information = block::repair(self.level.tables, self.block, self.level.l, marks)?;
         let symbols = (self.level.l + 1) * self.level.tables.setting.k;
         Some(self.level.number_of(&information[..symbols]))
+    }
+
+    // Whether just the symbols are marked that differ from what an information word combines to; and none where there is no word.
+    fn is_marked(&self, word: Option<usize>, marks: &[u8]) -> bool
+        requires { length marks.now ≡ self.now.level.tables.now.setting.n }
+    {
+        let Some(word) = word else {
+            return marks.iter().all(|mark| *mark == 0);
+        };
+        let information = self.level.digits(word);
+        let combination = Combination {
+            tables: self.level.tables,
+            information: &information,
+            l: self.level.l,
+        };
+        for (i, &mark) in marks.iter().enumerate() {
+            if mark != u8::from(self.block[i] != combination.symbol(i)) {
+                return false;
+            }
+        }
+        true
     }
 
     // Whether the block step and enumeration agree on the block, and whether on information.
     fn tally(&self) -> Tally
         ensures { (result.blocks ≡ 1) × (result.near ≤ 1) × (result.agree ≤ 1) }
     {
-        let found = self.repaired();
-        let agree = found == self.search();
+        let mut room = [0u8; LONGEST_BLOCK];
+        let marks = &mut room[..self.level.tables.setting.n];
+        let found = self.repaired(marks);
+        let agree = found == self.search() && self.is_marked(found, marks);
         Tally {
             blocks: 1,
             near: usize::from(agree && found.is_some()),
@@ -183,4 +211,5 @@ fn main(rt: HostRuntime) {
     write_tally(&rt, SettingNumber::Two, 2, 2, 262144, 16001, 2097152);
     write_tally(&rt, SettingNumber::Three, 0, 5, 512, 523, 2097152);
     write_tally(&rt, SettingNumber::Three, 1, 2, 262144, 16001, 2097152);
+    stored::repair_all(&rt);
 }
