@@ -4,4 +4,5 @@ pub mod Hex
 pub mod Placed
 pub mod Asked
 pub mod Frames
+pub mod Determined
 pub mod Samples

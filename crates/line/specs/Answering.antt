@@ -1,6 +1,6 @@
 -- What answering a line promises (01, "Lines at the planning desk"). Holds: `refusal`, `opening` and `success`, the two kinds of output line;
 -- `message_length`, `message_in`; `output_line`, `Answers`, which of them a line gets; `Shown`, a text in a lent area; `AnswerShown`; `LineAreas`, `line_areas`,
--- the working areas, `has_room`, `room_in`, `RoomForAll`, `FrameLeft`; `Answered`, a whole call.
+-- the working areas, `has_room`, `room_in`, `RoomForAll`, `FrameLeft`; `Answered`, a whole call; that it leaves nothing open, `LineDetermined`.
 use Rattle.std.specs.Prelude.{◌≡◌, Bool, true, false, ◌&&◌, List, ◌++◌, map, ℕ, ◌*◌, ◌≤◌, eqb, leb, length, take}
 use Rattle.algebra.specs.Ops.{pick}
 use Rattle.area.specs.Lists.{overwritten}
@@ -89,3 +89,9 @@ pub data Answered (line : List ℕ) (w : LineAreas) (output : List ℕ) (r : ℕ
   -- The frame is decoded, and the line is answered.
   decoded : HoldsFrame line → room_in line w ≡ true → (a : Answer) → FrameLeft line w a w' → AnswerShown line output r output'
       → Answered line w output r w' output'
+
+-- "Answers to outside callers stay equal to today's" (02, #105): of a line too the promise leaves one length and one content of each area, whatever was lent
+-- (`line_determined`, proofs/Determined).
+abbrev pub LineDetermined : Type 0
+LineDetermined = (line : List ℕ) (w : LineAreas) (output : List ℕ) (r s : ℕ) (w' other : LineAreas) (output' other_output : List ℕ)
+    → Answered line w output r w' output' → Answered line w output s other other_output → (r ≡ s) × (w' ≡ other) × (output' ≡ other_output)

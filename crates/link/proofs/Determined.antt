@@ -1,11 +1,16 @@
 -- Decoding's promise leaves nothing open: it gives one answer and one content of each area (from `at_most_one_fits`).
--- Holds: `Same`, `frame_determined`, of question 7; `parts_long`, `message_front`, `transmission_front`; `fronts_determined`, in any areas large enough;
--- `Alike`, `decoded_alike`, of two calls whose areas have the same lengths; `decoded_determined`, of two calls on the same setting, reception and areas.
-use mathlib.Core.Path.{◌≡◌, sym, ap, ap₂, ◌∙◌}
+-- Holds: `frame_determined`, of question 7; `parts_long`, `message_front`, `transmission_front`; `fronts_determined`, in any areas large enough;
+-- `Alike`, `decoded_alike`, of two calls whose areas have the same lengths; `decoded_determined`, of two calls on the same setting, reception and areas;
+-- `woven_determined`, of two such calls on woven frames.
+use mathlib.Core.Path.{◌≡◌, refl, sym, ap, ap₂, ◌∙◌}
 use mathlib.Core.List.{List, ◌++◌}
-use Prim.Native.Nat.{ℕ, ◌*◌}
-use lib.ListN.{length, take, drop, length-replicate}
+use Prim.Native.Nat.{ℕ, ◌*◌, ◌/◌, ◌<◌}
+use native.Mathlib.Omega.{arith}
+use native.Mathlib.Decide.{dec_lt}
+use lib.ListN.{length, get_or, take, drop, length-replicate}
 use lib.Seq.{take_at}
+use Rattle.area.specs.Lists.{part_at}
+use Rattle.area.proofs.Parts.{in_turn_of_parts}
 use Rattle.code.specs.parts.Residual.{frame_length}
 use Rattle.code.specs.declared.Setting.{Setting}
 use Rattle.code.specs.Settings.{setting_of}
@@ -17,28 +22,22 @@ use Rattle.code.proofs.Demand3.{at_most_one_fits}
 use Rattle.question.specs.declared.answer.Answer.{Answer}
 use Rattle.question.specs.Questions.{answer, first_no, blocks_of, decoding_questions}
 use Rattle.question.proofs.Questions.{decoding_yes}
-use Rattle.link.specs.Decoding.{FrameDecoded, found, none_fits, DecodedIn, Decoded, refused, well_formed}
-
--- Two results of question 7 are the same.
-pub record Same (r s : Answer) (message other sent other_sent : List ℕ) : Type 0 where
-  pub answers : r ≡ s
-  pub messages : message ≡ other
-  pub transmissions : sent ≡ other_sent
+use Rattle.link.specs.Decoding.{FrameDecoded, found, none_fits, DecodedIn, Decoded, refused, well_formed, DecodingDetermined}
+use Rattle.link.specs.Woven.{refused as woven_refused, well_formed as woven_well_formed, WovenDetermined}
 
 module _ (p : Setting) (S : Sound p) (T : ℕ) (reception : List ℕ) where
   pub frame_determined : {r s : Answer} {message other sent other_sent : List ℕ}
-      → FrameDecoded p T reception r message sent → FrameDecoded p T reception s other other_sent → Same r s message other sent other_sent
+      → FrameDecoded p T reception r message sent → FrameDecoded p T reception s other other_sent
+      → (r ≡ s) × (message ≡ other) × (sent ≡ other_sent)
   frame_determined {r} {s} {message} {other} (found F e t) (found G f u) =
-      let one : message ≡ other = at_most_one_fits p S T reception message other F G in
-      record {
-        answers = e ∙ (ap (λ (x : List ℕ). answer 0 0 (altered p T reception (transmission p x))) one ∙ sym f);
-        messages = one;
-        transmissions = t
-            ∙ (ap (transmission p) one ∙ sym u);
-      }
+      let one : message ≡ other = at_most_one_fits p S T reception message other F G in (
+        e ∙ (ap (λ (x : List ℕ). answer 0 0 (altered p T reception (transmission p x))) one ∙ sym f),
+        one,
+        t ∙ (ap (transmission p) one ∙ sym u),
+      )
   frame_determined {message = message} (found F e t) (none_fits far f m u) = absurd (far message F)
   frame_determined {other = other} (none_fits far e m t) (found G f u) = absurd (far other G)
-  frame_determined (none_fits far e m t) (none_fits far' f n u) = record { answers = e ∙ sym f; messages = m ∙ sym n; transmissions = t ∙ sym u }
+  frame_determined (none_fits far e m t) (none_fits far' f n u) = (e ∙ sym f, m ∙ sym n, t ∙ sym u)
 
   -- The parts have the lengths of the places that they go to.
   pub parts_long : {r : Answer} {message sent : List ℕ} → FrameDecoded p T reception r message sent
@@ -62,28 +61,28 @@ module _ (p : Setting) (S : Sound p) (T : ℕ) (reception : List ℕ) where
   -- Whatever areas were lent, if they are large enough: the first T × k and (T+m) × n bytes.
   pub fronts_determined : {message transmitted other other_sent : List ℕ} {r s : Answer} {message' transmitted' other' other_sent' : List ℕ}
       → DecodedIn p T reception message transmitted r message' transmitted' → DecodedIn p T reception other other_sent s other' other_sent'
-      → Same r s (take (T * p.k) message') (take (T * p.k) other') (take (frame_length p T) transmitted') (take (frame_length p T) other_sent')
+      → (r ≡ s) × (take (T * p.k) message' ≡ take (T * p.k) other') × (take (frame_length p T) transmitted' ≡ take (frame_length p T) other_sent')
   fronts_determined D E =
-      let one = frame_determined D.decoded E.decoded in
-      record {
-        answers = one.answers;
-        messages = message_front D ∙ (one.messages ∙ sym (message_front E));
-        transmissions = transmission_front D ∙ (one.transmissions ∙ sym (transmission_front E));
-      }
+      let one = frame_determined D.decoded E.decoded in (
+        one.0,
+        message_front D ∙ (one.1 ∙ sym (message_front E)),
+        transmission_front D ∙ (one.2 ∙ sym (transmission_front E)),
+      )
 
 -- What two calls have in common: the answer and, where questions 1 to 6 got "yes", the first T × k and (T+m) × n bytes.
 pub record Alike (number : ℕ) (reception message transmitted : List ℕ) (r s : Answer) (message' other' transmitted' other_sent' : List ℕ) : Type 0 where
   pub answers : r ≡ s
   pub fronts : (first_no (decoding_questions number reception (length message) (length transmitted))).number ≡ 0
-      → Same r s (take (blocks_of (setting_of number) (length reception) * (setting_of number).k) message')
-      (take (blocks_of (setting_of number) (length reception) * (setting_of number).k) other')
-      (take (frame_length (setting_of number) (blocks_of (setting_of number) (length reception))) transmitted')
-      (take (frame_length (setting_of number) (blocks_of (setting_of number) (length reception))) other_sent')
+      → (take (blocks_of (setting_of number) (length reception) * (setting_of number).k) message'
+      ≡ take (blocks_of (setting_of number) (length reception) * (setting_of number).k) other')
+      × (take (frame_length (setting_of number) (blocks_of (setting_of number) (length reception))) transmitted'
+      ≡ take (frame_length (setting_of number) (blocks_of (setting_of number) (length reception))) other_sent')
+
+-- A setting that decoding admits.
+sound : (number : ℕ) (reception : List ℕ) (a b : ℕ) → (first_no (decoding_questions number reception a b)).number ≡ 0 → Sound (setting_of number)
+sound number reception a b asked = sound_of number (decoding_yes number reception a b asked).setting
 
 module _ (number : ℕ) (reception : List ℕ) where
-  sound : (a b : ℕ) → (first_no (decoding_questions number reception a b)).number ≡ 0 → Sound (setting_of number)
-  sound a b asked = sound_of number (decoding_yes number reception a b asked).setting
-
   -- Whatever areas of the same lengths were lent.
   pub decoded_alike : (message transmitted other other_sent : List ℕ) {r s : Answer} {message' transmitted' other' other_sent' : List ℕ}
       → length message ≡ length other → length transmitted ≡ length other_sent
@@ -105,24 +104,60 @@ module _ (number : ℕ) (reception : List ℕ) where
       at (refused h e m t) (well_formed k F) = absurd (h (number_same ∙ k))
       at (well_formed h F) (refused k f n u) = absurd (k (sym number_same ∙ h))
       at (well_formed h F) (well_formed k G) =
-          let one = fronts_determined (setting_of number) (sound (length message) (length transmitted) h)
+          let one = fronts_determined (setting_of number) (sound number reception (length message) (length transmitted) h)
           (blocks_of (setting_of number) (length reception)) reception F G in
-          record { answers = one.answers; fronts = λ z. one }
+          record { answers = one.0; fronts = λ z. (one.1, one.2) }
 
-  -- The same areas: one answer, one message area, one transmission area.
-  pub decoded_determined : (message transmitted : List ℕ) {r s : Answer} {message' transmitted' other' other_sent' : List ℕ}
-      → Decoded number reception message transmitted r message' transmitted' → Decoded number reception message transmitted s other' other_sent'
-      → Same r s message' other' transmitted' other_sent'
-  decoded_determined message transmitted (refused h e m t) (refused k f n u) = record { answers = e ∙ sym f; messages = m ∙ sym n; transmissions = t ∙ sym u }
-  decoded_determined message transmitted (refused h e m t) (well_formed k F) = absurd (h k)
-  decoded_determined message transmitted (well_formed h F) (refused k f n u) = absurd (k h)
-  decoded_determined message transmitted (well_formed h F) (well_formed k G) =
-      let p = setting_of number in
-      let T = blocks_of p (length reception) in
-      let one = frame_determined p (sound (length message) (length transmitted) h) T reception F.decoded G.decoded in
-      record {
-        answers = one.answers;
-        messages = F.message_area ∙ (ap (λ (x : List ℕ). x ++ drop (T * p.k) message) one.messages ∙ sym G.message_area);
-        transmissions =
-            F.transmission_area ∙ (ap (λ (x : List ℕ). x ++ drop (frame_length p T) transmitted) one.transmissions ∙ sym G.transmission_area);
-      }
+-- The same areas: one answer, one message area, one transmission area.
+pub decoded_determined : DecodingDetermined
+decoded_determined number reception message transmitted r s message' transmitted' other other_sent (refused h e m t) (refused k f n u) =
+    (e ∙ sym f, m ∙ sym n, t ∙ sym u)
+decoded_determined number reception message transmitted r s message' transmitted' other other_sent (refused h e m t) (well_formed k F) = absurd (h k)
+decoded_determined number reception message transmitted r s message' transmitted' other other_sent (well_formed h F) (refused k f n u) = absurd (k h)
+decoded_determined number reception message transmitted r s message' transmitted' other other_sent (well_formed h F) (well_formed k G) =
+    let p = setting_of number in
+    let T = blocks_of p (length reception) in
+    let one = frame_determined p (sound number reception (length message) (length transmitted) h) T reception F.decoded G.decoded in (
+      one.0,
+      F.message_area ∙ (ap (λ (x : List ℕ). x ++ drop (T * p.k) message) one.1 ∙ sym G.message_area),
+      F.transmission_area ∙ (ap (λ (x : List ℕ). x ++ drop (frame_length p T) transmitted) one.2 ∙ sym G.transmission_area),
+    )
+
+-- Two areas with the same parts that hold the same past them.
+same_parts : (size D : ℕ) (area other : List ℕ) → ((f : ℕ) → f < D → part_at size f area ≡ part_at size f other)
+    → drop (D * size) area ≡ drop (D * size) other → area ≡ other
+same_parts size D area other parts past =
+    in_turn_of_parts size D (λ f. part_at size f other) area other parts past
+    ∙ sym (in_turn_of_parts size D (λ f. part_at size f other) other other (λ f below. refl) refl)
+
+-- Each of the D frames by itself, with its part of each area.
+pub woven_determined : WovenDetermined
+woven_determined number D reception message transmitted r s message' transmitted' other other_sent (woven_refused h e none m t) (woven_refused k f zeros n u) =
+    (e ∙ sym f, λ g. none g ∙ sym (zeros g), m ∙ sym n, t ∙ sym u)
+woven_determined number D reception message transmitted r s message' transmitted' other other_sent (woven_refused h e none m t) (woven_well_formed k f G) =
+    absurd (h k)
+woven_determined number D reception message transmitted r s message' transmitted' other other_sent (woven_well_formed h e F) (woven_refused k f zeros n u) =
+    absurd (k h)
+woven_determined number D reception message transmitted r s message' transmitted' other other_sent (woven_well_formed h e F) (woven_well_formed k f G) =
+    (e ∙ sym f, λ g. at g (dec_lt g D), messages, transmissions)
+  where
+    p : Setting
+    p = setting_of number
+
+    T : ℕ
+    T = blocks_of p (length reception / D)
+
+    one : (g : ℕ) → g < D → (get_or r.frame g (answer 0 0 0) ≡ get_or s.frame g (answer 0 0 0))
+        × (part_at (T * p.k) g message' ≡ part_at (T * p.k) g other) × (part_at (frame_length p T) g transmitted' ≡ part_at (frame_length p T) g other_sent)
+    one g below = decoded_determined number _ _ _ _ _ _ _ _ _ (F.frame g below) (G.frame g below)
+
+    at : (g : ℕ) → Dec (g < D) → get_or r.frame g (answer 0 0 0) ≡ get_or s.frame g (answer 0 0 0)
+    at g (yes below) = (one g below).0
+    at g (no past) = F.no_frame g (omega arith) ∙ sym (G.no_frame g (omega arith))
+
+    messages : message' ≡ other
+    messages = same_parts (T * p.k) D message' other (λ g below. (one g below).1) (F.message_past ∙ sym G.message_past)
+
+    transmissions : transmitted' ≡ other_sent
+    transmissions =
+        same_parts (frame_length p T) D transmitted' other_sent (λ g below. (one g below).2) (F.transmission_past ∙ sym G.transmission_past)

@@ -1,5 +1,5 @@
 -- What decoding promises (demands 1 and 2; 01, "Questions, asked in this order"). Holds: `FrameDecoded`, the two answers to question 7; `DecodedIn`, these
--- in lent areas; `Decoded`, a whole call; what is proved of its count, `CountBound`.
+-- in lent areas; `Decoded`, a whole call; what is proved of its count, `CountBound`; that it leaves nothing open, `DecodingDetermined`.
 use Rattle.std.specs.Prelude.{◌≡◌, List, ◌++◌, ℕ, ◌+◌, ◌*◌, ◌≤◌, length, drop, replicate}
 use Rattle.code.specs.declared.Setting.{Setting}
 use Rattle.code.specs.Settings.{setting_of}
@@ -43,3 +43,10 @@ abbrev pub CountBound : Type 0
 CountBound = (number : ℕ) (reception message transmitted : List ℕ) (r : Answer) (message' transmitted' : List ℕ)
     → Decoded number reception message transmitted r message' transmitted'
     → r.altered ≤ most_altered (setting_of number) (blocks_of (setting_of number) (length reception))
+
+-- "Answers to outside callers stay equal to today's" (02, #105): whatever was received and lent, the promise leaves one answer and one content of each area, so
+-- whatever keeps it answers alike (`decoded_determined`, proofs/Determined).
+abbrev pub DecodingDetermined : Type 0
+DecodingDetermined = (number : ℕ) (reception message transmitted : List ℕ) (r s : Answer) (message' transmitted' other other_sent : List ℕ)
+    → Decoded number reception message transmitted r message' transmitted' → Decoded number reception message transmitted s other other_sent
+    → (r ≡ s) × (message' ≡ other) × (transmitted' ≡ other_sent)

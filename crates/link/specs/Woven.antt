@@ -1,5 +1,6 @@
 -- What decoding of woven frames promises (02, #104), and what follows of a burst.
--- Holds: `woven_answer`, what a call's outcome stands for; `FramesDecoded`, the frames' own answers; `DecodedWoven`, a whole call; `OneRun`, `AllReturned`, `BurstReturned`, the promise on bursts.
+-- Holds: `woven_answer`, what a call's outcome stands for; `FramesDecoded`, the frames' own answers; `DecodedWoven`, a whole call; `OneRun`, `AllReturned`,
+-- `BurstReturned`, the promise on bursts; `WovenDetermined`, that a call's promise leaves nothing open.
 use Rattle.std.specs.Prelude.{◌≡◌, List, map, ℕ, ◌+◌, ◌*◌, ◌/◌, ◌≤◌, ◌<◌, Result, Ok, Err, length, get_or, drop, replicate}
 use Rattle.area.specs.Lists.{part_at, in_turn, overwritten}
 use Rattle.code.specs.declared.Setting.{Setting}
@@ -70,3 +71,11 @@ BurstReturned = (number D T start run : ℕ) (messages : ℕ → List ℕ) (rece
     → (first_no (woven_decoding_questions number D received (length message) (length transmitted))).number ≡ 0
     → DecodedWoven number D received message transmitted r message' transmitted'
     → AllReturned (setting_of number) D messages message transmitted r message' transmitted'
+
+-- "Answers to outside callers stay equal to today's" (02, #105): of woven frames too the promise leaves one common answer, one answer of each frame and one
+-- content of each area (`woven_determined`, proofs/Determined).
+abbrev pub WovenDetermined : Type 0
+WovenDetermined = (number D : ℕ) (reception message transmitted : List ℕ) (r s : WovenAnswer) (message' transmitted' other other_sent : List ℕ)
+    → DecodedWoven number D reception message transmitted r message' transmitted' → DecodedWoven number D reception message transmitted s other other_sent
+    → (r.answer ≡ s.answer) × ((f : ℕ) → get_or r.frame f (answer 0 0 0) ≡ get_or s.frame f (answer 0 0 0)) × (message' ≡ other)
+    × (transmitted' ≡ other_sent)

@@ -1,5 +1,5 @@
 -- What decoding's last steps promise: question 7, answered with the residual, and the transmission, restored from it. Holds: `FrameAnswered`, `Restored`.
-use Rattle.std.specs.Prelude.{◌≡◌, true, List, ℕ, ◌+◌, ◌*◌, ◌≤◌, ◌<◌, length, get_or, replicate}
+use Rattle.std.specs.Prelude.{◌≡◌, true, List, ℕ, ◌*◌, ◌≤◌, ◌<◌, length, get_or, replicate}
 use Rattle.algebra.specs.Ops.{sub}
 use Rattle.area.specs.parts.Weights.{weight_to}
 use Rattle.field.specs.Fields.{ops_of}

@@ -1,5 +1,5 @@
 -- What decoding one woven frame after another promises. Holds: `FramesTo`, the frames before one of them; `EachDecoded`, all of them.
-use Rattle.std.specs.Prelude.{◌≡◌, List, ℕ, ◌+◌, ◌*◌, ◌≤◌, ◌<◌, get_or, drop}
+use Rattle.std.specs.Prelude.{◌≡◌, List, ℕ, ◌*◌, ◌≤◌, ◌<◌, get_or, drop}
 use Rattle.area.specs.Lists.{part_at}
 use Rattle.code.specs.declared.Setting.{Setting}
 use Rattle.code.specs.parts.Residual.{frame_length}
