@@ -331,8 +331,8 @@ def moved(code_block, other, count):
 
 
 def beyond(setting, level, code_block, limit):
-    """One altered symbol more than a repair undoes. Where code blocks are few all are tried, also on a block between this one and one next to it. Where they
-    are many and d_l is even, 2 × limit + 2, none is near enough; where it is odd one may be, so no such block is here."""
+    """One altered symbol more than a repair undoes. Where a level's code blocks are few, all are tried, and a block between this one and its nearest is added.
+    Where they are many and d_l is even, none is near enough, since d_l = 2 × limit + 2; where it is odd one may be, so nothing is given."""
     _, n, k, _, _ = SETTINGS[setting]
     blocks = [altered_at(setting, code_block, places) for places in spots(n, limit + 1)]
     code_blocks = code_blocks_of(setting, level)
@@ -349,7 +349,7 @@ def beyond(setting, level, code_block, limit):
 
 def block_steps():
     """Blocks of every level of every setting: two code blocks, the first all zero, as they are, with one altered symbol, with as many as a repair undoes, that
-    is half of d_l - 1, and with one more. Where d_l is 1 every block is a code block."""
+    is half of d_l - 1, rounded down, and with one more. Where d_l is 1 every block is a code block."""
     for setting, (q, n, k, m, _) in SETTINGS.items():
         for level in range(m + 1):
             size = (level + 1) * k

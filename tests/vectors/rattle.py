@@ -4,8 +4,8 @@
 link_test, all calls but block steps. A line of stdin: the call's letter, the setting, j or D, the lengths of three areas and the areas, all in hexadecimal
 (crates/link_test/src/main.rt). A line of stdout: number, place and count of the answer in decimal, then what the call returned and what it left in the areas;
 for a desk line, its answer.
-block_test, the block steps. A line of stdin: the setting, the level and the block, in hexadecimal. Stdout: block-counts.txt, which the program counts by
-itself; then for each line of stdin the code block, in hexadecimal, or none, and a digit for each symbol's mark.
+block_test, the block steps. A line of stdin: the setting, the level and the block, in hexadecimal. Stdout: first the counts that the program makes without
+input (block-counts.txt); then for each line of stdin the code block, in hexadecimal, or none, and a digit for each symbol's mark.
 Run it where it stands; `--check` only says whether the files are up to date."""
 import itertools, json, os, sys
 
@@ -50,6 +50,7 @@ LONGEST = 10000
 
 
 def link_lines(call, arguments, result):
+    """A line of stdin and one of stdout; none for a call with a longer area."""
     letter, areas, returned = CALLS[call]
     held = areas(arguments)
     if max(map(len, held)) > 2 * LONGEST:

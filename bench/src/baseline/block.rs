@@ -10,7 +10,7 @@ type Polynomial = [u8; MAX_N / 2 + 1];
 #[derive(Debug, PartialEq)]
 pub struct Repaired {
     pub codeword: Block,
-    /// Set where received and repaired symbol differ; none in the room after them.
+    /// True where received and repaired symbol differ; false past the block.
     pub marks: [bool; MAX_Q],
 }
 

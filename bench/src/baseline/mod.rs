@@ -7,7 +7,6 @@ mod field;
 mod line;
 mod woven;
 
-pub use block::Repaired;
 pub use line::{line, MAX_ANSWER};
 
 use crate::calls::{Answer, Calls, Marks};
@@ -84,11 +83,6 @@ fn marks(setting: u64, reception: &[u8], transmission: &[u8], j: u64) -> Marks {
             Marks { answer: Answer::YES, marks, set: marks.count_ones() }
         }
     }
-}
-
-/// The block step: the codeword of a level near a block of its setting with its marks, if any.
-pub fn block_step(setting: u64, level: usize, block: &[u8]) -> Option<Repaired> {
-    block::repair(Code::of(setting).expect("a setting"), level, block)
 }
 
 /// Questions 1, 8, 3, 4, 6; then the code and the transmission's length.

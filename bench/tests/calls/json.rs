@@ -41,15 +41,11 @@ impl Value {
         }
     }
 
+    /// The bytes that a string writes in hexadecimal.
     pub fn bytes(&self, name: &str) -> Vec<u8> {
-        bytes(self.text(name))
+        let digits: Vec<u32> = self.text(name).chars().map(|c| c.to_digit(16).unwrap()).collect();
+        digits.chunks(2).map(|pair| (16 * pair[0] + pair[1]) as u8).collect()
     }
-}
-
-/// The bytes that a string writes in hexadecimal.
-pub fn bytes(text: &str) -> Vec<u8> {
-    let digits: Vec<u32> = text.chars().map(|c| c.to_digit(16).unwrap()).collect();
-    digits.chunks(2).map(|pair| (16 * pair[0] + pair[1]) as u8).collect()
 }
 
 /// Reads one value that is the whole text.

@@ -192,22 +192,9 @@ fn stored_windows() {
     }
 }
 
-/// The block step, which C has no call for: the right codeword, or none, and its marks.
-#[test]
-fn stored_block_steps() {
-    let steps = stored::block_steps();
-    assert!(!steps.is_empty());
-    for step in steps {
-        let repaired = baseline::block_step(step.setting, step.level, &step.block);
-        let marks = repaired.iter().flat_map(|repaired| repaired.marks).enumerate();
-        let marks = marks.fold(0, |marks, (i, mark)| marks | u64::from(mark) << i);
-        let codeword = repaired.map(|repaired| repaired.codeword[..step.block.len()].to_vec());
-        assert_eq!((&codeword, marks), (&step.codeword, step.marks), "{step:?}");
-    }
-}
-
+/// The block steps are tried in `baseline::block`, as crates/block_test has them.
 #[test]
 fn no_stored_call_is_left_out() {
-    let made = stored::calls().len() + stored::windows().len() + stored::block_steps().len();
+    let made = stored::calls().len() + stored::windows().len() + stored::block_steps();
     assert_eq!(made, stored::LINES.lines().count());
 }

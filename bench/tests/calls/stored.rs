@@ -17,17 +17,6 @@ pub struct Window {
     pub part: Vec<u8>,
 }
 
-/// A block, and what its repair at a level must return: a codeword or none, and bit i as symbol
-/// i's mark.
-#[derive(Debug)]
-pub struct BlockStep {
-    pub setting: u64,
-    pub level: usize,
-    pub block: Vec<u8>,
-    pub codeword: Option<Vec<u8>>,
-    pub marks: u64,
-}
-
 /// The calls of the C interface.
 pub fn calls() -> Vec<(Call, Outcome)> {
     LINES.lines().filter_map(|line| call(&json::parse(line))).collect()
@@ -38,9 +27,9 @@ pub fn windows() -> Vec<Window> {
     LINES.lines().filter_map(|line| window(&json::parse(line))).collect()
 }
 
-/// The block steps, which C does not have.
-pub fn block_steps() -> Vec<BlockStep> {
-    LINES.lines().filter_map(|line| block_step(&json::parse(line))).collect()
+/// How many block steps there are.
+pub fn block_steps() -> usize {
+    LINES.lines().filter(|line| json::parse(line).text("call") == "block_step").count()
 }
 
 fn call(line: &Value) -> Option<(Call, Outcome)> {
@@ -99,19 +88,6 @@ fn window(line: &Value) -> Option<Window> {
         answer: answer(result),
         start: result.number("start") as usize,
         part: result.bytes("part"),
-    })
-}
-
-fn block_step(line: &Value) -> Option<BlockStep> {
-    let args = line.get("args");
-    (line.text("call") == "block_step").then(|| {
-        let (codeword, marks) = match line.list("result") {
-            [Value::Text(codeword), Value::Number(marks)] => (Some(json::bytes(codeword)), *marks),
-            [Value::Null, Value::Number(marks)] => (None, *marks),
-            _ => panic!("no codeword and marks"),
-        };
-        let (setting, level) = (args.number("number"), args.number("level") as usize);
-        BlockStep { setting, level, block: args.bytes("block"), codeword, marks }
     })
 }
 

@@ -1,5 +1,5 @@
 -- The marks of a repaired block: what they cost, that a block of the code has none, and how a loop sets them.
--- Holds: `cost_at`; `marks_cost`, `marks_none`; `MarkedTo`, `marked_start`, `marked_more`, `marked_all`.
+-- Holds: `cost_at`; `repaired`; `marks_cost`, `marks_none`; `MarkedTo`, `marked_start`, `marked_more`, `marked_all`.
 use mathlib.Core.Path.{◌≡◌, refl, sym, ap, ◌∙◌}
 use mathlib.Core.Bool.{Bool, true, false, not}
 use mathlib.Core.List.{List}
@@ -20,7 +20,7 @@ use Rattle.code.specs.Settings.{code_of}
 use Rattle.code.specs.parts.Cost.{symbol_cost, block_cost, level_cost}
 use Rattle.code.proofs.Cost.{cost_count}
 use Rattle.tables.specs.declared.combination.Combination.{Combination}
-use Rattle.block.specs.parts.Marking.{marks_of}
+use Rattle.block.specs.parts.Marking.{repair_marks}
 
 -- What symbol i of a block costs against a combination.
 abbrev pub cost_at : Combination → List ℕ → ℕ → ℕ
@@ -33,14 +33,14 @@ module _ (p : Setting) (block : List ℕ) (l : ℕ) (x : ℕ → ℕ → ℕ) wh
   abbrev pub repaired : ℕ → ℕ
   repaired = combination (code_of p) l x
 
-  abbrev pub mark : ℕ → ℕ
+  abbrev mark : ℕ → ℕ
   mark i = pick (not (eqb (at block i) (repaired i))) 1 0
 
   -- Two for each mark is what the block costs.
-  pub marks_cost : 2 * weight_of (marks_of p block l x) ≡ level_cost p (at block) l x
+  pub marks_cost : 2 * weight_of (repair_marks p block l x) ≡ level_cost p (at block) l x
   unfolding block_cost
   marks_cost =
-      ap (λ (t : ℕ). 2 * weight_to (marks_of p block l x) t) (length_tabulate p.n _)
+      ap (λ (t : ℕ). 2 * weight_to (repair_marks p block l x) t) (length_tabulate p.n _)
       ∙ ap (λ (t : ℕ). 2 * t) (count_of_ext p.n _ _ (λ i h. ap (λ (t : ℕ). not (eqb t 0)) (get_d_tabulate p.n _ i 0 h)
       ∙ set_where (not (eqb (at block i) (repaired i)))))
       ∙ cost_count p.q p.n (at block) repaired
@@ -50,7 +50,7 @@ module _ (p : Setting) (block : List ℕ) (l : ℕ) (x : ℕ → ℕ → ℕ) wh
       set_where false = refl
 
   -- A block that is the combination itself has no mark.
-  pub marks_none : ((i : ℕ) → i < p.n → at block i ≡ repaired i) → replicate p.n 0 ≡ marks_of p block l x
+  pub marks_none : ((i : ℕ) → i < p.n → at block i ≡ repaired i) → replicate p.n 0 ≡ repair_marks p block l x
   marks_none same =
       tabulated (replicate p.n 0) p.n mark (length-replicate p.n 0)
       (λ i h. get_d_zeros p.n i ∙ sym (ap {B = ℕ} (λ (b : Bool). pick (not b) 1 0) (eq-eqb (at block i) (repaired i) (same i h))))
@@ -70,5 +70,5 @@ module _ (p : Setting) (block : List ℕ) (l : ℕ) (x : ℕ → ℕ → ℕ) wh
         before = stored marks (λ a. a) mark i v (omega (arith, M.long)) e (λ a u. omega arith) M.before;
       }
 
-  pub marked_all : {marks : List ℕ} → MarkedTo p.n marks → marks ≡ marks_of p block l x
+  pub marked_all : {marks : List ℕ} → MarkedTo p.n marks → marks ≡ repair_marks p block l x
   marked_all {marks} M = tabulated marks p.n mark M.long M.before

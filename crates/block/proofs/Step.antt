@@ -29,7 +29,7 @@ use Rattle.block.specs.declared.spectrum.Spectrum.{Spectrum}
 use Rattle.block.specs.parts.Locator.{Located}
 use Rattle.block.specs.parts.Spectrum.{SpectrumOf}
 use Rattle.block.specs.parts.Candidate.{syndromes_at, Begun, Candidate}
-use Rattle.block.specs.parts.Marking.{Marked, within, beyond}
+use Rattle.block.specs.parts.Marking.{RepairMarked, within, beyond}
 use Rattle.block.specs.parts.Step.{InformationTo, Step, near, far}
 use Rattle.block.proofs.LocatorBelow.{series_vanishes}
 use Rattle.block.proofs.Spectra.{found_longer}
@@ -89,7 +89,7 @@ module _ {p : Setting} (S : Sound p) {l : ℕ} (level : l ≤ p.m) {block : List
         pair.located)
         (s + 1) (omega arith) (omega arith)
 
-    -- A locator of degree 0: the block is of the level, so it is what its information combines to, which was read; no symbol is repaired.
+    -- A locator of degree 0: the block is of the level, so it is what its own information combines to, and what was read combines to the same: no symbol is repaired.
     pub step_clean : {marks : List ℕ} → σ.degree ≡ 0 → marks ≡ replicate p.n 0 → Step p l block marks (Some found)
     step_clean none unset =
         let of_level = vanishing_in_level p S l (level_fits p S l level) block long symbols (syndromes_vanish none) in
@@ -101,7 +101,7 @@ module _ {p : Setting} (S : Sound p) {l : ℕ} (level : l ≤ p.m) {block : List
 
     -- Any other: what was read is near, and what it repairs is marked, or nothing is near, and nothing is marked.
     pub step_marked : {marks : List ℕ} {bound : ℕ} → bound ≡ level_distance p.n p.k l → (b : Bool)
-        → Marked p block l (view p.k found) bound marks b → Step p l block marks (then_some b found)
+        → RepairMarked p block l (view p.k found) bound marks b → Step p l block marks (then_some b found)
     step_marked same true (within close marked) = near C.reads.below (omega (arith, same)) marked
     step_marked {bound = bound} same false (beyond heavy unset) =
         far (λ x information.

@@ -1,4 +1,4 @@
--- What the block step promises (Step), and what its functions promise one another.
+-- What the block step promises (Step, with the marks of Marking), and what its functions promise one another.
 pub mod Step
 pub mod Marking
 pub mod Locator

@@ -1,16 +1,13 @@
-// The information of a code block from its spectrum, and what the received block costs against the block that it combines to.
-ghost use Rattle.std.specs.Prelude.{◌≡◌, ◌-◌, ◌*◌, ◌≤◌, ◌<◌, min, length};
+// The information of a code block, from its spectrum.
+ghost use Rattle.std.specs.Prelude.{◌≡◌, ◌-◌, ◌*◌, ◌≤◌, ◌<◌, length};
 ghost use Rattle.algebra.specs.parts.Values.{falling as falling_of};
-ghost use Rattle.area.specs.Lists.{view};
 ghost use Rattle.field.specs.parts.Operations.{Is};
 ghost use Rattle.field.specs.Fields.{ops_of};
 ghost use Rattle.field.specs.parts.Sequences.{AllBelow, at};
-ghost use Rattle.code.specs.parts.Cost.{level_cost};
 ghost use Rattle.block.specs.parts.Information.{lacking, BlockRead, InformationRead};
 
 use super::{Information, PLACES};
 use tables::Tables;
-use tables::combination::Combination;
 
 // The k values that an information block is recovered from.
 #[derive(Clone, Copy)]

@@ -1,7 +1,7 @@
 // The block step against plain enumeration: for received blocks of every level of settings 1 to 3, whether it answers with the information that costs less than
 // d_l, and with none where none does. Every block of setting 1; of settings 2 and 3 every block whose number is a multiple of a stride. In the others
 // hardly any block that could be gone through has a code block near it that is not zero.
-// Writes for each setting and level: how many blocks, how many of them near, in how many the two agree, and the marks are right. Then repairs the blocks of
+// Writes for each setting and level: how many blocks, how many of them near, in how many the two agree and the marks are right. Then repairs the blocks of
 // the stored input, which are of all settings (`stored`).
 #![tactic(auto)]
 
@@ -18,7 +18,7 @@ use std::ops::AddAssign;
 use tables::combination::Combination;
 use tables::{LONGEST_BLOCK, Tables};
 
-// How many blocks were gone through, how many of them have information near, and on how many the block step and enumeration agree.
+// How many blocks were gone through, how many of them have information near, and on how many the block step and enumeration agree, with the right marks.
 #[derive(Clone, Copy, Default)]
 struct Tally {
     blocks: usize,
@@ -59,7 +59,7 @@ struct Received<'a> {
 }
 
 impl Received<'_> {
-    // Whether the information costs less than d_l. Counted anew, and not by `block::information::cost`: that is part of what is tested.
+    // Whether the information costs less than d_l. Counted anew, and not by `block::marks`: that is part of what is tested.
     fn is_near(&self, information: &[u8]) -> bool
         requires { Symbols self.now.level.tables.now.setting.q information.now × (self.now.level.tables.now.setting.n ≤ length information.now) }
     {
@@ -115,11 +115,12 @@ impl Received<'_> {
         true
     }
 
-    // Whether the block step and enumeration agree on the block, and whether on information.
+    // Whether the block step and enumeration agree on the block, with the right marks, and whether on information.
     fn tally(&self) -> Tally
         ensures { (result.blocks ≡ 1) × (result.near ≤ 1) × (result.agree ≤ 1) }
     {
-        let mut room = [0u8; LONGEST_BLOCK];
+        // Ones, so that marks that are not cleared show.
+        let mut room = [1u8; LONGEST_BLOCK];
         let marks = &mut room[..self.level.tables.setting.n];
         let found = self.repaired(marks);
         let agree = found == self.search() && self.is_marked(found, marks);

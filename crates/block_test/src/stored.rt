@@ -10,34 +10,27 @@ use std::io::{Error, ErrorKind, Read, Write};
 use tables::combination::Combination;
 use tables::{LONGEST_BLOCK, Tables};
 
-// The value of a digit, and 0 for any other byte.
-fn value(digit: u8) -> u8
-    ensures { result < 16 }
-{
-    match digit {
-        b'0'..=b'9' => digit - b'0',
-        b'a'..=b'f' => digit - b'a' + 10,
-        _ => 0,
-    }
+// What stands between two words, or after the last.
+fn skip_byte(rt: &HostRuntime) -> Result<(), Error> {
+    let mut byte = [0u8; 1];
+    rt.stdin().read_exact(&mut byte)
 }
 
-// A line's setting and level.
-fn read_head(rt: &HostRuntime) -> Result<(SettingNumber, usize), Error> {
-    let mut head = [0u8; 4];
-    rt.stdin().read_exact(&mut head)?;
-    let Ok(number) = SettingNumber::try_from(u64::from(value(head[0]))) else {
-        return Err(Error::from(ErrorKind::InvalidData));
-    };
-    Ok((number, usize::from(value(head[2]))))
+// The value of a digit.
+fn read_digit(rt: &HostRuntime) -> Result<u8, Error> {
+    let mut digit = [0u8; 1];
+    rt.stdin().read_exact(&mut digit)?;
+    match char::from(digit[0]).to_digit(16) {
+        Some(value) => Ok(value as u8),
+        None => Err(Error::from(ErrorKind::InvalidData)),
+    }
 }
 
 // A symbol below q.
 fn read_symbol(rt: &HostRuntime, q: usize) -> Result<u8, Error>
     ensures { IfOk result (λ symbol. symbol < q) }
 {
-    let mut digits = [0u8; 2];
-    rt.stdin().read_exact(&mut digits)?;
-    let symbol = value(digits[0]) << 4 | value(digits[1]);
+    let symbol = read_digit(rt)? << 4 | read_digit(rt)?;
     if q <= usize::from(symbol) {
         return Err(Error::from(ErrorKind::InvalidData));
     }
@@ -49,7 +42,8 @@ fn show_repair(rt: &HostRuntime, tables: &Tables, block: &[u8], l: usize) -> Res
     requires { (length block.now ≡ tables.now.setting.n) × Symbols tables.now.setting.q block.now × (l ≤ tables.now.setting.m) }
 {
     let n = tables.setting.n;
-    let mut room = [0u8; LONGEST_BLOCK];
+    // Ones, so that marks that are not cleared show.
+    let mut room = [1u8; LONGEST_BLOCK];
     let marks = &mut room[..n];
     match block::repair(tables, block, l, marks) {
         Some(information) => {
@@ -71,9 +65,14 @@ fn show_repair(rt: &HostRuntime, tables: &Tables, block: &[u8], l: usize) -> Res
     writeln!(rt.stdout())
 }
 
-// One line; an error where the input ends, or says nothing that has a meaning.
+// One line; an error where the input ends or a line has not this form.
 fn turn(rt: &HostRuntime) -> Result<(), Error> {
-    let (number, l) = read_head(rt)?;
+    let Ok(number) = SettingNumber::try_from(u64::from(read_digit(rt)?)) else {
+        return Err(Error::from(ErrorKind::InvalidData));
+    };
+    skip_byte(rt)?;
+    let l = usize::from(read_digit(rt)?);
+    skip_byte(rt)?;
     let tables = Tables::new(number);
     let p = tables.setting;
     if p.m < l {
@@ -84,9 +83,8 @@ fn turn(rt: &HostRuntime) -> Result<(), Error> {
     for symbol in block.iter_mut() {
         *symbol = read_symbol(rt, p.q)?;
     }
-    show_repair(rt, &tables, block, l)?;
-    let mut newline = [0u8; 1];
-    rt.stdin().read_exact(&mut newline)
+    skip_byte(rt)?;
+    show_repair(rt, &tables, block, l)
 }
 
 // All lines. Nothing says that an input ends, so they are counted up to a number that no run reaches.

@@ -20,6 +20,7 @@ unfolding distances_to
 distances_small n k zero h = omega arith
 distances_small n k (suc l) h = omega (arith, distances_small n k l h)
 
+-- The last of them is no more than their sum.
 pub distances_last : (n k l : ℕ) → level_distance n k l ≤ distances_to n k l
 unfolding distances_to
 distances_last n k zero = omega arith

@@ -43,11 +43,11 @@ module _ {p : Setting} (S : Sound p) (window : List ℕ) {marks : List ℕ} {l :
     close_of (near below close marked) = rw (part_cost p l l window (view p.k information)) at close
 
     module _ {bound : ℕ} (same : bound ≡ distances_to p.n p.k l) where
-      -- It leaves some of d_0 + .. + d_l for the blocks before it.
+      -- It leaves some of d_0 + .. + d_l for the blocks before block l.
       pub some_left : cost < bound
       some_left = omega (arith, same, cost_of step, close_of step, distances_last p.n p.k l)
 
-      -- Whether these cost less than that decides.
+      -- Whether the blocks before block l cost less than what is left decides.
       pub tried_near : (b : Bool) → b ≡ ltb (cost_before p window l (view p.k information)) (bound - cost) → LevelTried p window l (then_some b information)
       tried_near true e =
           let less = ltb-true (cost_before p window l (view p.k information)) (bound - cost) (sym e) in

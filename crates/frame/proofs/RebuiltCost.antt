@@ -1,4 +1,4 @@
--- What rebuilt blocks of a window cost, as a loop adds it up. Holds: `rebuilt_term`, `rebuilt_all`; `part_cost`.
+-- What rebuilt blocks of a window cost. Holds: `rebuilt_all`; `part_cost`.
 use mathlib.Core.Path.{◌≡◌, refl, ap}
 use mathlib.Core.List.{List}
 use Prim.Native.Nat.{ℕ, ◌+◌}
@@ -11,13 +11,9 @@ use Rattle.code.specs.declared.Setting.{Setting}
 use Rattle.code.specs.Level.{combination}
 use Rattle.code.specs.parts.Cost.{symbol_cost, block_cost, rebuilt_cost, level_cost, window_cost}
 use Rattle.code.specs.Settings.{code_of}
-use Rattle.frame.specs.parts.Window.{cost_before}
+use Rattle.frame.specs.parts.Window.{rebuilt_term, cost_before}
 
--- What block s of a window costs.
-abbrev pub rebuilt_term : Setting → List ℕ → (ℕ → ℕ → ℕ) → ℕ → ℕ
-rebuilt_term p window y s = level_cost p (view p.n window s) s y
-
--- The blocks before block l and block l itself are what blocks 0 .. l cost.
+-- What the blocks before block l cost, and what block l costs, make up what blocks 0 .. l cost.
 pub rebuilt_all : (p : Setting) (window : List ℕ) (y : ℕ → ℕ → ℕ) (l : ℕ) → cost_before p window l y + rebuilt_term p window y l ≡ window_cost p window l y
 unfolding rebuilt_cost total
 rebuilt_all p window y l = refl

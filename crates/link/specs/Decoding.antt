@@ -45,7 +45,7 @@ CountBound = (number : ℕ) (reception message transmitted : List ℕ) (r : Answ
     → r.altered ≤ most_altered (setting_of number) (blocks_of (setting_of number) (length reception))
 
 -- "Answers to outside callers stay equal to today's" (02, #105): whatever was received and lent, the promise leaves one answer and one content of each area, so
--- whatever keeps it answers alike (`decoded_determined`, proofs/Determined).
+-- two decoders that keep it give the same answers and bytes (`decoded_determined`, proofs/Determined).
 abbrev pub DecodingDetermined : Type 0
 DecodingDetermined = (number : ℕ) (reception message transmitted : List ℕ) (r s : Answer) (message' transmitted' other other_sent : List ℕ)
     → Decoded number reception message transmitted r message' transmitted' → Decoded number reception message transmitted s other other_sent

@@ -1,5 +1,5 @@
 -- One turn of reading (01, "Reading a reception"), at a window by itself.
--- Holds: `Near`, `cost_before`, `LevelTried` (one level), `LevelSearch` (all levels).
+-- Holds: `Near`, `rebuilt_term`, `cost_before`, `LevelTried` (one level), `LevelSearch` (all levels).
 use Rattle.std.specs.Prelude.{◌≡◌, Option, Some, None, List, ℕ, ◌+◌, ◌≤◌, ◌<◌, get_or}
 use Rattle.algebra.specs.Weight.{total}
 use Rattle.area.specs.Lists.{view}
@@ -14,9 +14,12 @@ use Rattle.frame.specs.declared.window.Found.{Found}
 abbrev pub Near : Setting → List ℕ → ℕ → (ℕ → ℕ → ℕ) → Type 0
 Near p window l y = window_cost p window l y < distances_to p.n p.k l
 
--- What the blocks before block l of the window cost against the blocks rebuilt from y.
+-- What block s of the window costs against the one rebuilt from y, and what the blocks before block l cost.
+abbrev pub rebuilt_term : Setting → List ℕ → (ℕ → ℕ → ℕ) → ℕ → ℕ
+rebuilt_term p window y s = level_cost p (view p.n window s) s y
+
 abbrev pub cost_before : Setting → List ℕ → ℕ → (ℕ → ℕ → ℕ) → ℕ
-cost_before p window l y = total l (λ s. level_cost p (view p.n window s) s y)
+cost_before p window l y = total l (rebuilt_term p window y)
 
 -- A level serves with information that rebuilds near blocks; or it does not, and block l of every near y is itself far.
 pub data LevelTried (p : Setting) (window : List ℕ) (l : ℕ) : Option (List ℕ) → Type 0 where

@@ -11,8 +11,8 @@ use Rattle.area.specs.Lists.{view, part_at}
 use Rattle.field.specs.parts.Sequences.{at}
 use Rattle.code.specs.declared.Setting.{Setting}
 use Rattle.code.specs.parts.Cost.{level_cost}
-use Rattle.frame.specs.parts.Window.{cost_before}
-use Rattle.frame.proofs.RebuiltCost.{rebuilt_term, part_cost}
+use Rattle.frame.specs.parts.Window.{rebuilt_term, cost_before}
+use Rattle.frame.proofs.RebuiltCost.{part_cost}
 use Rattle.frame.proofs.window.Window.is_near_before.Goals as goal
 
 -- Block s lies within the window.

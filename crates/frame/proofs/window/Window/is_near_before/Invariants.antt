@@ -3,7 +3,7 @@ use mathlib.Core.Path.{◌≡◌}
 use Prim.Native.Nat.{◌+◌, ◌<◌}
 use Rattle.algebra.specs.Weight.{total}
 use Rattle.area.specs.Lists.{view}
-use Rattle.frame.proofs.RebuiltCost.{rebuilt_term}
+use Rattle.frame.specs.parts.Window.{rebuilt_term}
 use Rattle.frame.proofs.window.Window.is_near_before.Given as goal
 
 abbrev pub invariant-loop-s : goal.invariant-loop-s
