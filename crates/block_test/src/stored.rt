@@ -88,7 +88,7 @@ fn turn(rt: &HostRuntime) -> Result<(), Error> {
 }
 
 // All lines. Nothing says that an input ends, so they are counted up to a number that no run reaches.
-pub fn repair_all(rt: &HostRuntime) {
+pub(crate) fn repair_all(rt: &HostRuntime) {
     for _ in 0..1000000 {
         if turn(rt).is_err() {
             return;
