@@ -1,14 +1,14 @@
 -- Totals of numbers, counts of the places at which a test holds, and weights of sequences over a field.
--- Holds: `total_ext`, `total_mono`, `total_most`, `total_add`, `total_scale`, `total_split`, `total_part`, `total_blocks`; `count_of_ext`, `one_le`,
--- `count_of_le`, `count_of_mono`, `count_of_without`; `zero_test`, `nonzero_test`, `zero_uncounted`, `weight_short`;
--- `distance_le`, `distance_run`; `total_none`, `total_same`, `total_more` (as a loop adds up).
+-- Holds: `total_ext`, `total_mono`, `total_most`, `total_add`, `total_scale`, `total_split`, `total_part`, `total_blocks`; `total_short`, `total_run` (terms
+-- that are zero outside some places); `count_of_ext`, `one_le`, `count_of_le`, `count_of_mono`, `count_of_without`; `zero_test`, `nonzero_test`,
+-- `zero_uncounted`, `weight_short`; `distance_le`; `total_none`, `total_same`, `total_more` (as a loop adds up).
 use mathlib.Core.Path.{◌≡◌, refl, sym, ap, ap₂, subst, ◌∙◌}
 use mathlib.Core.Bool.{Bool, true, false, not, ◌&&◌}
 use Prim.Native.Nat.{ℕ, zero, suc, ◌+◌, ◌-◌, ◌*◌, ◌≤◌, ◌<◌}
-use native.Mathlib.Nat.{add-zero, add-suc, add_assoc, zero-mul, suc-mul}
+use native.Mathlib.Nat.{add-zero, add-suc, add_assoc, zero-mul, suc-mul, mul-le-mul_left}
 use native.Mathlib.Numerals.{add-one}
 use native.Mathlib.Omega.{arith}
-use native.Mathlib.Decide.{ℕ_discrete, dec_lt}
+use native.Mathlib.Decide.{ℕ_discrete, dec_lt, dec_le}
 use lib.Dec.{eqb, T}
 use borrow.Author.Tests.{eq-eqb, ne_eqb}
 use Rattle.algebra.specs.Ops.{pick}
@@ -58,6 +58,35 @@ unfolding total
 total_blocks zero n f = ap (λ (t : ℕ). total t f) (zero-mul n)
 total_blocks (suc m) n f =
     ap (λ (t : ℕ). total t f) (suc-mul m n) ∙ (total_split (m * n) n f ∙ ap (λ (t : ℕ). t + total n (λ i. f (m * n + i))) (total_blocks m n f))
+
+-- Terms that are at most b each, and zero from r on.
+pub total_short : (r n b : ℕ) (f : ℕ → ℕ) → ((i : ℕ) → r ≤ i → i < n → f i ≡ 0) → ((i : ℕ) → i < n → f i ≤ b) → total n f ≤ b * r
+unfolding total
+total_short r zero b f none most = omega arith
+total_short r (suc n) b f none most = at (dec_lt n r) (total_short r n b f (λ i h l. none i h (omega arith)) (λ i l. most i (omega arith)))
+  where
+    at : Dec (n < r) → total n f ≤ b * r → total n f + f n ≤ b * r
+    at (yes l) rest =
+        let inside : suc n ≤ r = omega arith in
+        omega (arith, total_most (suc n) b f most, mul-le-mul_left b inside)
+    at (no d) rest = omega (arith, none n (omega arith) (omega arith))
+
+-- Terms that are at most b each, and zero outside a run of places.
+pub total_run : (n start run b : ℕ) (f : ℕ → ℕ) → ((i : ℕ) → i < n → i < start → f i ≡ 0) → ((i : ℕ) → i < n → start + run ≤ i → f i ≡ 0)
+    → ((i : ℕ) → i < n → f i ≤ b) → total n f ≤ b * run
+total_run n start run b f before after most = at (dec_le start n)
+  where
+    at : Dec (start ≤ n) → total n f ≤ b * run
+    at (yes l) =
+        let all : start + (n - start) ≡ n = omega arith in
+        omega (
+          arith,
+          ap (λ (t : ℕ). total t f) all,
+          total_split start (n - start) f,
+          total_short 0 start b f (λ i h u. before i (omega arith) u) (λ i u. most i (omega arith)),
+          total_short run (n - start) b (λ i. f (start + i)) (λ i h u. after (start + i) (omega arith) (omega arith)) (λ i u. most (start + i) (omega arith)),
+        )
+    at (no d) = omega (arith, total_short 0 n b f (λ i h u. before i u (omega arith)) most)
 
 pub count_of_ext : (n : ℕ) (f g : ℕ → Bool) → ((i : ℕ) → i < n → f i ≡ g i) → count_of n f ≡ count_of n g
 count_of_ext n f g h = total_ext n (λ i. pick (f i) 1 0) (λ i. pick (g i) 1 0) (λ i l. ap {B = ℕ} (λ (b : Bool). pick b 1 0) (h i l))
@@ -132,16 +161,13 @@ module _ {F : Type 0} (K : Field F) where
 
   -- A sequence that is zero from r on has at most r nonzero terms.
   pub weight_short : (r n : ℕ) (b : ℕ → F) → ((i : ℕ) → r ≤ i → i < n → b i ≡ 𝟘) → weight K.ops n b ≤ r
-  unfolding total
-  weight_short r zero b h = omega arith
-  weight_short r (suc n) b h = at (dec_lt n r) (weight_short r n b (λ i l s. h i l (omega arith)))
-    where
-      at : Dec (n < r) → weight K.ops n b ≤ r → weight K.ops n b + pick (not (K.ops.is_zero (b n))) 1 0 ≤ r
-      at (yes l) rest = omega (arith, count_of_le n (λ i. not (K.ops.is_zero (b i))), one_le (not (K.ops.is_zero (b n))))
-      at (no d) rest =
-          let gone : ◌≡◌ {A = ℕ} (pick (not (K.ops.is_zero (b n))) 1 0) 0 =
-          ap {B = ℕ} (λ (t : Bool). pick (not t) 1 0) (zero_test (b n) (h n (omega arith) (omega arith))) in
-          omega arith
+  weight_short r n b h =
+      omega (
+        arith,
+        total_short r n 1 (λ i. pick (not (K.ops.is_zero (b i))) 1 0)
+            (λ i s l. ap {B = ℕ} (λ (t : Bool). pick (not t) 1 0) (zero_test (b i) (h i s l)))
+            (λ i l. one_le (not (K.ops.is_zero (b i)))),
+      )
 
 -- A count of what each place adds: none yet, one more place that adds nothing, one more that adds v.
 module _ (f : ℕ → ℕ) where
@@ -159,23 +185,3 @@ module _ (f : ℕ → ℕ) where
 -- Sequences differ in no more symbols than they have.
 pub distance_le : {r : ℕ} (n : ℕ) (a b : ℕ → ℕ) → r ≡ distance n a b → r ≤ n
 distance_le n a b e = subst (λ (t : ℕ). t ≤ n) (sym e) (count_of_le n (λ i. not (eqb (a i) (b i))))
-
--- Sequences that are the same outside a run of places differ in no more symbols than the run has.
-pub distance_run : (n start run : ℕ) (a b : ℕ → ℕ) → ((i : ℕ) → i < n → i < start → a i ≡ b i) → ((i : ℕ) → i < n → start + run ≤ i → a i ≡ b i)
-    → distance n a b ≤ run
-unfolding total
-distance_run zero start run a b before after = omega arith
-distance_run (suc n) start run a b before after =
-    at (dec_lt n start) (dec_lt n (start + run)) (distance_run n start run a b (λ i l. before i (omega arith)) (λ i l. after i (omega arith)))
-    (distance_run n start (n - start) a b (λ i l. before i (omega arith)) (λ i l h. absurd (omega arith)))
-  where
-    same : a n ≡ b n → distance n a b ≤ run → distance n a b + pick (not (eqb (a n) (b n))) 1 0 ≤ run
-    same e rest =
-        let none : ◌≡◌ {A = ℕ} (pick (not (eqb (a n) (b n))) 1 0) 0 = ap {B = ℕ} (λ (t : Bool). pick (not t) 1 0) (eq-eqb (a n) (b n) e) in
-        omega arith
-
-    at : Dec (n < start) → Dec (n < start + run) → distance n a b ≤ run → distance n a b ≤ n - start
-        → distance n a b + pick (not (eqb (a n) (b n))) 1 0 ≤ run
-    at (yes l) _ rest inside = same (before n (omega arith) l) rest
-    at (no d) (no far) rest inside = same (after n (omega arith) (omega arith)) rest
-    at (no d) (yes l) rest inside = omega (arith, one_le (not (eqb (a n) (b n))))

@@ -1,14 +1,16 @@
 -- A part of a list as it is lent, and the list with another part in its place (`put_mid`, what a lent part leaves in the whole), place by place.
--- Holds: `front_weight`; `part_size`, `part_length`, `part_symbol`; `put_length`, `put_before`, `put_inside`, `put_after`.
+-- Holds: `front_count`, `front_weight`; `part_size`, `part_length`, `part_symbol`; `put_length`, `put_before`, `put_inside`, `put_after`.
 -- Of lists of parts of one size (`part_at`, `in_turn`): `parts_apart`, `length_part_at`, `part_at_symbol`; of a part put back (`with_part`) `part_put`,
 -- `length_put`, `part_put_before`, `drop_put`; of an area whose parts are known `take_in_turn`, `in_turn_of_parts`; `length_in_turn`, `part_at_in_turn`; of a
 -- loop that puts one part after another `PartsTo`, `parts_more`.
 use mathlib.Core.Path.{◌≡◌, sym, ap, ap₂, ◌∙◌, subst}
+use mathlib.Core.Bool.{Bool, not}
 use mathlib.Core.List.{List, ◌++◌}
 use Prim.Native.Nat.{ℕ, zero, suc, ◌+◌, ◌-◌, ◌*◌, ◌≤◌, ◌<◌}
 use native.Mathlib.Nat.{mul-le-mul_right}
 use native.Mathlib.Omega.{arith}
 use native.Mathlib.Decide.{ℕ_discrete}
+use lib.Dec.{eqb}
 use lib.ListN.{length, get_or, take, drop, length-append, length-drop, take-append-drop}
 use lib.Seq.{get_or-drop, take_at, drop_at, take-add}
 use borrow.Rule.Slice.PartMut.{put_mid}
@@ -16,13 +18,18 @@ use Rattle.std.proofs.Common.{rules}
 use Rattle.std.proofs.lemmas.List.{places}
 use Rattle.std.proofs.lemmas.Slice.{overwrites}
 use Rattle.area.specs.Lists.{part_at, in_turn}
+use Rattle.algebra.specs.Weight.{count_of}
 use Rattle.area.specs.parts.Weights.{weight_to, weight_of}
 use Rattle.area.proofs.Lists.{part_equal}
-use Rattle.area.proofs.Weights.{front_counts, weight_counts}
+use Rattle.area.proofs.Weights.{first_counted, all_counted}
 
--- The weight of the first n elements.
+-- How many of the first n elements pass a test; and their weight.
+pub front_count : (test : ℕ → Bool) (n : ℕ) (whole : List ℕ) → n ≤ length whole
+    → count_of (length (take n whole)) (λ i. test (get_or (take n whole) i 0)) ≡ count_of n (λ i. test (get_or whole i 0))
+front_count test n whole h = all_counted test (take n whole) ∙ sym (first_counted test whole n h)
+
 pub front_weight : (n : ℕ) (whole : List ℕ) → n ≤ length whole → weight_of (take n whole) ≡ weight_to whole n
-front_weight n whole h = weight_counts (take n whole) ∙ sym (front_counts whole n h)
+front_weight = front_count (λ a. not (eqb a 0))
 
 -- The n elements from `start` on, with their number as the code computes it.
 module _ (n start : ℕ) (whole : List ℕ) where

@@ -1,9 +1,9 @@
-// Areas of bytes, whatever they mean: their parts, and their bytes that are not zero counted.
+// Areas of bytes, whatever they mean: their parts, and their bytes that are not zero, or not below another, counted.
 #![tactic(auto)]
 
 ghost use Rattle.std.specs.Prelude.{◌≡◌, ◌+◌, ◌*◌, ◌≤◌, length};
 ghost use Rattle.area.specs.Lists.{part_at};
-ghost use Rattle.area.specs.parts.Weights.{weight_of};
+ghost use Rattle.area.specs.parts.Weights.{count_from, weight_of};
 
 // Part i of an area in parts of one size.
 pub fn part(area: &[u8], size: usize, i: usize) -> &[u8]
@@ -16,23 +16,38 @@ pub fn part(area: &[u8], size: usize, i: usize) -> &[u8]
     &area[start..end]
 }
 
-// The weight of so few symbols that a byte has room for it: the compiler then counts sixteen at a time, which a sum or a count in a `usize` loses
-// (docs/PERFORMANCE.md, "Weights").
-#[tactic(auto, using(crate::proofs::Weights::weight_counts))]
-fn short_weight(symbols: &[u8]) -> u8
-    requires { length symbols.now ≤ 255 }
-    ensures { result ≡ weight_of symbols.now }
+// How many of these bytes are not below `least`, where they are so few that a byte has room for it: the compiler then counts sixteen at a time, which a sum or
+// a count in a `usize` loses (docs/PERFORMANCE.md, "Weights").
+#[tactic(auto, using(crate::proofs::Weights::from_counted))]
+fn short_count_from(least: u8, bytes: &[u8]) -> u8
+    requires { length bytes.now ≤ 255 }
+    ensures { result ≡ count_from least bytes.now }
 {
-    symbols.iter().map(|symbol| u8::from(*symbol != 0)).sum()
+    bytes.iter().map(|byte| u8::from(least <= *byte)).sum()
 }
 
-// The weight: how many symbols are not zero. Counted part by part, and not copied into its callers, which decode more slowly with copies of it.
+// The same of any number of bytes, part by part.
+fn count_by_parts(least: u8, bytes: &[u8]) -> usize
+    ensures { result ≡ count_from least bytes.now }
+{
+    bytes
+        .chunks(255)
+        .map(|part| usize::from(short_count_from(least, part)))
+        .sum()
+}
+
+// How many bytes are not below `least`. Not copied into its callers, which decode more slowly with copies of it.
+#[inline(never)]
+pub fn count_from(least: u8, bytes: &[u8]) -> usize
+    ensures { result ≡ count_from least bytes.now }
+{
+    count_by_parts(least, bytes)
+}
+
+// The weight: how many symbols are not zero. Not copied into its callers either, and not a call of `count_from`, which compares with any byte.
 #[inline(never)]
 pub fn weight(symbols: &[u8]) -> usize
     ensures { result ≡ weight_of symbols.now }
 {
-    symbols
-        .chunks(255)
-        .map(|part| usize::from(short_weight(part)))
-        .sum()
+    count_by_parts(1, symbols)
 }

@@ -1,18 +1,19 @@
 -- The residual of a message g in a reception, on bytes: what one window of it says of a message that fits.
--- Holds: `ahead`, `sub_below`, `add_back`, `add_opposite`, `ahead_below`; `residual_window`, `residual_zero`.
+-- Holds: `ahead`, `add_back`, `plus_opposite`, `ahead_below`; `residual_window`, `residual_zero`.
 use mathlib.Core.Path.{◌≡◌, refl, sym, ap, ap₂, fun_ext, ◌∙◌}
 use mathlib.Core.List.{List}
 use Prim.Native.Nat.{ℕ, suc, ◌+◌, ◌*◌, ◌≤◌, ◌<◌}
 use native.Mathlib.Omega.{arith}
 use lib.Arith.{digits_lt}
 use lib.ListN.{length, get_or}
-use Rattle.algebra.specs.Ops.{sub}
+use Rattle.algebra.specs.Ops.{sub, pick}
 use Rattle.algebra.proofs.Laws.{sub_self, add_of_sub, neg_unique, neg_mul}
 use Rattle.algebra.proofs.Weights.{total_ext}
 use Rattle.algebra.proofs.Below.{Element, number, number_injective, element, number_element}
 use Rattle.area.specs.Lists.{view}
 use Rattle.area.proofs.Lists.{window_view}
 use Rattle.field.specs.Fields.{ops_of}
+use Rattle.field.specs.Symbols.{is_unknown}
 use Rattle.field.proofs.Symbols.{symbol_below}
 use Rattle.code.specs.declared.Setting.{Setting}
 use Rattle.code.specs.Transmission.{sent_symbol}
@@ -22,12 +23,12 @@ use Rattle.code.specs.Settings.{code_of}
 use Rattle.code.specs.parts.Sound.{Sound}
 use Rattle.code.specs.Windows.{Message}
 use Rattle.code.specs.parts.InformationBlocks.{BlocksBelow}
-use Rattle.code.specs.parts.Residual.{IsResidual, frame_length, window_at}
+use Rattle.code.specs.parts.Residual.{less, plus, IsResidual, frame_length, window_at}
 use Rattle.code.proofs.Blocks.{combination_ext}
 use Rattle.code.proofs.Differences.{sent_sub, sent_ahead}
-use Rattle.code.proofs.CodeBelow.{laws, positive, field_of, root_of, over_field, keeps, number_zero, number_sub, lifted, number_lifted, sent_number}
+use Rattle.code.proofs.CodeBelow.{positive, field_of, root_of, over_field, keeps, number_zero, number_sub, lifted, number_lifted, sent_number}
 use Rattle.code.proofs.CodeBelow.{combination_number, message_below, sent_below}
-use Rattle.code.proofs.Cost.{cost_shift}
+use Rattle.code.proofs.Cost.{cost_shift, sub_below}
 use Rattle.code.proofs.WindowBelow.{zero_cost_lem}
 use Rattle.code.proofs.FrameWindows.{window_inside, length_window_at}
 
@@ -36,11 +37,8 @@ abbrev pub ahead : Setting → List ℕ → List ℕ → ℕ → ℕ → ℕ →
 ahead p x g j s r = sub (ops_of p.q) (view p.k x (j + s) r) (view p.k g (j + s) r)
 
 module _ (p : Setting) (S : Sound p) where
-  pub sub_below : (a b : ℕ) → a < p.q → b < p.q → sub (ops_of p.q) a b < p.q
-  sub_below a b la lb = (laws p S).add_below a ((ops_of p.q).neg b) la ((laws p S).neg_below b lb)
-
   -- Adding u × x takes v × x out, where v + u = 0.
-  pub add_opposite : (a v u x : ℕ) → v < p.q → u < p.q → x < p.q → (ops_of p.q).add v u ≡ 0
+  add_opposite : (a v u x : ℕ) → v < p.q → u < p.q → x < p.q → (ops_of p.q).add v u ≡ 0
       → (ops_of p.q).add a ((ops_of p.q).mul u x) ≡ sub (ops_of p.q) a ((ops_of p.q).mul v x)
   add_opposite a v u x lv lu lx e =
       let K = field_of p S in
@@ -49,6 +47,11 @@ module _ (p : Setting) (S : Sound p) where
       ap ((ops_of p.q).add a) (sym ((keeps p S).on_mul (u, lu) (x, lx)) ∙ ap (λ (t : Element p.q). number (K.ops.mul t (x, lx))) opposite
       ∙ ap number (neg_mul K (v, lv) (x, lx))
       ∙ (keeps p S).on_neg (K.ops.mul (v, lv) (x, lx)) ∙ ap (ops_of p.q).neg ((keeps p S).on_mul (v, lv) (x, lx)))
+
+  -- The same of a received byte.
+  pub plus_opposite : (a v u x : ℕ) → v < p.q → u < p.q → x < p.q → (ops_of p.q).add v u ≡ 0
+      → plus p.q a ((ops_of p.q).mul u x) ≡ less p.q a ((ops_of p.q).mul v x)
+  plus_opposite a v u x lv lu lx e = ap (pick (is_unknown p.q a) a) (add_opposite a v u x lv lu lx e)
 
   -- b + (a - b) = a
   pub add_back : (a b : ℕ) → a < p.q → b < p.q → (ops_of p.q).add b (sub (ops_of p.q) a b) ≡ a
@@ -71,9 +74,9 @@ module _ (p : Setting) (S : Sound p) where
       same_b = number_element p.q (positive p S) b lb
 
   pub ahead_below : (x g : List ℕ) (j : ℕ) → ((i : ℕ) → get_or x i 0 < p.q) → ((i : ℕ) → get_or g i 0 < p.q) → BlocksBelow p.q (ahead p x g j)
-  ahead_below x g j X G s r = sub_below _ _ (X ((j + s) * p.k + r)) (G ((j + s) * p.k + r))
+  ahead_below x g j X G s r = sub_below p S _ _ (X ((j + s) * p.k + r)) (G ((j + s) * p.k + r))
 
-  module _ (T : ℕ) (reception g residual : List ℕ) (R : (i : ℕ) → get_or reception i 0 < p.q) (G : (i : ℕ) → get_or g i 0 < p.q)
+  module _ (T : ℕ) (reception g residual : List ℕ) (G : (i : ℕ) → get_or g i 0 < p.q)
       (is_residual : IsResidual p T reception g residual) where
     module _ (x : List ℕ) (X : Message p T x) (j : ℕ) (l : j < T) (agree : (i : ℕ) → i < j * p.k → get_or x i 0 ≡ get_or g i 0) where
       x' : ℕ → ℕ → Element p.q
@@ -123,7 +126,7 @@ module _ (p : Setting) (S : Sound p) where
           ap₂ (symbol_cost p.q) (window_view p.n p.m residual j s i (omega arith) u ∙ is_residual.symbol (j + s) i (omega arith) u)
           (ahead_sent s i (omega arith))
           ∙ cost_shift p S (view p.n reception (j + s) i) (sent_symbol (code_of p) (view p.k x) (j + s) i) (sent_symbol (code_of p) (view p.k g) (j + s) i)
-          (R ((j + s) * p.n + i)) (sent_below p S (view p.k x) (message_below p S T x X) (j + s) i)
+          (sent_below p S (view p.k x) (message_below p S T x X) (j + s) i)
           (sent_below p S (view p.k g) (λ b r. G (b * p.k + r)) (j + s) i)))
 
     -- Its cost against zeros is the cost where g itself was sent.

@@ -15,20 +15,20 @@ use lib.Dec.{T as Passes, eqb, leb, ltb, eqb→eq, leb→le, le→leb, ltb→lt,
 use lib.ListN.{length, get_or, length-append, get_or-append}
 use lib.Seq.{ext_get_or, get_or_at}
 use Rattle.algebra.specs.Ops.{pick}
-use Rattle.algebra.specs.Weight.{distance}
 use Rattle.algebra.proofs.Sums.{sum_ext}
 use Rattle.algebra.proofs.Tests.{and_left, and_right, all, all_at}
 use Rattle.algebra.proofs.Weights.{count_of_ext}
 use Rattle.area.specs.Lists.{view}
 use Rattle.area.proofs.Lists.{get_d_tabulate}
+use Rattle.field.specs.Symbols.{is_unknown}
 use Rattle.field.proofs.Symbols.{symbol_below}
 use Rattle.code.specs.declared.Setting.{Setting}
-use Rattle.code.specs.Code.{Code, limit}
+use Rattle.code.specs.Code.{Code, design_distance}
 use Rattle.code.specs.Generator.{row_symbol, times_g}
 use Rattle.code.specs.Transmission.{earlier, sent_symbol}
 use Rattle.code.specs.Settings.{code_of}
 use Rattle.code.specs.parts.Sound.{Sound}
-use Rattle.code.specs.Windows.{transmission, window_length, window_distance, Message, Fits}
+use Rattle.code.specs.Windows.{transmission, window_length, window_symbol, unknown_symbols, known_distance, window_sum, Message, Fits}
 use Rattle.code.proofs.CodeBelow.{positive, message_blocks}
 use Rattle.code.proofs.Settings.{block_positive}
 
@@ -45,13 +45,18 @@ sent_of_beginning c u v s i same =
     block j r l true = same (s - j) r (omega arith) l
     block j r l false = refl
 
--- In how many symbols of window j the reception differs from what the information blocks u send.
+-- Symbol i of window j of what the information blocks u send.
+abbrev pub sent_there : Setting → (ℕ → ℕ → ℕ) → ℕ → ℕ → ℕ
+sent_there p u j i = sent_symbol (code_of p) u ((j * p.n + i) / p.n) ((j * p.n + i) % p.n)
+
+-- Twice the known symbols of window j in which the reception differs from that, and its unknown ones.
 unfoldable pub window_from : Setting → List ℕ → (ℕ → ℕ → ℕ) → ℕ → ℕ
 window_from p reception u j =
-    distance (window_length p) (λ i. get_or reception (j * p.n + i) 0) (λ i. sent_symbol (code_of p) u ((j * p.n + i) / p.n) ((j * p.n + i) % p.n))
+    2 * known_distance p.q (window_length p) (window_symbol p reception j) (sent_there p u j)
+    + unknown_symbols p.q (window_length p) (window_symbol p reception j)
 
 unfoldable pub window_test : Setting → List ℕ → (ℕ → ℕ → ℕ) → ℕ → Bool
-window_test p reception u j = leb (window_from p reception u j) (limit p.n p.k p.m)
+window_test p reception u j = leb (window_from p reception u j) (design_distance p.n p.k p.m)
 
 -- Every window is within the limit.
 unfoldable pub windows_test : Setting → ℕ → List ℕ → List ℕ → Bool
@@ -95,12 +100,12 @@ all_of (suc n) test h = both (test n) (all n test) (h n (omega arith)) (all_of n
 -- A window of a transmission is determined by the information blocks up to its last block.
 pub window_of_beginning : (p : Setting) → Sound p → (T : ℕ) (reception x : List ℕ) → Message p T x → (u : ℕ → ℕ → ℕ) (j : ℕ) → j < T
     → ((b r : ℕ) → b ≤ j + p.m → r < p.k → u b r ≡ view p.k x b r)
-    → window_distance p reception (transmission p x) j ≡ window_from p reception u j
+    → window_sum p reception (transmission p x) j ≡ window_from p reception u j
 unfolding window_from transmission
 window_of_beginning p S T reception x M u j l same =
-    count_of_ext (window_length p) (λ i. not (eqb (get_or reception (j * p.n + i) 0) (get_or (transmission p x) (j * p.n + i) 0)))
-    (λ i. not (eqb (get_or reception (j * p.n + i) 0) (sent_symbol (code_of p) u ((j * p.n + i) / p.n) ((j * p.n + i) % p.n))))
-    (λ i h. ap (λ (t : ℕ). not (eqb (get_or reception (j * p.n + i) 0) t)) (symbol i h))
+    ap (λ (t : ℕ). 2 * t + unknown_symbols p.q (window_length p) (window_symbol p reception j))
+    (count_of_ext (window_length p) _ _ (λ i h. ap (λ (t : ℕ). not (is_unknown p.q (window_symbol p reception j i)) && not (eqb (window_symbol p reception j i) t))
+    (symbol i h)))
   where
     symbol : (i : ℕ) → i < window_length p
         → get_or (transmission p x) (j * p.n + i) 0 ≡ sent_symbol (code_of p) u ((j * p.n + i) / p.n) ((j * p.n + i) % p.n)
@@ -122,8 +127,8 @@ fits_of_test p S T reception message t =
       message_of = M;
       long = eqb→eq (length reception) ((T + p.m) * p.n) (and_left long windows (and_right symbols (long && windows) rest));
       near = λ j l.
-          subst (λ (d : ℕ). d ≤ limit p.n p.k p.m) (sym (window_of_beginning p S T reception message M (view p.k message) j l (λ b r a c. refl)))
-          (leb→le (window_from p reception (view p.k message) j) (limit p.n p.k p.m)
+          subst (λ (d : ℕ). d ≤ design_distance p.n p.k p.m) (sym (window_of_beginning p S T reception message M (view p.k message) j l (λ b r a c. refl)))
+          (leb→le (window_from p reception (view p.k message) j) (design_distance p.n p.k p.m)
           (all_at T (window_test p reception (view p.k message)) (and_right long windows (and_right symbols (long && windows) rest)) j l));
     }
   where
@@ -158,8 +163,8 @@ module _ (p : Setting) (S : Sound p) (T : ℕ) (reception x : List ℕ) (F : Fit
   near_window : (u : ℕ → ℕ → ℕ) (j : ℕ) → j < T → ((b r : ℕ) → b ≤ j + p.m → r < p.k → u b r ≡ view p.k x b r) → Passes (window_test p reception u j)
   unfolding window_test
   near_window u j l same =
-      le→leb (window_from p reception u j) (limit p.n p.k p.m)
-      (subst (λ (d : ℕ). d ≤ limit p.n p.k p.m) (window_of_beginning p S T reception x F.message_of u j l same) (F.near j l))
+      le→leb (window_from p reception u j) (design_distance p.n p.k p.m)
+      (subst (λ (d : ℕ). d ≤ design_distance p.n p.k p.m) (window_of_beginning p S T reception x F.message_of u j l same) (F.near j l))
 
   windows_near : Passes (windows_test p T reception x)
   unfolding windows_test

@@ -7,7 +7,8 @@ use Rattle.code.specs.Settings.{is_setting, setting_of}
 use Rattle.code.specs.Windows.{WithinLimit, Message, Fits}
 
 -- "Let j be any information block. No reception differs in at most t symbols, over the window starting at block j, from each of the transmissions of
--- two messages of its setting and length that agree before block j and differ in block j."
+-- two messages of its setting and length that agree before block j and differ in block j", "where this sum over the window, at most d, stands in place of at
+-- most t differing symbols" (02, #106).
 abbrev pub FirstDifferingBlock : Setting → Type 0
 FirstDifferingBlock p = (T : ℕ) (reception x y : List ℕ) (j : ℕ) → length reception ≡ (T + p.m) * p.n → Message p T x → Message p T y → j < T
     → take (j * p.k) x ≡ take (j * p.k) y

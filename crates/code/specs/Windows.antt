@@ -1,12 +1,13 @@
--- Transmissions, windows and fits on lists of bytes, as the demands, 01 and 02 (#102) word them.
--- Holds: `transmission`, `window_length`, `window_distance`, `altered`, `most_altered`, `Message`, `WithinLimit`, `Fits`; what the
--- count can be at most, computed (`most_altered_samples`).
-use Rattle.std.specs.Prelude.{◌≡◌, refl, List, ℕ, ◌+◌, ◌*◌, ◌/◌, ◌%◌, ◌≤◌, ◌<◌, length, get_or}
-use Rattle.algebra.specs.Weight.{distance}
+-- Transmissions, windows and fits on lists of bytes, as the demands, 01 and 02 (#102, #106) word them.
+-- Holds: `transmission`, `window_length`, `window_symbol`; `unknown_symbols`, `known_distance`, `window_sum`; `altered`, `unknown_in`; `Message`, `WithinLimit`,
+-- `Fits`; `window_distance` and `AtMostLimit`, 01's words for it; what the counts can be at most: `windows_for`, `most_altered`, `most_damage`, `most_unknown`,
+-- computed in `most_altered_samples`.
+use Rattle.std.specs.Prelude.{◌≡◌, refl, not, ◌&&◌, List, ℕ, ◌+◌, ◌*◌, ◌/◌, ◌%◌, ◌≤◌, ◌<◌, eqb, length, get_or}
+use Rattle.algebra.specs.Weight.{count_of, distance}
 use Rattle.area.specs.Lists.{view, tabulate}
-use Rattle.field.specs.Symbols.{Symbols}
+use Rattle.field.specs.Symbols.{Symbols, is_unknown}
 use Rattle.code.specs.declared.Setting.{Setting}
-use Rattle.code.specs.Code.{distances_to, limit}
+use Rattle.code.specs.Code.{distances_to, design_distance, limit}
 use Rattle.code.specs.Transmission.{sent_symbol}
 use Rattle.code.specs.Settings.{setting_of, code_of}
 
@@ -20,17 +21,31 @@ transmission p message =
 abbrev pub window_length : Setting → ℕ
 window_length p = (p.m + 1) * p.n
 
--- In how many symbols of window j two frames differ.
-abbrev pub window_distance : Setting → List ℕ → List ℕ → ℕ → ℕ
-window_distance p a b j = distance (window_length p) (λ i. get_or a (j * p.n + i) 0) (λ i. get_or b (j * p.n + i) 0)
+-- Symbol i of window j of a frame.
+abbrev pub window_symbol : Setting → List ℕ → ℕ → ℕ → ℕ
+window_symbol p frame j i = get_or frame (j * p.n + i) 0
 
--- "The altered count is the number of places .. where reception and returned transmission differ", and it "covers blocks 0 to T−1 only" (02, #102).
+-- Of n received symbols: how many are unknown, and how many known ones differ from what was sent.
+abbrev pub unknown_symbols : ℕ → ℕ → (ℕ → ℕ) → ℕ
+unknown_symbols q n v = count_of n (λ i. is_unknown q (v i))
+
+abbrev pub known_distance : ℕ → ℕ → (ℕ → ℕ) → (ℕ → ℕ) → ℕ
+known_distance q n v a = count_of n (λ i. not (is_unknown q (v i)) && not (eqb (v i) (a i)))
+
+-- "twice the known differing symbols plus the unknown ones" (02, #106), of window j of a reception and what was sent.
+abbrev pub window_sum : Setting → List ℕ → List ℕ → ℕ → ℕ
+window_sum p reception sent j =
+    2 * known_distance p.q (window_length p) (window_symbol p reception j) (window_symbol p sent j)
+    + unknown_symbols p.q (window_length p) (window_symbol p reception j)
+
+-- "The altered count is the number of places .. where reception and returned transmission differ", it "covers blocks 0 to T−1 only" (02, #102), and
+-- "Altered symbols are known ones only" (02, #106).
 abbrev pub altered : Setting → ℕ → List ℕ → List ℕ → ℕ
-altered p T reception sent = distance (T * p.n) (λ i. get_or reception i 0) (λ i. get_or sent i 0)
+altered p T reception sent = known_distance p.q (T * p.n) (λ i. get_or reception i 0) (λ i. get_or sent i 0)
 
--- "The bound becomes t × (T/(m+1), rounded up)" (02, #102).
-abbrev pub most_altered : Setting → ℕ → ℕ
-most_altered p T = limit p.n p.k p.m * ((T + p.m) / (p.m + 1))
+-- "the number of unknown symbols over all blocks" (02, #106).
+abbrev pub unknown_in : Setting → ℕ → List ℕ → ℕ
+unknown_in p T reception = unknown_symbols p.q ((T + p.m) * p.n) (λ i. get_or reception i 0)
 
 -- A message of T information blocks: T × k symbols below q.
 pub record Message (p : Setting) (T : ℕ) (message : List ℕ) : Type 0 where
@@ -38,16 +53,41 @@ pub record Message (p : Setting) (T : ℕ) (message : List ℕ) : Type 0 where
   pub long : length message ≡ T * p.k
   pub symbols : Symbols p.q message
 
--- Over window j the reception differs from the message's transmission in at most t symbols.
+-- In window j twice the known symbols in which the reception differs from the message's transmission, plus the unknown ones, is at most d.
 abbrev pub WithinLimit : Setting → List ℕ → List ℕ → ℕ → Type 0
-WithinLimit p reception message j = window_distance p reception (transmission p message) j ≤ limit p.n p.k p.m
+WithinLimit p reception message j = window_sum p reception (transmission p message) j ≤ design_distance p.n p.k p.m
 
--- "A message fits a reception (the received word) of its setting and length when, in every window, its transmission differs from the reception in
--- at most t symbols." Any bytes may stand in a reception.
+-- "A message now fits when in each window twice the known differing symbols plus the unknown ones is at most d" (02, #106): a message (the information word)
+-- and a reception (the received word) "of its setting and length". Any bytes may stand in a reception.
 pub record Fits (p : Setting) (T : ℕ) (reception message : List ℕ) : Type 0 where
   pub message_of : Message p T message
   pub long : length reception ≡ (T + p.m) * p.n
   pub near : (j : ℕ) → j < T → WithinLimit p reception message j
+
+-- In how many symbols of window j two frames differ.
+abbrev pub window_distance : Setting → List ℕ → List ℕ → ℕ → ℕ
+window_distance p a b j = distance (window_length p) (window_symbol p a j) (window_symbol p b j)
+
+-- Of a window without unknown symbols 01's words hold: the transmission "differs from the reception in at most t symbols" (`at_most_limit`, proofs/Cost).
+abbrev pub AtMostLimit : Type 0
+AtMostLimit = (p : Setting) (reception message : List ℕ) (j : ℕ) → ((i : ℕ) → i < window_length p → window_symbol p reception j i < p.q)
+    → (WithinLimit p reception message j → window_distance p reception (transmission p message) j ≤ limit p.n p.k p.m)
+    × (window_distance p reception (transmission p message) j ≤ limit p.n p.k p.m → WithinLimit p reception message j)
+
+-- How many windows cover so many blocks: their number divided by m+1, rounded up.
+abbrev pub windows_for : Setting → ℕ → ℕ
+windows_for p blocks = (blocks + p.m) / (p.m + 1)
+
+-- The altered count: "The bound becomes t × (T/(m+1), rounded up)" (02, #102). Twice it plus the unknown symbols of blocks 0 to T−1, and the unknown symbols of
+-- all T+m blocks, have d in the place of t.
+abbrev pub most_altered : Setting → ℕ → ℕ
+most_altered p T = limit p.n p.k p.m * windows_for p T
+
+abbrev pub most_damage : Setting → ℕ → ℕ
+most_damage p T = design_distance p.n p.k p.m * windows_for p T
+
+abbrev pub most_unknown : Setting → ℕ → ℕ
+most_unknown p T = design_distance p.n p.k p.m * windows_for p (T + p.m)
 
 -- Examples, computed: one block of setting 1; the eight of the worked order with count 12, which has as many as can be; 512 of setting 4.
 pub most_altered_samples : (most_altered (setting_of 1) 1 ≡ 4) × (most_altered (setting_of 1) 8 ≡ 12) × (most_altered (setting_of 4) 512 ≡ 2048)

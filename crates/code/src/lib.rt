@@ -1,10 +1,11 @@
 // The code of document 01 in specs/, and what is true of it in proofs/; the settings at run time.
 #![tactic(auto)]
 
-ghost use Rattle.std.specs.Prelude.{◌≡◌, ◌+◌, ◌*◌, ◌≤◌, length};
+ghost use Rattle.std.specs.Prelude.{◌≡◌, ◌+◌, ◌*◌, ◌≤◌, length, get_or};
 ghost use Rattle.code.specs.Code.{level_distance, distances_to};
 ghost use Rattle.code.specs.Settings.{setting};
-ghost use Rattle.code.specs.Windows.{window_length};
+ghost use Rattle.code.specs.Windows.{window_length, unknown_symbols};
+ghost use Rattle.code.specs.parts.Cost.{symbol_cost};
 ghost use Rattle.code.specs.parts.Residual.{window_at};
 ghost use Rattle.code.specs.parts.SettingNumbers.{number_of, parameters_of, Chosen};
 ghost use Rattle.code.specs.parts.Sound.{Sound};
@@ -115,4 +116,28 @@ pub fn window_of_frame(p: Setting, frame: &[u8], j: usize) -> &[u8]
     let start = j * p.n;
     let end = start + window_length(p);
     &frame[start..end]
+}
+
+// How many received symbols are unknown. Where every byte is a symbol, none is.
+pub fn unknown_symbols(q: usize, symbols: &[u8]) -> usize
+    ensures { result ≡ unknown_symbols q (length symbols.now) (λ i. get_or symbols.now i 0) }
+{
+    match u8::try_from(q) {
+        Ok(least) => area::count_from(least, symbols),
+        Err(_) => 0,
+    }
+}
+
+// What receiving a byte costs where a symbol of the field with q elements was sent: 1 where it is unknown, else 2 where they differ.
+pub fn symbol_cost(q: usize, received: u8, sent: u8) -> usize
+    ensures cost { result ≡ symbol_cost q received sent }
+    ensures most { result ≤ 2 }
+{
+    if q <= usize::from(received) {
+        1
+    } else if received == sent {
+        0
+    } else {
+        2
+    }
 }

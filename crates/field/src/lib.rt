@@ -8,7 +8,7 @@ ghost use Rattle.algebra.specs.Ops.{sub};
 ghost use Rattle.algebra.specs.Polynomial as polynomial;
 ghost use Rattle.field.specs.parts.Operations.{Good, Is};
 ghost use Rattle.field.specs.Fields.{ops_of};
-ghost use Rattle.field.specs.Symbols.{Symbols};
+ghost use Rattle.field.specs.Symbols.{Symbols, known_symbol};
 ghost use Rattle.field.specs.parts.Products.{ListsOf, ProductsOf};
 ghost use Rattle.field.specs.parts.Sequences.{at};
 
@@ -161,6 +161,17 @@ impl Field {
         }
         let sum = a + b;
         if sum < 5 { sum } else { sum - 5 }
+    }
+
+    // A received byte as a symbol: 0 for an unknown one.
+    pub fn known_symbol(&self, received: u8) -> u8
+        ensures { Is self.now.q result (known_symbol self.now.q received) }
+    {
+        if usize::from(received) < self.q {
+            received
+        } else {
+            0
+        }
     }
 
     // -a

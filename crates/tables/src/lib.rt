@@ -2,6 +2,7 @@
 #![tactic(auto)]
 
 ghost use Rattle.std.specs.Prelude.{◌≡◌, ◌*◌, ◌≤◌, ◌<◌, length};
+ghost use Rattle.area.specs.Lists.{part_at};
 ghost use Rattle.field.specs.parts.Operations.{Is};
 ghost use Rattle.field.specs.Symbols.{Symbols};
 ghost use Rattle.field.specs.parts.Sequences.{at};
@@ -166,17 +167,38 @@ impl Tables {
         sum
     }
 
-    // Adds v × row r of G_0, .., G_m to the blocks of a window: what one information symbol contributes.
+    // v × row r of G_0, .., G_m, one after the other: what one information symbol contributes to a window.
+    fn multiple(&self, r: usize, v: u8) -> Multiple<'_>
+        requires { (r < self.now.setting.k) × (v < self.now.setting.q) }
+        ensures row { result.row.now ≡ part_at (window_length self.now.setting) r self.now.rows }
+        ensures long { length result.row.now ≡ window_length self.now.setting }
+        ensures factor { result.v ≡ v }
+        ensures field { result.field.now.q ≡ self.now.setting.q }
+    {
+        let length = code::window_length(self.setting);
+        Multiple {
+            field: &self.field,
+            v,
+            row: area::part(&self.rows, length, r),
+        }
+    }
+
+    // Adds v × row r of G_0, .., G_m to the blocks of a window in which no symbol is unknown.
     pub fn add_rows(&self, r: usize, v: u8, window: &mut [u8])
         requires { (r < self.now.setting.k) × (v < self.now.setting.q) × (length window.old ≡ window_length self.now.setting) × Symbols self.now.setting.q window.old }
         ensures { RowsAdded self.now.setting r v window.old window.new }
     {
-        let length = code::window_length(self.setting);
-        let multiple = Multiple {
-            field: &self.field,
-            v,
-            row: area::part(&self.rows, length, r),
-        };
-        multiple.add(window);
+        self.multiple(r, v).add(window);
+    }
+
+    // The same of any window: its unknown symbols stay as they are. Few windows have one, and with this in their callers' code all others take longer
+    // (docs/PERFORMANCE.md, "Unknown symbols").
+    #[cold]
+    #[inline(never)]
+    pub fn add_rows_to_known(&self, r: usize, v: u8, window: &mut [u8])
+        requires { (r < self.now.setting.k) × (v < self.now.setting.q) × (length window.old ≡ window_length self.now.setting) }
+        ensures { RowsAdded self.now.setting r v window.old window.new }
+    {
+        self.multiple(r, v).add_to_known(window);
     }
 }

@@ -1,5 +1,5 @@
 // Multiples of a row added to an area.
-ghost use Rattle.std.specs.Prelude.{◌≡◌, ◌+◌, ◌≤◌, ◌<◌, length};
+ghost use Rattle.std.specs.Prelude.{◌≡◌, ◌+◌, ◌≤◌, ◌<◌, length, get_or};
 ghost use Rattle.field.specs.Symbols.{Symbols};
 ghost use Rattle.tables.specs.parts.RowsAdded.{MultipleAdded};
 
@@ -16,15 +16,15 @@ pub struct Multiple<'a> {
 }
 
 impl Multiple<'_> {
-    // Adds symbol i of the multiple to symbol i of the area.
+    // Adds symbol i of the multiple to symbol i of the area, a known one.
     fn add_place(&self, i: usize, area: &mut [u8])
-        requires { Symbols self.now.field.now.q area.old × (i < length self.now.row.now) × (i < length area.old) }
+        requires { (get_or area.old i 0 < self.now.field.now.q) × (i < length self.now.row.now) × (i < length area.old) }
         ensures { MultipleAdded self.now.field.now.q self.now.v i (i + 1) self.now.row.now area.old area.new }
     {
         area[i] = self.field.add_product(area[i], self.v, self.row[i]);
     }
 
-    // The same for four symbols from a place on.
+    // The same for four symbols from a place on, in an area without unknown ones.
     fn add_four(&self, i: usize, area: &mut [u8])
         requires { Symbols self.now.field.now.q area.old × (i + 4 ≤ length self.now.row.now) × (i + 4 ≤ length area.old) }
         ensures { MultipleAdded self.now.field.now.q self.now.v i (i + 4) self.now.row.now area.old area.new }
@@ -61,12 +61,24 @@ impl Multiple<'_> {
         }
     }
 
-    // Adds the multiple to the area.
+    // Adds the multiple to an area without unknown symbols.
     pub fn add(&self, area: &mut [u8])
         requires { Symbols self.now.field.now.q area.old × (length self.now.row.now ≡ length area.old) }
         ensures { MultipleAdded self.now.field.now.q self.now.v 0 (length area.old) self.now.row.now area.old area.new }
     {
         let done = self.add_fours(area);
         self.add_from(done, area);
+    }
+
+    // Adds the multiple to the known symbols of any area.
+    pub fn add_to_known(&self, area: &mut [u8])
+        requires { length self.now.row.now ≡ length area.old }
+        ensures { MultipleAdded self.now.field.now.q self.now.v 0 (length area.old) self.now.row.now area.old area.new }
+    {
+        for i in 0..area.len() {
+            if usize::from(area[i]) < self.field.q {
+                self.add_place(i, area);
+            }
+        }
     }
 }

@@ -1,8 +1,12 @@
--- How many bytes of a list are not zero. Holds: `weight_to`, `weight_of`.
-use Rattle.std.specs.Prelude.{not, List, ℕ, eqb, length, get_or}
+-- How many bytes of a list are not below a byte, and how many are not zero. Holds: `count_from`; `weight_to`, `weight_of`.
+use Rattle.std.specs.Prelude.{not, List, ℕ, eqb, leb, length, get_or}
 use Rattle.algebra.specs.Weight.{count_of}
 
--- Of the first bytes.
+-- Not below `least`, of all bytes.
+abbrev pub count_from : ℕ → List ℕ → ℕ
+count_from least l = count_of (length l) (λ i. leb least (get_or l i 0))
+
+-- Not zero, of the first bytes.
 abbrev pub weight_to : List ℕ → ℕ → ℕ
 weight_to l to = count_of to (λ i. not (eqb (get_or l i 0) 0))
 

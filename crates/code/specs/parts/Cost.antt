@@ -1,21 +1,20 @@
--- What receiving something costs where something else was sent. Two a differing symbol, so that nothing is rounded: "at most t symbols" is a cost of at
--- most d. The sums are over any received symbols R, any field F and any cost of a symbol; on bytes the cost is `symbol_cost`.
+-- What receiving something costs where something else was sent: two a known symbol that differs, one an unknown one. The sums are over any received symbols R, any field F and any cost of a symbol; on bytes the cost is `symbol_cost`.
 -- Holds: `symbol_cost`; `cost_to` (blocks of a frame), `block_cost` (a block against a combination), `rebuilt_cost` (a window against rebuilt blocks);
 -- of a setting, on bytes: `level_cost`, `window_cost`, `zero_cost`, `message_cost`, `NearWindow`.
 use Rattle.std.specs.Prelude.{List, ℕ, ◌+◌, ◌<◌, suc, length, get_or, eqb}
 use Rattle.algebra.specs.Ops.{pick}
 use Rattle.algebra.specs.Weight.{total}
 use Rattle.area.specs.Lists.{view}
+use Rattle.field.specs.Symbols.{is_unknown}
 use Rattle.code.specs.declared.Setting.{Setting}
 use Rattle.code.specs.Code.{distances_to, Code}
 use Rattle.code.specs.Transmission.{sent_symbol}
 use Rattle.code.specs.Settings.{code_of}
 use Rattle.code.specs.Level.{combination}
 
--- What receiving byte v costs where symbol a of the field with q elements was sent: 2 where they differ. q is there for a byte that is none of the
--- field's symbols (02, request 106).
+-- What receiving byte v costs where symbol a of the field with q elements was sent: 1 where it is unknown, else 2 where they differ.
 unfoldable pub symbol_cost : ℕ → ℕ → ℕ → ℕ
-symbol_cost q v a = pick (eqb v a) 0 2
+symbol_cost q v a = pick (is_unknown q v) 1 (pick (eqb v a) 0 2)
 
 -- What blocks b .. b+l of a frame, of n symbols each, cost for what was received.
 unfoldable pub cost_to : {R F : Type 0} → ℕ → (R → F → ℕ) → (ℕ → ℕ → R) → (ℕ → ℕ → F) → ℕ → ℕ → ℕ
