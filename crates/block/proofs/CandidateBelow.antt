@@ -1,19 +1,25 @@
 -- The same on the numbers below q, as the code has it: if the information x is near, it is the information that was read.
 -- Holds: `recovered_more`, `degree_of_near_below`, `read_of_near`.
-use mathlib.Core.Path.{◌≡◌, refl, sym, ap, ◌∙◌}
-use mathlib.Core.List.{List}
-use Prim.Native.Nat.{ℕ, suc, ◌+◌, ◌-◌, ◌*◌, ◌≤◌, ◌<◌}
+use mathlib.Core.Path.{◌≡◌, sym, ap, subst, ◌∙◌}
+use mathlib.Core.Bool.{Bool, not}
+use mathlib.Core.List.{List, [], ◌∷◌}
+use Prim.Native.Nat.{ℕ, zero, suc, ◌+◌, ◌-◌, ◌*◌, ◌≤◌, ◌<◌}
 use native.Mathlib.Numerals.{add-one}
 use native.Mathlib.Omega.{arith}
+use native.Mathlib.Decide.{ℕ_discrete, dec_lt}
 use lib.ListN.{length}
-use Rattle.algebra.specs.Ops.{Ops, sub}
-use Rattle.algebra.specs.Weight.{weight}
-use Rattle.algebra.proofs.Weights.{total_ext, total_most}
+use Rattle.algebra.specs.Ops.{Ops, sub, pick}
+use Rattle.algebra.specs.Sum.{power}
+use Rattle.algebra.specs.Weight.{count_of, weight}
+use Rattle.algebra.proofs.Laws.{sub_self}
+use Rattle.algebra.proofs.Weights.{total_mono, total_add, total_scale, one_le, zero_test}
+use Rattle.algebra.proofs.Naturality.{power_natural}
 use Rattle.algebra.proofs.Below.{FieldBelow, Element, number}
 use Rattle.area.specs.Lists.{view}
-use Rattle.field.specs.Fields.{ops_of}
-use Rattle.field.specs.Symbols.{Symbols}
+use Rattle.field.specs.Fields.{ops_of, alpha}
+use Rattle.field.specs.Symbols.{Symbols, is_unknown}
 use Rattle.field.specs.parts.Sequences.{at}
+use Rattle.field.proofs.Symbols.{all_symbols}
 use Rattle.code.specs.declared.Setting.{Setting}
 use Rattle.code.specs.Code.{Code, level_distance}
 use Rattle.code.specs.Generator.{times_g}
@@ -22,20 +28,23 @@ use Rattle.code.specs.parts.Recovery.{ending, Recovered}
 use Rattle.code.specs.parts.Cost.{symbol_cost, block_cost, level_cost}
 use Rattle.code.specs.Settings.{code_of}
 use Rattle.code.specs.parts.Sound.{Sound}
-use Rattle.code.proofs.Certainty.{weight_apart}
-use Rattle.code.proofs.Cost.{cost_same, byte_cost, bytes_apart}
+use Rattle.code.proofs.Cost.{unknown_byte, known_byte, cost_unknown, cost_differ}
 use Rattle.code.proofs.Recovery.{recovered_step}
 use Rattle.code.proofs.CodeBelow.{laws, field_of, root_of, order_at, over_field, lifted, times_g_number, combination_number, ending_number, received}
-use Rattle.code.proofs.CodeBelow.{received_number, value_number}
+use Rattle.code.proofs.CodeBelow.{received_number, value_number, keeps, root_number}
 use Rattle.code.proofs.Settings.{level_fits, information_fits}
+use Rattle.block.specs.declared.TheConstants.{PLACES}
 use Rattle.block.specs.declared.locator.Locator.{Locator}
+use Rattle.block.specs.declared.spectrum.Spectrum.{Spectrum}
 use Rattle.block.specs.parts.Locator.{Located, Extended}
-use Rattle.block.specs.parts.LocatorAreas.{Locates}
-use Rattle.block.specs.parts.Spectrum.{SpectrumOf, Continued}
-use Rattle.block.specs.parts.Information.{InformationRead}
+use Rattle.block.specs.parts.Spectrum.{SpectrumOf}
+use Rattle.block.specs.parts.Factors.{times_factor, times_factors, unknown_places, Filled}
+use Rattle.block.specs.parts.Candidate.{syndromes_at, Begun, Candidate}
 use Rattle.block.specs.parts.Step.{InformationTo}
-use Rattle.block.proofs.LocatorBelow.{K, el, up, down, raise, fall, add_down, neg_down, tail_down, located_up}
-use Rattle.block.proofs.ErrorSpectrum.{spectrum}
+use Rattle.block.proofs.LocatorBelow.{K, el, up, down, raise, fall, add_down, mul_down, neg_down, tail_down, located_up}
+use Rattle.block.proofs.ErrorSpectrum.{spectrum as spectrum_of}
+use Rattle.block.proofs.Factors.{length_places}
+use Rattle.block.proofs.Thinning.{thinned, thinned_zero, thinned_unknown}
 use Rattle.block.proofs.Candidate.{degree_of_near, information_of_near}
 
 module _ (p : Setting) (S : Sound p) where
@@ -84,69 +93,146 @@ module _ (p : Setting) (S : Sound p) where
             (add_down q o B _ _ (down q o B (c (r + 1 + u)) (bc (r + 1 + u))) (tail_down q o B σ d bσ bd L (r + 1 + u))) (h.difference u l);
       }
 
-  module _ (l : ℕ) (level : l ≤ p.m) (block : List ℕ) (long : length block ≡ p.n) (symbols : Symbols q block) where
+  factors_down : (f : ℕ → ℕ) → ((i : ℕ) → f i < q) → (places : List ℕ) (j : ℕ)
+      → number (times_factors (K q o B).ops (root_of p S) places (up q o B f) j) ≡ times_factors o alpha places f j
+  unfolding times_factors times_factor
+  factors_down f below [] j = down q o B (f j) (below j)
+  factors_down f below (i ∷ places) zero = factors_down f below places zero
+  factors_down f below (i ∷ places) (suc j) =
+      add_down q o B _ _ (factors_down f below places (suc j))
+      (neg_down q o B _ (mul_down q o B _ _
+      (power_natural (K q o B).ops o number (keeps p S) (root_of p S) i ∙ ap (λ (a : ℕ). power o a i) (root_number p S))
+      (factors_down f below places j)))
+
+  -- A received block, and its symbols.
+  module _ (room : p.n < PLACES) {l : ℕ} (level : l ≤ p.m) {block symbols : List ℕ} (whole : length block ≡ p.n) (long : length symbols ≡ p.n)
+      (filled : Filled q block symbols) where
     fits : (l + 1) * p.k ≤ p.n
     fits = level_fits p S l level
 
-    module _ (x : ℕ → ℕ → ℕ) (information : InformationTo p l x) where
-      -- Twice the error's symbols are no more than the cost, since the received block costs nothing against itself.
-      error : ℕ → Element q
-      error i = sub (K q o B).ops (received p S block i) (combination over l (lifted p S x) i)
+    abbrev places : List ℕ
+    places = unknown_places q block
 
-      error_light : 2 * weight (K q o B).ops p.n error ≤ level_cost p (at block) l x
-      unfolding block_cost error
+    symbols_below : Symbols q symbols
+    symbols_below = all_symbols filled.below
+
+    module _ (x : ℕ → ℕ → ℕ) (information : InformationTo p l x) where
+      error : ℕ → Element q
+      error i = sub (K q o B).ops (received p S symbols i) (combination over l (lifted p S x) i)
+
+      thin : ℕ → Element q
+      thin = thinned (field_of p S) p.n (root_of p S) (order_at p S) places error
+
+      counted : ℕ → ℕ
+      counted i = pick (not ((K q o B).ops.is_zero (thin i))) 1 0
+
+      counted_most : (i : ℕ) → counted i ≤ 1
+      unfolding counted
+      counted_most i = one_le (not ((K q o B).ops.is_zero (thin i)))
+
+      uncounted : (i : ℕ) → thin i ≡ (K q o B).ops.zero → counted i ≡ 0
+      unfolding counted
+      uncounted i z = ap {B = ℕ} (λ (t : Bool). pick (not t) 1 0) (zero_test (K q o B) (thin i) z)
+
+      error_zero : (i : ℕ) → i < p.n → at block i < q → at block i ≡ combination (code_of p) l x i → error i ≡ (K q o B).ops.zero
+      unfolding error
+      error_zero i h k e =
+          let same : received p S symbols i ≡ combination over l (lifted p S x) i =
+          raise q o B _ _
+          (received_number p S symbols symbols_below i ∙ filled.same i (omega (arith, whole)) ∙ ap (λ (t : Bool). pick t 0 (at block i)) (known_byte k))
+          (combination_number p S x l i information) e in
+          ap (λ (t : Element q). sub (K q o B).ops t (combination over l (lifted p S x) i)) same ∙ sub_self (K q o B) (combination over l (lifted p S x) i)
+
+      -- A symbol costs two where the thinned error is not zero, and one where it is unknown: there the thinned error is zero.
+      symbol_pays : (i : ℕ) → i < p.n → 2 * counted i + pick (is_unknown q (at block i)) 1 0 ≤ symbol_cost q (at block i) (combination (code_of p) l x i)
+      unfolding thin
+      symbol_pays i h = by_byte (dec_lt (at block i) q)
+        where
+          one : (t : Bool) → {b : Bool} → t ≡ b → ◌≡◌ {A = ℕ} (pick t 1 0) (pick b 1 0)
+          one t e = ap {B = ℕ} (λ (b : Bool). pick b 1 0) e
+
+          by_symbol : at block i < q → Dec (at block i ≡ combination (code_of p) l x i)
+              → 2 * counted i + pick (is_unknown q (at block i)) 1 0 ≤ symbol_cost q (at block i) (combination (code_of p) l x i)
+          by_symbol k (yes e) =
+              let zero = thinned_zero (field_of p S) p.n (root_of p S) (order_at p S) places error i (error_zero i h k e) in
+              omega (arith, one _ (known_byte k), uncounted i zero)
+          by_symbol k (no d) = omega (arith, one _ (known_byte k), cost_differ q (at block i) (combination (code_of p) l x i) k d, counted_most i)
+
+          by_byte : Dec (at block i < q) → 2 * counted i + pick (is_unknown q (at block i)) 1 0 ≤ symbol_cost q (at block i) (combination (code_of p) l x i)
+          by_byte (yes k) = by_symbol k (ℕ_discrete (at block i) (combination (code_of p) l x i))
+          by_byte (no d) =
+              let past : q ≤ at block i = omega arith in
+              let zero = thinned_unknown (field_of p S) p.n (root_of p S) (order_at p S) (λ a. is_unknown q (at block a)) (length block) error i
+              (omega (arith, whole)) (unknown_byte past) in
+              omega (arith, one _ (unknown_byte past), cost_unknown q (at block i) (combination (code_of p) l x i) past, uncounted i zero)
+
+      -- So the block costs at least twice the thinned error's weight, and its unknown places besides.
+      error_light : 2 * weight (K q o B).ops p.n thin + length places ≤ level_cost p (at block) l x
+      unfolding block_cost counted
       error_light =
           omega (
             arith,
-            weight_apart (K q o B) (byte_cost q) (bytes_apart q) p.n (at block) (received p S block) (combination over l (lifted p S x)) error (λ i. refl),
-            total_most p.n 0 (λ i. byte_cost q (at block i) (received p S block i))
-                (λ i h. omega (arith, cost_same q (at block i) (number (received p S block i)) (sym (received_number p S block symbols i)))),
-            total_ext p.n (λ i. byte_cost q (at block i) (combination over l (lifted p S x) i))
-                (λ i. symbol_cost q (at block i) (combination (code_of p) l x i))
-                (λ i h. ap (symbol_cost q (at block i)) (combination_number p S x l i information)),
+            total_mono p.n _ _ symbol_pays,
+            total_add p.n (λ i. 2 * counted i) (λ i. pick (is_unknown q (at block i)) 1 0),
+            total_scale p.n 2 counted,
+            length_places (λ i. is_unknown q (at block i)) (length block),
+            ap (λ (t : ℕ). count_of t (λ i. is_unknown q (at block i))) whole,
           )
 
-      module _ (series : List ℕ) (σ : Locator) (close : level_cost p (at block) l x < level_distance p.n p.k l)
-          (located : Locates q series (p.n - (l + 1) * p.k) σ) where
-        values_up : (count : ℕ) → SpectrumOf q block count series → (s : ℕ) → s < count
-            → up q o B (at series) (suc s) ≡ spectrum (field_of p S) p.n (root_of p S) (order_at p S) (received p S block) s
-        values_up count spectral s h =
-            raise q o B _ _ (down q o B (at series (suc s)) (spectral.below (suc s))) (value_number p S block symbols long s)
+      module _ {spectrum : Spectrum} {σ : Locator} (b : Begun p l block symbols spectrum σ)
+          (close : level_cost p (at block) l x < level_distance p.n p.k l) where
+        values_up : (count : ℕ) {series : List ℕ} → SpectrumOf q symbols count series → (s : ℕ) → s < count
+            → up q o B (at series) (suc s) ≡ spectrum_of (field_of p S) p.n (root_of p S) (order_at p S) (received p S symbols) s
+        values_up count {series} spectral s h =
+            raise q o B _ _ (down q o B (at series (suc s)) (spectral.below (suc s))) (value_number p S symbols symbols_below long s)
             (ap (at series) (sym (add-one s)) ∙ spectral.values s h)
 
-        locator_up : ((i : ℕ) → at series i < q)
-            → Located (K q o B).ops (up q o B (at series)) (p.n - (l + 1) * p.k) σ.degree σ.place (el q o B σ.scale) (up q o B (at σ.coefficients))
-            (up q o B (at σ.former))
-        locator_up below =
-            located_up q o B (at series) (at σ.coefficients) (at σ.former) σ.scale
-            below located.locator_below located.former_below located.scale_below located.located
+        syndromes : SpectrumOf q symbols (syndromes_at p l) spectrum.series
+        syndromes = subst (λ (t : ℕ). SpectrumOf q symbols t spectrum.series) b.all b.known.spectral
 
-        pub degree_of_near_below : SpectrumOf q block (p.n - (l + 1) * p.k) series → 2 * σ.degree < level_distance p.n p.k l
-        unfolding error
-        degree_of_near_below spectral =
-            let short = degree_of_near (field_of p S) (root_of p S) p.n p.k p.m (order_at p S) l fits (received p S block) (lifted p S x)
-            (weight (K q o B).ops p.n error) (omega arith) (omega (arith, error_light))
-            (up q o B (at series)) (values_up (p.n - (l + 1) * p.k) spectral)
-            σ.degree σ.place (el q o B σ.scale) (up q o B (at σ.coefficients)) (up q o B (at σ.former)) (locator_up spectral.below) in
-            omega (arith, short, error_light)
+        modified_up : (s : ℕ) → length places + s < syndromes_at p l
+            → up q o B (at b.modified) (suc s) ≡ times_factors (K q o B).ops (root_of p S) places (up q o B (at spectrum.series)) (suc (length places + s))
+        modified_up s h =
+            raise q o B _ _ (down q o B (at b.modified (suc s)) (b.modifies.below (suc s)))
+            (factors_down (at spectrum.series) syndromes.below places (suc (length places + s)))
+            (ap (at b.modified) (sym (add-one s)) ∙ b.modifies.terms s h ∙ ap (times_factors o alpha places (at spectrum.series)) (add-one (length places + s)))
 
-        pub read_of_near : (after values found : List ℕ)
-            → SpectrumOf q block p.n series
-            → Continued q σ.degree (p.n - (l + 1) * p.k) ((l + 1) * p.k) σ.coefficients series after values
-            → InformationRead p (l + 1) values found
-            → (b a : ℕ) → b ≤ l → a < p.k → at found (b * p.k + a) ≡ x b a
-        unfolding lifted error
-        read_of_near after values found spectral continued reads b a below inside =
-            fall q o B (down q o B (at found (b * p.k + a)) (reads.below (b * p.k + a))) (down q o B (x b a) (information b a below inside))
-            (information_of_near (field_of p S) (root_of p S) p.n p.k p.m (order_at p S) l fits (received p S block) (lifted p S x)
-            (weight (K q o B).ops p.n error) (omega arith) (omega (arith, error_light))
-            (up q o B (at series)) (λ s h. values_up p.n spectral s (omega arith))
-            σ.degree σ.place (el q o B σ.scale) (up q o B (at σ.coefficients)) (up q o B (at σ.former)) (locator_up spectral.below)
-            (values_up p.n spectral)
-            (up q o B (at after)) (up q o B (at values))
-            (extended_up σ.degree (p.n - (l + 1) * p.k) ((l + 1) * p.k) (at σ.coefficients) (at series) (at after) (at values)
-            located.locator_below spectral.below continued.below continued.values_below continued.extended)
-            b (up q o B (view p.k found b)) below
-            (recovered_up (view p.k values b) (λ e. continued.values_below (b * p.k + e)) p.k (view p.k found b) (λ r. reads.below (b * p.k + r))
-            (reads.recovered b (omega arith)))
-            a inside)
+        located : Located (K q o B).ops (up q o B (at b.modified)) (syndromes_at p l - length places) b.found.degree b.found.place (el q o B b.found.scale)
+            (up q o B (at b.found.coefficients)) (up q o B (at b.found.former))
+        located =
+            located_up q o B (at b.modified) (at b.found.coefficients) (at b.found.former) b.found.scale
+            b.modifies.below b.located.locator_below b.located.former_below b.located.scale_below b.located.located
+
+        degree_short : b.found.degree ≤ weight (K q o B).ops p.n thin
+        unfolding error thin
+        degree_short =
+            degree_of_near (field_of p S) (root_of p S) p.n p.k p.m (order_at p S) l fits (received p S symbols) places (lifted p S x)
+            (weight (K q o B).ops p.n thin) (omega arith) (omega (arith, error_light, close))
+            (up q o B (at spectrum.series)) (up q o B (at b.modified)) (values_up (syndromes_at p l) syndromes) modified_up
+            b.found.degree b.found.place (el q o B b.found.scale) (up q o B (at b.found.coefficients)) (up q o B (at b.found.former)) located
+
+        pub degree_of_near_below : 2 * σ.degree < level_distance p.n p.k l + length places
+        degree_of_near_below = omega (arith, close, degree_short, error_light, b.included.degree)
+
+        pub read_of_near : {found : List ℕ} → Candidate p l symbols σ found → (a r : ℕ) → a ≤ l → r < p.k → at found (a * p.k + r) ≡ x a r
+        unfolding lifted error thin
+        read_of_near {found} C a r below inside =
+            fall q o B (down q o B (at found (a * p.k + r)) (C.reads.below (a * p.k + r))) (down q o B (x a r) (information a r below inside))
+            (information_of_near (field_of p S) (root_of p S) p.n p.k p.m (order_at p S) l fits (received p S symbols) places (lifted p S x)
+            (weight (K q o B).ops p.n thin) (omega arith) (omega (arith, error_light, close))
+            (up q o B (at spectrum.series)) (up q o B (at b.modified)) (values_up (syndromes_at p l) syndromes) modified_up
+            b.found.degree b.found.place (el q o B b.found.scale) (up q o B (at b.found.coefficients)) (up q o B (at b.found.former)) located
+            (up q o B (at C.series)) (values_up p.n C.spectral)
+            (up q o B (at σ.coefficients)) (up q o B (at C.after)) (up q o B (at C.values))
+            (λ j h. raise q o B _ _ (down q o B (at σ.coefficients j) (b.included.factored.below j))
+            (factors_down (at b.found.coefficients) b.located.locator_below places j)
+            (b.included.factored.terms j (omega (arith, h, degree_short, error_light, close, room))))
+            (subst (λ (L : ℕ). Extended (K q o B).ops L (syndromes_at p l) ((l + 1) * p.k)
+            (up q o B (at σ.coefficients)) (up q o B (at C.series)) (up q o B (at C.after)) (up q o B (at C.values)))
+            b.included.degree
+            (extended_up σ.degree (syndromes_at p l) ((l + 1) * p.k) (at σ.coefficients) (at C.series) (at C.after) (at C.values)
+            b.included.factored.below C.spectral.below C.continued.below C.continued.values_below C.continued.extended))
+            a (up q o B (view p.k found a)) below
+            (recovered_up (view p.k C.values a) (λ e. C.continued.values_below (a * p.k + e)) p.k (view p.k found a) (λ e. C.reads.below (a * p.k + e))
+            (C.reads.recovered a (omega arith)))
+            r inside)

@@ -113,6 +113,9 @@ module _ {F : Type 0} (K : Field F) (n : ℕ) (α : F) (order : HasOrder K.ops n
         (λ s l. against_known L σ located.short s (omega (arith, degree_of_light w light small))
         ∙ located.annihilates (suc (L + s)) (omega arith) (omega (arith, degree_of_light w light small)))
 
+  -- A series that begins with 1 and annihilates the whole spectrum of e continues what is known of it, if its degree is at most that.
+  module _ (r : ℕ) (e c : ℕ → F) (known : (s : ℕ) → s < r → c (suc s) ≡ spectrum e s)
+      (L : ℕ) (σ : ℕ → F) (first : σ 0 ≡ 𝟙) (short : L ≤ r) (annihilated : (s : ℕ) → against L σ e s ≡ 𝟘) where
     against_tail : (j : ℕ) → L ≤ j → against L σ e (j - L) ≡ spectrum e j ⊕ tail K.ops L σ (spectrum e) j
     unfolding tail
     against_tail j l =
@@ -120,13 +123,12 @@ module _ {F : Type 0} (K : Field F) (n : ℕ) (α : F) (order : HasOrder K.ops n
         let begin : j - 0 ≡ j = omega arith in
         ap (λ (t : ℕ). sum K.ops (suc L) (λ a. σ a ⊗ spectrum e (t - a))) whole
         ∙ sum_first K L (λ a. σ a ⊗ spectrum e (j - a))
-        ∙ ap₂ ◌⊕◌ (ap₂ ◌⊗◌ located.first (ap (spectrum e) begin) ∙ one-mul K (spectrum e j))
+        ∙ ap₂ ◌⊕◌ (ap₂ ◌⊗◌ first (ap (spectrum e) begin) ∙ one-mul K (spectrum e j))
         (sum_ext K.ops L (λ a. σ (suc a) ⊗ spectrum e (j - suc a)) (λ a. σ (a + 1) ⊗ spectrum e (j - (a + 1)))
         (λ a s. ap (λ (t : ℕ). σ t ⊗ spectrum e (j - t)) (sym (add-one a))))
 
     -- The series continued by the recurrence is the spectrum of e.
-    module _ (d : ℕ → F) (values : ℕ → F) (m : ℕ) (extended : Extended K.ops L r m σ c d values) (w : ℕ) (light : weight K.ops n e ≤ w)
-        (small : w + w ≤ r) where
+    module _ (d : ℕ → F) (values : ℕ → F) (m : ℕ) (extended : Extended K.ops L r m σ c d values) where
       tails : (s : ℕ) → L ≤ s → s < r + m → ((t : ℕ) → t < s → t < r + m → d (suc t) ≡ spectrum e t)
           → tail K.ops L σ d (suc s) ≡ tail K.ops L σ (spectrum e) s
       unfolding tail
@@ -142,12 +144,12 @@ module _ {F : Type 0} (K : Field F) (n : ℕ) (α : F) (order : HasOrder K.ops n
           at : Dec (s < r) → ((t : ℕ) → t < bound → t < r + m → d (suc t) ≡ spectrum e t) → d (suc s) ≡ spectrum e s
           at (yes h) earlier = extended.kept (suc s) h ∙ known s h
           at (no outside) earlier =
-              let reach : L ≤ s = omega (arith, degree_of_light w light small) in
+              let reach : L ≤ s = omega arith in
               let place : r + 1 + (s - r) ≡ suc s = omega arith in
               subst (λ (t : ℕ). d t ≡ ⊖ tail K.ops L σ d t) place (extended.recurs (s - r) (omega arith))
               ∙ ap (λ (t : F). ⊖ t) (tails s reach l (λ t u. earlier t (omega arith)))
               ∙ sym (neg_unique K (tail K.ops L σ (spectrum e) s) (spectrum e s)
-              (add_comm K (tail K.ops L σ (spectrum e) s) (spectrum e s) ∙ sym (against_tail s reach) ∙ recurs_of_light w light small (s - L)))
+              (add_comm K (tail K.ops L σ (spectrum e) s) (spectrum e s) ∙ sym (against_tail s reach) ∙ annihilated (s - L)))
 
       pub extension_is_spectrum : (s : ℕ) → s < r + m → d (suc s) ≡ spectrum e s
       extension_is_spectrum s l = up_to (suc s) s (omega arith) l

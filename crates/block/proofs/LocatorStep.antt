@@ -1,6 +1,5 @@
 -- Berlekamp and Massey's algorithm, one place at a time, over any field.
--- Holds: `located_start`; the three outcomes at a place: `located_kept`, `located_corrected`, `located_grown`; `convolution_short`, `convolution_tail`;
--- `located_ext`.
+-- Holds: `located_start`; the three outcomes at a place: `located_kept`, `located_corrected`, `located_grown`; `convolution_short`, `convolution_tail`.
 use mathlib.Core.Path.{◌≡◌, refl, sym, ap, ap₂, ◌∙◌}
 use Prim.Native.Nat.{ℕ, suc, ◌+◌, ◌-◌, ◌≤◌, ◌<◌}
 use native.Mathlib.Nat.{add-suc as nat_add_suc}
@@ -14,27 +13,12 @@ use Rattle.algebra.proofs.Sums.{sum_ext, sum_add, sum_scale, sum_zeros, sum_firs
 use Rattle.block.specs.parts.Locator.{convolution, tail, Located, Subtracted}
 
 -- A convolution looks at the first j+1 terms of each side, over any operations.
-pub convolution_ext : {F : Type 0} (o : Ops F) (a b c d : ℕ → F) (j : ℕ) → ((i : ℕ) → i ≤ j → a i ≡ b i) → ((i : ℕ) → i ≤ j → c i ≡ d i)
+convolution_ext : {F : Type 0} (o : Ops F) (a b c d : ℕ → F) (j : ℕ) → ((i : ℕ) → i ≤ j → a i ≡ b i) → ((i : ℕ) → i ≤ j → c i ≡ d i)
     → convolution o a c j ≡ convolution o b d j
 unfolding convolution
 convolution_ext o a b c d j h k =
     sum_ext o (suc j) (λ i. o.mul (a i) (c (j - i))) (λ i. o.mul (b i) (d (j - i)))
     (λ i l. ap₂ o.mul (h i (omega arith)) (k (j - i) (omega arith)))
-
--- A locator of the first terms of a series is one for every series that begins with them.
-pub located_ext : {F : Type 0} (o : Ops F) (c d : ℕ → F) {s L p : ℕ} {scale : F} {σ τ : ℕ → F} → ((i : ℕ) → i ≤ s → d i ≡ c i)
-    → Located o c s L p scale σ τ → Located o d s L p scale σ τ
-located_ext o c d {s} {L} {p} {scale} {σ} {τ} same h =
-    record {
-      grown = h.grown;
-      placed = h.placed;
-      first = h.first;
-      short = h.short;
-      annihilates = λ j l u. convolution_ext o σ σ d c j (λ i v. refl) (λ i v. same i (omega arith)) ∙ h.annihilates j l u;
-      former_short = h.former_short;
-      former_annihilates = λ j l u. convolution_ext o τ τ d c j (λ i v. refl) (λ i v. same i (omega (arith, h.placed))) ∙ h.former_annihilates j l u;
-      former_discrepancy = ap (o.mul scale) (convolution_ext o τ τ d c p (λ i v. refl) (λ i v. same i (omega (arith, h.placed)))) ∙ h.former_discrepancy;
-    }
 
 module _ {F : Type 0} (K : Field F) where
   infixl 60 ◌⊕◌

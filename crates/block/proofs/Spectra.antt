@@ -1,8 +1,8 @@
 -- The loops on spectra: their promises before the first turn, and after one more.
--- Holds: `point_more`, `spectrum_more`, `known_none`; `found_longer`; `tail_ext`, `continued_more`.
+-- Holds: `point_none`, `point_more`, `spectrum_more`, `known_none`; `tail_ext`, `continued_more`.
 use mathlib.Core.Path.{◌≡◌, refl, sym, ap, ap₂, subst, ◌∙◌}
 use mathlib.Core.List.{List}
-use Prim.Native.Nat.{ℕ, zero, suc, ◌+◌, ◌-◌, ◌≤◌, ◌<◌}
+use Prim.Native.Nat.{ℕ, ◌+◌, ◌-◌, ◌<◌}
 use native.Mathlib.Numerals.{add-one}
 use native.Mathlib.Omega.{arith}
 use lib.ListN.{length, get_or, set}
@@ -17,16 +17,14 @@ use Rattle.field.specs.Fields.{ops_of, alpha}
 use Rattle.field.specs.parts.Sequences.{at}
 use Rattle.field.proofs.Laws.{laws_of}
 use Rattle.field.proofs.Symbols.{below_set}
-use Rattle.block.specs.declared.locator.Locator.{Locator}
 use Rattle.block.specs.declared.spectrum.Spectrum.{Spectrum}
 use Rattle.block.specs.parts.Locator.{tail}
-use Rattle.block.specs.parts.LocatorAreas.{UnitSeries, Locates}
+use Rattle.block.specs.parts.LocatorAreas.{UnitSeries}
 use Rattle.block.specs.parts.Spectrum.{SpectrumOf, SpectrumKnown, Continued}
-use Rattle.block.proofs.LocatorStep.{located_ext}
 use Rattle.block.proofs.LocatorPair.{unit_below}
 
 module _ (q : ℕ) where
-  point_none : Good q → Is q 1 (power (ops_of q) alpha 0)
+  pub point_none : Good q → Is q 1 (power (ops_of q) alpha 0)
   unfolding power ops_of
   point_none good = record { same = refl; below = (laws_of q good).one_below }
 
@@ -45,21 +43,6 @@ module _ (q : ℕ) where
         next = subst (λ (t : ℕ). Is q s.point (power (ops_of q) alpha t)) (sym none)
             (subst (λ (t : ℕ). Is q t (power (ops_of q) alpha 0)) (sym point) (point_none good));
       }
-
-  -- A locator for the first values of a block's spectrum, where more of them stand.
-  pub found_longer : (block : List ℕ) (known more : ℕ) (series longer : List ℕ) {σ : Locator} → known ≤ more
-      → SpectrumOf q block known series → SpectrumOf q block more longer → Locates q series known σ → Locates q longer known σ
-  found_longer block known more series longer up_to_lem h k f =
-      record {
-        locator_below = f.locator_below;
-        former_below = f.former_below;
-        scale_below = f.scale_below;
-        located = located_ext (ops_of q) (at series) (at longer) same f.located;
-      }
-    where
-      same : (i : ℕ) → i ≤ known → at longer i ≡ at series i
-      same zero l = k.first ∙ sym h.first
-      same (suc s) l = ap (at longer) (sym (add-one s)) ∙ k.values s (omega arith) ∙ sym (h.values s (omega arith)) ∙ ap (at series) (add-one s)
 
   pub spectrum_more : (block series : List ℕ) (s point v : ℕ) → SpectrumOf q block s series → s + 1 < length series → Is q point (power (ops_of q) alpha s)
       → Is q v (value (ops_of q) block point) → SpectrumOf q block (s + 1) (set series (s + 1) v)

@@ -4,5 +4,6 @@ pub mod Marking
 pub mod Locator
 pub mod LocatorAreas
 pub mod Spectrum
+pub mod Factors
 pub mod Information
 pub mod Candidate

@@ -32,7 +32,7 @@ pub fn unit() -> [u8; PLACES]
 
 // Subtracts from the target factor times the source, moved up by `shift` places. That symbols are below q stays a clause here and below: a type for it would keep a
 // reference to the field beside each array of sixteen bytes, and say no more.
-fn subtract_multiple(
+pub fn subtract_multiple(
     field: &Field,
     factor: u8,
     shift: usize,

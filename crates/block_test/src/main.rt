@@ -54,7 +54,6 @@ struct Level<'a> {
 struct Received<'a> {
     level: Level<'a>,
     block: &'a [u8],
-    ghost symbols: { Symbols level.tables.now.setting.q block.now },
     ghost long: { length block.now ≡ level.tables.now.setting.n },
 }
 

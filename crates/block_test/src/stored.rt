@@ -1,9 +1,8 @@
 // The blocks of the stored input, repaired; tests/vectors/rattle.py makes stdin and stdout.
 //
-// A line in: the setting and the level, a digit and a space each, then the block's symbols, two digits each. All digits are hexadecimal.
+// A line in: the setting and the level, a digit and a space each, then the block's symbols, two digits each, ff for an unknown one. All digits are hexadecimal.
 // A line out: the code block, two digits a symbol, or `none`; then a digit for each symbol, 1 where it is marked.
-ghost use Rattle.std.specs.Prelude.{◌≡◌, ◌≤◌, ◌<◌, IfOk, length};
-ghost use Rattle.field.specs.Symbols.{Symbols};
+ghost use Rattle.std.specs.Prelude.{◌≡◌, ◌≤◌, length};
 
 use code::SettingNumber;
 use std::io::{Error, ErrorKind, Read, Write};
@@ -26,12 +25,10 @@ fn read_digit(rt: &HostRuntime) -> Result<u8, Error> {
     }
 }
 
-// A symbol below q.
-fn read_symbol(rt: &HostRuntime, q: usize) -> Result<u8, Error>
-    ensures { IfOk result (λ symbol. symbol < q) }
-{
+// A symbol below q, or the mark of an unknown one.
+fn read_symbol(rt: &HostRuntime, q: usize) -> Result<u8, Error> {
     let symbol = read_digit(rt)? << 4 | read_digit(rt)?;
-    if q <= usize::from(symbol) {
+    if q <= usize::from(symbol) && symbol != u8::MAX {
         return Err(Error::from(ErrorKind::InvalidData));
     }
     Ok(symbol)
@@ -39,7 +36,7 @@ fn read_symbol(rt: &HostRuntime, q: usize) -> Result<u8, Error>
 
 // Repairs a block, and writes what came of it.
 fn show_repair(rt: &HostRuntime, tables: &Tables, block: &[u8], l: usize) -> Result<(), Error>
-    requires { (length block.now ≡ tables.now.setting.n) × Symbols tables.now.setting.q block.now × (l ≤ tables.now.setting.m) }
+    requires { (length block.now ≡ tables.now.setting.n) × (l ≤ tables.now.setting.m) }
 {
     let n = tables.setting.n;
     // Ones, so that marks that are not cleared show.
