@@ -1,13 +1,13 @@
 -- Marks as bits of a number. Holds: `bit_inside` and `bit_past` (bit i of the number is the test at i for i < n, and 0 from n on), `bits_small`,
 -- `bits_agree`, `ones_bits` (as many ones as tests that hold); `bit_more`, `folded_bits` (as a fold over two lists makes them).
 use mathlib.Core.Path.{◌≡◌, refl, sym, ap, ap₂, ◌∙◌}
-use mathlib.Core.Bool.{Bool, true, false, not}
+use mathlib.Core.Bool.{Bool, true, false}
 use mathlib.Core.List.{List, [], ◌∷◌, ◌++◌, reverse}
 use Prim.Native.Nat.{ℕ, zero, suc, ◌+◌, ◌*◌, ◌/◌, ◌%◌, ◌^◌, ◌≤◌, ◌<◌}
 use native.Mathlib.Nat.{div-div-eq-div-mul, div-eq_of_lt, div-one, mul_comm, pow-suc}
 use native.Mathlib.Omega.{arith}
 use lib.Count.{ones, ones_step}
-use lib.Dec.{eqb, lit<, lit≤}
+use lib.Dec.{lit<, lit≤}
 use lib.ListN.{length, get_or}
 use lib.Pow.{pow_mono}
 use Rattle.std.specs.Prelude.{bit_or}
@@ -19,7 +19,7 @@ use Rattle.std.proofs.lemmas.Nat.{or_shifted, shl_whole}
 use Rattle.algebra.specs.Ops.{pick}
 use Rattle.algebra.specs.Weight.{total, count_of}
 use Rattle.algebra.proofs.Weights.{one_le}
-use Rattle.display.specs.Marks.{bits}
+use Rattle.display.specs.Marks.{bits, is_marked}
 
 -- The lowest bit, and the others.
 module _ (n : ℕ) (test : ℕ → Bool) where
@@ -76,13 +76,13 @@ ones_bits (suc n) test =
 
 -- Marks as a fold from the last place on makes them: below those of the later places comes the mark of the one before.
 abbrev pub bit_more : ℕ → ℕ × ℕ → ℕ
-bit_more set p = bit_or (set * 2 ^ 1 % 2 ^ 64) (from_bool (not (eqb p.0 p.1)))
+bit_more set p = bit_or (set * 2 ^ 1 % 2 ^ 64) (from_bool (is_marked p.0 p.1))
 
 -- No mark is shifted out while there is room.
-bit_more_is : (set : ℕ) (a b : ℕ) → set < 2 ^ 63 → bit_more set (a, b) ≡ set * 2 + pick (not (eqb a b)) 1 0
+bit_more_is : (set : ℕ) (a b : ℕ) → set < 2 ^ 63 → bit_more set (a, b) ≡ set * 2 + pick (is_marked a b) 1 0
 bit_more_is set a b h =
-    ap (λ (t : ℕ). bit_or t (from_bool (not (eqb a b)))) (shl_whole set 63 1 64 h (lit≤ tt))
-    ∙ (or_shifted set 1 (from_bool (not (eqb a b))) (small (not (eqb a b))) ∙ ap (λ (t : ℕ). set * 2 + t) (same (not (eqb a b))))
+    ap (λ (t : ℕ). bit_or t (from_bool (is_marked a b))) (shl_whole set 63 1 64 h (lit≤ tt))
+    ∙ (or_shifted set 1 (from_bool (is_marked a b)) (small (is_marked a b)) ∙ ap (λ (t : ℕ). set * 2 + t) (same (is_marked a b)))
   where
     small : (t : Bool) → from_bool t < 2 ^ 1
     small true = lit< tt
@@ -100,19 +100,19 @@ zip_last (u ∷ a) [] x y e = absurd (omega arith)
 zip_last (u ∷ a) (v ∷ b) x y e = ap (λ (t : List (ℕ × ℕ)). (u, v) ∷ t) (zip_last a b x y (omega arith))
 
 pub folded_bits : (a b : List ℕ) → length b ≡ length a → length a ≤ 64
-    → fold bit_more 0 (zip (reverse a) (reverse b)) ≡ bits (length a) (λ i. not (eqb (get_or a i 0) (get_or b i 0)))
+    → fold bit_more 0 (zip (reverse a) (reverse b)) ≡ bits (length a) (λ i. is_marked (get_or a i 0) (get_or b i 0))
 unfolding bits
 folded_bits [] [] e h = refl
 folded_bits [] (y ∷ b) e h = absurd (omega arith)
 folded_bits (x ∷ a) [] e h = absurd (omega arith)
 folded_bits (x ∷ a) (y ∷ b) e h =
-    let test : ℕ → Bool = λ i. not (eqb (get_or a i 0) (get_or b i 0)) in
+    let test : ℕ → Bool = λ i. is_marked (get_or a i 0) (get_or b i 0) in
     let same : length (reverse a) ≡ length (reverse b) = omega (arith, length-reverse a, length-reverse b) in
     let later : fold bit_more 0 (zip (reverse a) (reverse b)) ≡ bits (length a) test = folded_bits a b (omega arith) (omega arith) in
     let few : length a ≤ 63 = omega arith in
     let room : 2 ^ length a ≤ 2 ^ 63 = pow_mono few in
     let small : bits (length a) test < 2 ^ 63 = omega (arith, bits_small (length a) test, room) in
-    let last : bits (length a) test * 2 + pick (not (eqb x y)) 1 0 ≡ pick (not (eqb x y)) 1 0 + 2 * bits (length a) test = omega arith in
+    let last : bits (length a) test * 2 + pick (is_marked x y) 1 0 ≡ pick (is_marked x y) 1 0 + 2 * bits (length a) test = omega arith in
     ap₂ (λ (s t : List ℕ). fold bit_more 0 (zip s t)) (reverse_onto a x []) (reverse_onto b y [])
     ∙ (ap (fold bit_more 0) (zip_last (reverse a) (reverse b) x y same)
     ∙ (fold-append bit_more 0 (zip (reverse a) (reverse b)) ((x, y) ∷ [])

@@ -1,4 +1,4 @@
-// What is shown of a window: window j of a reception, as that part of the caller's own bytes, and where it differs from a transmission (module `mark`).
+// What is shown of a window: window j of a reception, as that part of the caller's own bytes, and where it is unknown or differs from a transmission (`mark`).
 // The calls take any number for the setting: the questions are asked here.
 #![tactic(auto)]
 
@@ -14,7 +14,7 @@ ghost use Rattle.display.specs.Display.{window_of};
 ghost use Rattle.display.specs.Marks.{marks_answer};
 
 use mark::Differences;
-use question::answer::Answer;
+use question::answer::{Answer, Counts};
 use question::refusal::Refusal;
 use question::shape::Shape;
 
@@ -32,7 +32,7 @@ impl From<Result<Differences, Refusal>> for Marks {
     ghost from_gives = { λ outcome r. r ≡ marks_answer outcome };
 
     fn from(outcome: Result<Differences, Refusal>) -> Marks {
-        let answer = Answer::from(outcome.map(|_| 0));
+        let answer = Answer::from(outcome.map(|_| Counts::default()));
         let found = outcome.unwrap_or_default();
         Marks {
             answer,

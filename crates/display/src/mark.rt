@@ -1,8 +1,9 @@
 // Marks: where a reception and a transmission differ in a window.
-ghost use Rattle.std.specs.Prelude.{◌≡◌, not, ◌≤◌, eqb, length, get_or};
-ghost use Rattle.display.specs.Marks.{bits, marks_answer, Marked};
+ghost use Rattle.std.specs.Prelude.{◌≡◌, ◌≤◌, length, get_or};
+ghost use Rattle.display.specs.Marks.{bits, is_marked, marks_answer, Marked};
 
 use super::window_part;
+use question::UNKNOWN_MARK;
 use question::refusal::Refusal;
 
 // The differences in a window, one bit a symbol, the earliest lowest, and how many are set.
@@ -12,14 +13,21 @@ pub struct Differences {
     pub set: u32,
 }
 
-// The differences of two parts of one length, one bit a place, the first lowest: made from the last place on.
-fn difference_bits(received: &[u8], sent: &[u8]) -> u64
+// Whether a symbol is marked: it is unknown, whatever was sent, or it differs.
+fn is_marked(received: u8, sent: u8) -> bool
+    ensures { result ≡ is_marked received sent }
+{
+    received == UNKNOWN_MARK || received != sent
+}
+
+// The marks of two parts of one length, one bit a place, the first lowest: made from the last place on.
+fn mark_bits(received: &[u8], sent: &[u8]) -> u64
     requires same { length sent.now ≡ length received.now }
     requires short { length received.now ≤ 64 }
-    ensures { result ≡ bits (length received.now) (λ i. not (eqb (get_or received.now i 0) (get_or sent.now i 0))) }
+    ensures { result ≡ bits (length received.now) (λ i. is_marked (get_or received.now i 0) (get_or sent.now i 0)) }
 {
     let from_last = received.iter().rev().zip(sent.iter().rev());
-    from_last.fold(0, |set, (a, b)| set << 1 | u64::from(a != b))
+    from_last.fold(0, |set, (a, b)| set << 1 | u64::from(is_marked(*a, *b)))
 }
 
 // The marks of window j and how many are set, or the first of questions 1, 2, 3, 12 and 13 that gets "no".
@@ -34,7 +42,7 @@ pub fn marks(
     let shape = question::marks_questions(number, reception.len(), transmission.len(), j)?;
     let received = window_part(shape, reception, j);
     let sent = window_part(shape, transmission, j);
-    let marks = difference_bits(received, sent);
+    let marks = mark_bits(received, sent);
     Ok(Differences {
         marks,
         set: marks.count_ones(),

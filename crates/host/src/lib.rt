@@ -9,7 +9,7 @@ ghost use Rattle.link.specs.Encoding.{Encoded};
 ghost use Rattle.link.specs.Decoding.{Decoded};
 
 use display::Marks;
-use question::answer::Answer;
+use question::answer::{Answer, Counts};
 
 // struct orderlink_answer orderlink_encode(uint64_t setting, const uint8_t *message, size_t message_len,
 //                                          uint8_t *transmission, size_t transmission_len);
@@ -18,7 +18,7 @@ use question::answer::Answer;
 pub extern "C" fn orderlink_encode(setting: u64, message: &[u8], transmission: &mut [u8]) -> Answer
     ensures { Encoded setting message.now transmission.old result transmission.new }
 {
-    Answer::from(link::encode::encode(setting, message, transmission).map(|()| 0))
+    Answer::from(link::encode::encode(setting, message, transmission).map(|()| Counts::default()))
 }
 
 // struct orderlink_answer orderlink_decode(uint64_t setting, const uint8_t *reception, size_t reception_len,

@@ -3,7 +3,7 @@ ghost use Rattle.weave.specs.Weaving.{woven, unwoven, Laid};
 ghost use Rattle.link.specs.Woven.{DecodedWoven};
 
 use link::woven::WovenAnswer;
-use question::answer::Answer;
+use question::answer::{Answer, Counts};
 
 // struct orderlink_answer orderlink_weave(uint64_t setting, uint64_t frames, const uint8_t *in, size_t in_len,
 //                                         uint8_t *out, size_t out_len);
@@ -17,7 +17,7 @@ pub extern "C" fn orderlink_weave(
 ) -> Answer
     ensures { Laid setting frames incoming.now (woven frames incoming.now) out.old result out.new }
 {
-    Answer::from(weave::weave(setting, frames, incoming, out).map(|()| 0))
+    Answer::from(weave::weave(setting, frames, incoming, out).map(|()| Counts::default()))
 }
 
 // struct orderlink_answer orderlink_unweave(uint64_t setting, uint64_t frames, const uint8_t *in, size_t in_len,
@@ -32,7 +32,7 @@ pub extern "C" fn orderlink_unweave(
 ) -> Answer
     ensures { Laid setting frames incoming.now (unwoven frames incoming.now) out.old result out.new }
 {
-    Answer::from(weave::unweave(setting, frames, incoming, out).map(|()| 0))
+    Answer::from(weave::unweave(setting, frames, incoming, out).map(|()| Counts::default()))
 }
 
 // struct orderlink_woven orderlink_decode_woven(uint64_t setting, uint64_t frames, const uint8_t *reception, size_t reception_len,

@@ -1,48 +1,40 @@
 -- Digits: values of characters, and characters of values.
--- Holds: `digit_low`, `digit_number`, `digit_between`, `digit_letter`, `digit_high`; `digit_found`, `digit_missing`; `character_number`, `character_letter`.
-use mathlib.Core.Path.{◌≡◌, sym, ap, ◌∙◌}
+-- Holds: `digit_number`, `digit_letter`, `digit_mark`, `digit_wrong`; `character_number`, `character_letter`; `digits`, all of these.
+use mathlib.Core.Path.{◌≡◌, refl}
+use mathlib.Core.Bool.{Bool, true, false, ◌&&◌}
 use Prim.Native.Nat.{ℕ, ◌+◌, ◌-◌, ◌≤◌, ◌<◌}
 use native.Mathlib.Omega.{arith}
-use lib.Dec.{ltb}
-use borrow.Author.Tests.{le-leb, lt-leb, lt-ltb, le-ltb}
-use Rattle.std.specs.Prelude.{Some, None}
-use Rattle.algebra.specs.Ops.{pick}
+use lib.Dec.{leb}
+use borrow.Author.Tests.{eq-eqb, ne_eqb, le-leb, lt-leb, leb-true, lt-ltb, le-ltb}
+use Rattle.field.specs.Symbols.{unknown_mark}
 use Rattle.line.specs.Characters.{digit_of, character_of}
-use Rattle.line.specs.parts.Heads.{digit_in}
 
-pub digit_low : (c : ℕ) → c < 48 → digit_of c ≡ 16
-unfolding digit_of
-digit_low c h = let more : c < 97 = omega arith in simp (lt-leb 48 c h, lt-leb 97 c more)
+-- A character in a range, and one outside.
+inside : (a b c : ℕ) → a ≤ c → c ≤ b → (leb a c && leb c b) ≡ true
+inside a b c h g = simp (le-leb a c h, le-leb c b g)
+
+outside : (a b c : ℕ) → (a ≤ c → b < c) → (leb a c && leb c b) ≡ false
+outside a b c h = at (leb a c) refl
+  where
+    at : (t : Bool) → leb a c ≡ t → (t && leb c b) ≡ false
+    at true e = lt-leb c b (h (leb-true a c e))
+    at false e = refl
 
 pub digit_number : (c : ℕ) → 48 ≤ c → c ≤ 57 → digit_of c ≡ c - 48
 unfolding digit_of
-digit_number c h g = simp (le-leb 48 c h, le-leb c 57 g)
-
-pub digit_between : (c : ℕ) → 57 < c → c < 97 → digit_of c ≡ 16
-unfolding digit_of
-digit_between c h g = let more : 48 ≤ c = omega arith in simp (le-leb 48 c more, lt-leb c 57 h, lt-leb 97 c g)
+digit_number c h g = simp (inside 48 57 c h g)
 
 pub digit_letter : (c : ℕ) → 97 ≤ c → c ≤ 102 → digit_of c ≡ c - 87
 unfolding digit_of
-digit_letter c h g =
-    let low : 48 ≤ c = omega arith in
-    let high : 57 < c = omega arith in
-    simp (le-leb 48 c low, lt-leb c 57 high, le-leb 97 c h, le-leb c 102 g)
+digit_letter c h g = simp (outside 48 57 c (λ l. omega arith), inside 97 102 c h g)
 
-pub digit_high : (c : ℕ) → 102 < c → digit_of c ≡ 16
+pub digit_mark : (c : ℕ) → c ≡ 45 → digit_of c ≡ unknown_mark
 unfolding digit_of
-digit_high c h =
-    let low : 48 ≤ c = omega arith in
-    let high : 57 < c = omega arith in
-    let letter : 97 ≤ c = omega arith in
-    simp (le-leb 48 c low, lt-leb c 57 high, le-leb 97 c letter, lt-leb c 102 h)
+digit_mark c e = simp (outside 48 57 c (λ l. omega arith), outside 97 102 c (λ l. omega arith), eq-eqb c 45 e)
 
--- What reading a character gives: its value, or none.
-pub digit_found : (c v : ℕ) → digit_of c ≡ v → v < 16 → Some v ≡ digit_in c
-digit_found c v e h = sym (ap (λ (d : ℕ). pick (ltb d 16) (Some d) None) e ∙ simp (lt-ltb v 16 h))
-
-pub digit_missing : (c : ℕ) → digit_of c ≡ 16 → None ≡ digit_in c
-digit_missing c e = sym (ap (λ (d : ℕ). pick (ltb d 16) (Some d) None) e)
+pub digit_wrong : (c : ℕ) → (48 ≤ c → 57 < c) → (97 ≤ c → 102 < c) → (c ≡ 45 → ⊥) → digit_of c ≡ 16
+unfolding digit_of
+digit_wrong c number letter mark = simp (outside 48 57 c number, outside 97 102 c letter, ne_eqb c 45 mark)
 
 pub character_number : (d : ℕ) → d < 10 → character_of d ≡ 48 + d
 unfolding character_of
@@ -51,3 +43,6 @@ character_number d h = simp (lt-ltb d 10 h)
 pub character_letter : (d : ℕ) → 10 ≤ d → character_of d ≡ 97 + (d - 10)
 unfolding character_of
 character_letter d h = simp (le-ltb d 10 h) (omega arith)
+
+-- Of both ways, as the functions need them.
+pub ruleset digits = (digit_number, digit_letter, digit_mark, digit_wrong, character_number, character_letter)

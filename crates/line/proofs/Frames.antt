@@ -1,6 +1,6 @@
 -- The frame of a line that holds one (questions 11, 9, 1, 3 and 10 got "yes"), from decoding to the line's answer.
 -- Holds: `symbols_count`, `symbols_read`, `symbols_long`, `blocks_is` (the reception and T); `decoding_asked` (decoding's questions ask what is left, 4);
--- `refusal_line`; `frame_answered` (what decoding gives); `any_room`, `room_is` (the working areas); `shape_message`, `shape_most`, `digits_behind`;
+-- `refusal_line`; `frame_answered` (what decoding gives); `any_room`, `room_is` (the working areas); `shape_message`, `shape_most`;
 -- `frame_left`, `frame_said`;
 -- `most_answer` with its number, `answers_most`, `answers_sevenfold` (an output line's length); `answered_shown` (with room for every frame);
 -- `answers_kept` (a line too long is answered by its beginning).
@@ -16,7 +16,6 @@ use lib.Dec.{T as Passes, eqb, leb, lit≤, leb→le, eqb→eq}
 use lib.ListN.{length, take, drop, length-map, length-drop}
 use lib.Seq.{length-take-le, take_at, take_all}
 use borrow.Author.Tests.{eq-eqb, ne_eqb, le-leb, lt-leb}
-use Rattle.std.proofs.lemmas.List.Elements.{All-take, All-drop}
 use Rattle.algebra.specs.Ops.{pick}
 use Rattle.algebra.proofs.Tests.{and_left, and_right, false_not_true}
 use Rattle.field.specs.Symbols.{Symbols}
@@ -27,16 +26,16 @@ use Rattle.code.specs.parts.SettingNumbers.{number_of, parameters_of}
 use Rattle.code.proofs.Settings.{sound_of, number_known, information_fits, Sizes, sizes_of, largest_of}
 use Rattle.question.specs.declared.answer.Answer.{Answer}
 use Rattle.question.specs.declared.shape.Shape.{Shape}
-use Rattle.question.specs.Questions.{Question, ask, answer, first_no, most_blocks, most_symbols, most_information, blocks_of, symbol_question, transmission_question}
-use Rattle.question.specs.Questions.{frame_questions, decoding_questions}
+use Rattle.question.specs.Questions.{Question, ask, answer, first_no, most_blocks, most_symbols, most_information, blocks_of, is_received}
+use Rattle.question.specs.Questions.{symbol_question, transmission_question, frame_questions, decoding_questions}
 use Rattle.question.proofs.Questions.{true_of, first_no_lem, all_yes, append_yes, message_most, transmission_most}
 use Rattle.link.specs.Decoding.{FrameDecoded, found, none_fits, DecodedIn, Decoded, refused as decoding_refused, well_formed as decoding_well_formed}
 use Rattle.link.proofs.Determined.{parts_long, message_front}
 use Rattle.line.specs.Characters.{digit_of}
-use Rattle.line.specs.Questions.{most_characters, setting_in, blocks_in, symbols_in, digits_to, HoldsFrame, line_questions}
+use Rattle.line.specs.Questions.{most_characters, setting_in, blocks_in, symbols_in, right_to, HoldsFrame, line_questions}
 use Rattle.line.specs.Answering.{refusal, success, output_line, message_length, message_in, Answers, refused, well_formed, AnswerShown, LineAreas}
 use Rattle.line.specs.Answering.{line_areas, has_room, room_in, RoomForAll, FrameLeft, Answered, no_frame, no_room, decoded}
-use Rattle.line.specs.parts.Heads.{Digits, FrameOf}
+use Rattle.line.specs.parts.Heads.{FrameOf}
 use Rattle.line.proofs.Asked.{HeadYes, head_yes, after_head}
 use Rattle.line.proofs.Placed.{refusal_long, success_long}
 
@@ -70,7 +69,7 @@ module _ (line : List ℕ) (yes : HeadYes line) where
       omega arith
 
   -- Questions 1 to 3 of decoding get "yes".
-  frame_asked : first_no (frame_questions (setting_in line) (length (symbols_in line))) ≡ answer 0 0 0
+  frame_asked : first_no (frame_questions (setting_in line) (length (symbols_in line))) ≡ answer 0 0
   frame_asked =
       let long = length (symbols_in line) in
       let whole : long % p.n ≡ 0 = ap (λ (t : ℕ). t % p.n) symbols_long ∙ (whole_frame (blocks_in line) p.m p.n sizes.symbols).0 in
@@ -81,21 +80,22 @@ module _ (line : List ℕ) (yes : HeadYes line) where
       (true_of (is_setting (setting_in line)) yes.setting) (eq-eqb (long % p.n) 0 whole) (le-leb (window_length p) long room)
       (le-leb (blocks_of p long) most_blocks few)
     where
-      three : (a b c d : Bool) → a ≡ true → b ≡ true → c ≡ true → d ≡ true → first_no (ask 1 a ∷ ask 2 (b && c) ∷ ask 3 d ∷ []) ≡ answer 0 0 0
+      three : (a b c d : Bool) → a ≡ true → b ≡ true → c ≡ true → d ≡ true → first_no (ask 1 a ∷ ask 2 (b && c) ∷ ask 3 d ∷ []) ≡ answer 0 0
       three a b c d ea eb ec ed = simp (ea, eb, ec, ed)
 
   -- Question 4 is what is left, where the areas have room for the frame.
   pub decoding_asked : (message_room transmission_room : ℕ) → message_length line ≤ message_room → length (symbols_in line) ≤ transmission_room
-      → first_no (decoding_questions (setting_in line) (symbols_in line) message_room transmission_room) ≡ first_no (symbol_question p.q (symbols_in line) ∷ [])
+      → first_no (decoding_questions (setting_in line) (symbols_in line) message_room transmission_room)
+      ≡ first_no (symbol_question (is_received p.q) (symbols_in line) ∷ [])
   decoding_asked message_room transmission_room m t =
       let T = blocks_of p (length (symbols_in line)) in
       let message : T * p.k ≤ message_room = subst (λ (t : ℕ). t * p.k ≤ message_room) (sym blocks_is) m in
       let sent : (T + p.m) * p.n ≤ transmission_room =
       subst (λ (t : ℕ). (t + p.m) * p.n ≤ transmission_room) (sym blocks_is) (subst (λ (t : ℕ). t ≤ transmission_room) symbols_long t) in
       append_yes (frame_questions (setting_in line) (length (symbols_in line)))
-      (symbol_question p.q (symbols_in line) ∷ ask 5 (leb (T * p.k) message_room) ∷ transmission_question p T transmission_room ∷ []) tt
+      (symbol_question (is_received p.q) (symbols_in line) ∷ ask 5 (leb (T * p.k) message_room) ∷ transmission_question p T transmission_room ∷ []) tt
       (ap (λ (a : Answer). a.number) frame_asked)
-      ∙ last (symbol_question p.q (symbols_in line)) (leb (T * p.k) message_room) (leb ((T + p.m) * p.n) transmission_room)
+      ∙ last (symbol_question (is_received p.q) (symbols_in line)) (leb (T * p.k) message_room) (leb ((T + p.m) * p.n) transmission_room)
       (le-leb (T * p.k) message_room message)
       (le-leb ((T + p.m) * p.n) transmission_room sent)
     where
@@ -187,11 +187,6 @@ module _ {line : List ℕ} {s : Shape} (frame : FrameOf line s) where
       subst (λ (t : ℕ). t ≤ most_information) shape_message
       (message_most (number_of s.setting) (parameters_of s.setting) s.blocks (number_known s.setting) refl s.few)
 
--- The characters behind the first four are digits.
-pub digits_behind : (line : List ℕ) → HoldsFrame line → Digits (take (length line - 4) (drop 4 line))
-digits_behind line holds =
-    All-take (λ c. digit_of c < 16) (length line - 4) (drop 4 line) (All-drop (λ c. digit_of c < 16) 4 line (head_yes line holds).digits)
-
 -- The symbols were read into the front of the reception ..
 front_long : (line front : List ℕ) → front ≡ map digit_of (take (length line - 4) (drop 4 line)) → length front ≡ length line - 4
 front_long line front e = ap length (e ∙ symbols_read line) ∙ symbols_count line
@@ -256,7 +251,7 @@ answers_sevenfold line text (well_formed h r x y f e) =
     let p = setting_of (setting_in line) in
     let T = blocks_in line in
     let sound = sound_of (setting_in line) all.1.1.0 in
-    let least : 4 ≤ length line = leb→le 4 (length line) (and_left (leb 4 (length line)) (eqb (digits_to line) (length line)) all.1.0) in
+    let least : 4 ≤ length line = leb→le 4 (length line) (and_left (leb 4 (length line)) (eqb (right_to line) (length line)) all.1.0) in
     let frame : length line - 4 ≡ (T + p.m) * p.n =
     eqb→eq (length line - 4) ((T + p.m) * p.n) (and_right (leb 1 T) (eqb (length line - 4) ((T + p.m) * p.n)) all.1.1.1.1.0) in
     let message : length x ≡ T * p.k = (parts_long p sound T (symbols_in line) f).0 in
@@ -271,7 +266,7 @@ answered_shown line w output r w' output' R (no_room holds none z o e) = absurd 
 answered_shown line w output r w' output' R (decoded holds room a left shown) = shown
 
 -- Question 11 is the first, and needs no more than one character too many.
-too_long : (line : List ℕ) → most_characters < length line → first_no (line_questions line) ≡ answer 11 0 0
+too_long : (line : List ℕ) → most_characters < length line → first_no (line_questions line) ≡ answer 11 0
 too_long line h = first_no_lem (ask 11 (leb (length line) most_characters)) (drop 1 (line_questions line)) (lt-leb (length line) most_characters h)
 
 -- A line that is longer is answered by its beginning.

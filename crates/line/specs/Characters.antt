@@ -1,11 +1,13 @@
--- Characters and digits (01, "Lines at the planning desk": "every digit again lowercase hexadecimal").
--- Holds: `digit_of`, the value of a character; `character_of`, the character of a value; `hex`, a number in a fixed count of digits.
-use Rattle.std.specs.Prelude.{◌&&◌, List, [], ◌∷◌, ◌++◌, ℕ, zero, suc, ◌+◌, ◌-◌, ◌/◌, ◌%◌, leb, ltb}
+-- Characters and digits (01, "Lines at the planning desk": "every digit again lowercase hexadecimal"; 02, #106).
+-- Holds: `digit_of`, what a character stands for; `character_of`, the character of a value; `hex`, a number in a fixed count of digits.
+use Rattle.std.specs.Prelude.{◌&&◌, List, [], ◌∷◌, ◌++◌, ℕ, zero, suc, ◌+◌, ◌-◌, ◌/◌, ◌%◌, eqb, leb, ltb}
 use Rattle.algebra.specs.Ops.{pick}
+use Rattle.field.specs.Symbols.{unknown_mark}
 
--- 0-9 and a-f, by their bytes 48 to 57 and 97 to 102, have the values 0 to 15. Any other character has 16.
+-- 0-9 and a-f, by their bytes 48 to 57 and 97 to 102, have the values 0 to 15. `-`, by its byte 45, "means an unknown symbol" (02, #106). Any other character
+-- has 16.
 unfoldable pub digit_of : ℕ → ℕ
-digit_of c = pick (leb 48 c && leb c 57) (c - 48) (pick (leb 97 c && leb c 102) (c - 87) 16)
+digit_of c = pick (leb 48 c && leb c 57) (c - 48) (pick (leb 97 c && leb c 102) (c - 87) (pick (eqb c 45) unknown_mark 16))
 
 -- The character of a value below 16.
 unfoldable pub character_of : ℕ → ℕ

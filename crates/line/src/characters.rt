@@ -1,30 +1,27 @@
 // Characters and digits, one by one and in runs.
-ghost use Rattle.std.specs.Prelude.{◌≡◌, map, ◌<◌, All, length, nat_le, position};
+ghost use Rattle.std.specs.Prelude.{◌≡◌, not, map, ◌<◌, All, length, position};
 ghost use Rattle.std.specs.List.{AllZip};
 ghost use Rattle.field.specs.Symbols.{Symbols};
 ghost use Rattle.line.specs.Characters.{digit_of, character_of};
-ghost use Rattle.line.specs.parts.Heads.{digit_in, Digits};
+ghost use Rattle.line.specs.Questions.{is_digit, is_digit_or_mark};
 
-// The value of a character, if it is one of 0-9 and a-f. By hand: std's `to_digit` takes A-F too, and a `char`.
-fn digit(character: u8) -> Option<u8>
-    ensures { result ≡ digit_in character }
+use question::UNKNOWN_MARK;
+
+// What a character stands for: one of 0-9 and a-f for its value, `-` for an unknown symbol; any other has 16. By hand: std's `to_digit` takes A-F too.
+#[tactic(auto, using(crate::proofs::Digits::digits))]
+pub fn value(character: u8) -> u8
+    ensures { result ≡ digit_of character }
 {
     match character {
-        b'0'..=b'9' => Some(character - b'0'),
-        b'a'..=b'f' => Some(character - b'a' + 10),
-        _ => None,
+        b'0'..=b'9' => character - b'0',
+        b'a'..=b'f' => character - b'a' + 10,
+        b'-' => UNKNOWN_MARK,
+        _ => 16,
     }
 }
 
-// The value of a character that is one of 0-9 and a-f.
-pub fn value(character: u8) -> u8
-    requires { digit_of character < 16 }
-    ensures { result ≡ digit_of character }
-{
-    digit(character).unwrap()
-}
-
 // The character of a value.
+#[tactic(auto, using(crate::proofs::Digits::digits))]
 pub fn character(digit: u8) -> u8
     requires { digit < 16 }
     ensures { result ≡ character_of digit }
@@ -36,12 +33,21 @@ pub fn character(digit: u8) -> u8
     }
 }
 
-// The place of the first character that is none of 0-9 and a-f, if there is one.
-pub fn first_wrong(line: &[u8]) -> Option<usize>
-    ensures { result ≡ position (λ character. nat_le 16 (digit_of character)) line.now }
+// The place of the first wrong character of a head, if there is one: of the first that is none of 0-9 and a-f.
+pub fn first_wrong_in_head(head: &[u8]) -> Option<usize>
+    ensures { result ≡ position (λ c. not (is_digit c)) head.now }
 {
-    line.iter()
-        .position(|character| digit(*character).is_none())
+    head.iter()
+        .position(|character| !question::is_symbol(16, value(*character)))
+}
+
+// The same of a frame, where `-` is right too.
+pub fn first_wrong_in_frame(frame: &[u8]) -> Option<usize>
+    ensures { result ≡ position (λ c. not (is_digit_or_mark c)) frame.now }
+{
+    frame
+        .iter()
+        .position(|character| !question::is_received(16, value(*character)))
 }
 
 // Writes what the closure gives for each byte, in an area of just their length.
@@ -56,9 +62,9 @@ fn write_each<F: Fn(u8) -> u8>(bytes: &[u8], area: &mut [u8], of: F)
     }
 }
 
-// The values of digits, in an area of just their length.
+// What characters stand for, in an area of just their length.
 pub fn read_digits(characters: &[u8], area: &mut [u8])
-    requires { Digits characters.now × (length characters.now ≡ length area.old) }
+    requires { length characters.now ≡ length area.old }
     ensures { area.new ≡ map digit_of characters.now }
 {
     write_each(characters, area, value);

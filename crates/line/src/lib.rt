@@ -10,6 +10,7 @@ mod characters;
 mod questions;
 mod writing;
 
+use question::answer::Counts;
 use question::refusal::Refusal;
 use question::shape::Shape;
 
@@ -40,7 +41,7 @@ fn decode_line(
     reception: &mut [u8],
     message: &mut [u8],
     transmission: &mut [u8],
-) -> Result<u32, Refusal>
+) -> Result<Counts, Refusal>
     requires { FrameOf line.now shape × (room_in line.now (line_areas reception.old message.old transmission.old) ≡ true) }
     ensures { FrameLeft line.now (line_areas reception.old message.old transmission.old) (answered result) (line_areas reception.new message.new transmission.new) }
 {
@@ -70,9 +71,12 @@ pub fn answer_line(
         return 0;
     }
     match decode_line(line, shape, reception, message, transmission) {
-        Ok(altered) => {
-            writing::write_success(altered, shape, &message[..shape.message_length()], output)
-        }
+        Ok(counts) => writing::write_success(
+            counts.altered,
+            shape,
+            &message[..shape.message_length()],
+            output,
+        ),
         Err(refusal) => writing::write_refusal(refusal, output),
     }
 }

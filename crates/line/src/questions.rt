@@ -3,7 +3,7 @@ ghost use Rattle.std.specs.Prelude.{◌≡◌, ◌++◌, ◌≤◌, IfOk, length
 ghost use Rattle.question.specs.Questions.{first_no};
 ghost use Rattle.question.specs.Refusals.{asked};
 ghost use Rattle.line.specs.Questions.{blocks_in, character_questions, head_questions};
-ghost use Rattle.line.specs.parts.Heads.{Digits, HeadOf, FrameOf};
+ghost use Rattle.line.specs.parts.Heads.{HeadOf, FrameOf};
 
 use super::{MOST_CHARACTERS, characters};
 use code::SettingNumber;
@@ -12,7 +12,7 @@ use question::shape::{MOST_BLOCKS, Shape};
 
 // T, by its three digits.
 fn blocks_in(line: &[u8]) -> usize
-    requires { Digits line.now × (4 ≤ length line.now) }
+    requires { 4 ≤ length line.now }
     ensures { result ≡ blocks_in line.now }
 {
     let high = usize::from(characters::value(line[1]));
@@ -28,18 +28,22 @@ fn character_questions(line: &[u8]) -> Result<(), Refusal>
     if MOST_CHARACTERS < line.len() {
         return Err(Refusal::LineTooLong);
     }
-    if let Some(place) = characters::first_wrong(line) {
+    let head = line.len().min(4);
+    if let Some(place) = characters::first_wrong_in_head(&line[..head]) {
         return Err(Refusal::WrongCharacter(place));
     }
-    if line.len() < 4 {
-        return Err(Refusal::WrongCharacter(line.len()));
+    if head < 4 {
+        return Err(Refusal::WrongCharacter(head));
+    }
+    if let Some(place) = characters::first_wrong_in_frame(&line[head..]) {
+        return Err(Refusal::WrongCharacter(head + place));
     }
     Ok(())
 }
 
 // Questions 1, 3 and 10. T = 0 is asked for before there is a shape, and gets 10.
 fn head_questions(line: &[u8]) -> Result<Shape, Refusal>
-    requires { Digits line.now × (4 ≤ length line.now) }
+    requires { 4 ≤ length line.now }
     ensures answer { asked result ≡ first_no (head_questions line.now) }
     ensures shape { IfOk result (HeadOf line.now) }
 {

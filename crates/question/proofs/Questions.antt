@@ -1,36 +1,39 @@
 -- What the first "no" of a list of questions says, and what a call knows when every answer was "yes".
 -- Holds: of one question `first_yes`, `first_no_lem`; of a list before others `append_yes`; `numbered`, `AllYes`, `all_yes`, `yes_all` (number 0
 -- says that every answer was "yes"), `true_of`, `number_of`; what is asked of woven frames after the questions that need no setting, `weaving_later`,
--- `woven_decoding_later`; of a share of the room `share`, `shares`; of question 4 `largest_symbols`, `symbols_to_position`, `symbols_to_whole`,
--- `whole_symbols`, `symbols_asked`, `position_asked`; what a call knows, `FrameShape`, `DecodingYes`, `EncodingYes`, `WovenYes`, `WovenDecodingYes`,
--- `decoding_yes`, `encoding_yes`, `weaving_yes`, `woven_decoding_yes`; from that the answer "yes", `decoding_all_yes`, `weaving_again`; the
+-- `woven_decoding_later`; of a share of the room `share`, `shares`; of bytes before one that is not admitted `passing_whole`,
+-- `whole_passing`, `position_found`; of question 4 `largest_symbols`, `four_yes`, `four_asked`, `four_refused`, `symbols_admitted`, `admitted_symbols`,
+-- `symbols_received`, `unknown_is_mark`; what a call knows, `FrameShape`, `DecodingYes`, `EncodingYes`, `WovenYes`, `WovenDecodingYes`,
+-- `decoding_yes`, `encoding_yes`, `weaving_yes`, `woven_decoding_yes`; from that the answer "yes", `decoding_all_yes`, `encoding_all_yes`, `weaving_again`; the
 -- areas' sizes, `message_most`, `transmission_most`, `transmission_small`.
 use mathlib.Core.Path.{◌≡◌, refl, sym, ap, subst, ◌∙◌}
-use mathlib.Core.Bool.{Bool, true, false, cond, not, ◌&&◌}
+use mathlib.Core.Bool.{Bool, true, false, cond, not, ◌&&◌, ◌||◌}
 use mathlib.Core.List.{List, [], ◌∷◌, ◌++◌}
 use Prim.Native.Nat.{ℕ, zero, suc, max, ◌+◌, ◌-◌, ◌*◌, ◌/◌, ◌%◌, ◌≤◌, ◌<◌}
 use native.Mathlib.Nat.{not-suc-le-zero, le_of_suc-le-suc, div-add-mod, div-add-mod', le-div_iff_mul-le, le_trans, mul_comm, mul-le-mul, mul-le-mul_right, mul-mod_left}
 use native.Mathlib.Omega.{arith}
 use lib.Dec.{T as Passes, eqb, leb, ltb, leb→le, le→leb, eqb→eq}
-use Rattle.std.specs.List.{fold, position, position_or_len}
+use Rattle.std.specs.List.{fold, position, position_or_len, prefix_len, AllPass}
 use Rattle.std.specs.Prelude.{Option, Some, None}
 use Rattle.std.specs.Option.{MatchOption}
-use Rattle.std.proofs.lemmas.List.Sums.{prefix_len-le-length}
+use Rattle.std.proofs.lemmas.List.Elements.{All-from_get_or, All-weaker}
+use Rattle.std.proofs.lemmas.List.Recursion.{is_position_or_len}
+use Rattle.std.proofs.lemmas.List.Sums.{prefix_len_is, prefix_len_passes}
 use lib.ListN.{length, get_or}
-use borrow.Author.Tests.{eq-eqb, ne_eqb, lt-ltb, le-ltb, le-leb, leb-true, leb-false, ltb-true, ltb-false}
+use borrow.Author.Tests.{eq-eqb, ne_eqb, lt-ltb, lt-leb, le-leb, leb-true, ltb-true, ltb-false}
 use Rattle.algebra.specs.Ops.{pick}
 use Rattle.algebra.proofs.Tests.{and_left, and_right}
-use Rattle.field.specs.Symbols.{Symbols}
-use Rattle.field.proofs.Symbols.{symbols_none as no_symbols, symbols_more}
+use Rattle.field.specs.Symbols.{Symbols, unknown_mark, is_unknown}
 use Rattle.code.specs.parts.Residual.{frame_length}
 use Rattle.code.specs.declared.Setting.{Setting}
 use Rattle.code.specs.Settings.{is_setting, setting_of}
 use Rattle.code.specs.Windows.{window_length, Message}
-use Rattle.code.proofs.Settings.{largest_of, Sizes, sizes_of}
+use Rattle.code.proofs.CodeBelow.{message_blocks}
+use Rattle.code.proofs.Settings.{largest_of, Sizes, sizes_of, sound_of}
 use Rattle.question.specs.declared.answer.Answer.{Answer}
 use Rattle.question.specs.Questions.{Question, ask, answer, symbol_question, transmission_question, first_no, most_blocks, most_frames}
-use Rattle.question.specs.Questions.{most_symbols, most_information, blocks_of, symbols_to, area_questions, decoding_questions}
-use Rattle.question.specs.Questions.{encoding_questions, woven_questions, weaving_questions, woven_decoding_questions}
+use Rattle.question.specs.Questions.{most_symbols, most_information, blocks_of, passing_to, is_symbol, is_received, UnknownIsMark, area_questions}
+use Rattle.question.specs.Questions.{decoding_questions, encoding_questions, woven_questions, weaving_questions, woven_decoding_questions}
 
 pub true_of : (t : Bool) → Passes t → t ≡ true
 true_of true h = refl
@@ -38,10 +41,10 @@ true_of false h = elim h [ ]
 
 -- One question: "yes" asks the rest, "no" is the answer.
 pub first_yes : (x : Question) (rest : List Question) → x.holds ≡ true → first_no (x ∷ rest) ≡ first_no rest
-first_yes x rest e = ap (λ (t : Bool). pick t (first_no rest) (answer x.number x.place 0)) e
+first_yes x rest e = ap (λ (t : Bool). pick t (first_no rest) (answer x.number x.place)) e
 
-pub first_no_lem : (x : Question) (rest : List Question) → x.holds ≡ false → first_no (x ∷ rest) ≡ answer x.number x.place 0
-first_no_lem x rest e = ap (λ (t : Bool). pick t (first_no rest) (answer x.number x.place 0)) e
+pub first_no_lem : (x : Question) (rest : List Question) → x.holds ≡ false → first_no (x ∷ rest) ≡ answer x.number x.place
+first_no_lem x rest e = ap (λ (t : Bool). pick t (first_no rest) (answer x.number x.place)) e
 
 -- No question has the number 0.
 abbrev pub numbered : List Question → Bool
@@ -58,16 +61,16 @@ pub all_yes : (l : List Question) → Passes (numbered l) → (first_no l).numbe
 all_yes [] n e = tt
 all_yes (x ∷ rest) n e = at (all_yes rest (and_right (not (eqb x.number 0)) (numbered rest) n)) x.holds e
   where
-    at : ((first_no rest).number ≡ 0 → AllYes rest) → (t : Bool) → (pick t (first_no rest) (answer x.number x.place 0)).number ≡ 0 → Passes t × AllYes rest
+    at : ((first_no rest).number ≡ 0 → AllYes rest) → (t : Bool) → (pick t (first_no rest) (answer x.number x.place)).number ≡ 0 → Passes t × AllYes rest
     at more true e = (tt, more e)
     at more false e = absurd (subst (λ (t : Bool). Passes (not t)) (eq-eqb x.number 0 e) (and_left (not (eqb x.number 0)) (numbered rest) n))
 
 -- The other way round; place and count are 0 too.
-pub yes_all : (l : List Question) → AllYes l → first_no l ≡ answer 0 0 0
+pub yes_all : (l : List Question) → AllYes l → first_no l ≡ answer 0 0
 yes_all [] t = refl
 yes_all (x ∷ rest) t = at x.holds t.0 (yes_all rest t.1)
   where
-    at : (b : Bool) → Passes b → first_no rest ≡ answer 0 0 0 → pick b (first_no rest) (answer x.number x.place 0) ≡ answer 0 0 0
+    at : (b : Bool) → Passes b → first_no rest ≡ answer 0 0 → pick b (first_no rest) (answer x.number x.place) ≡ answer 0 0
     at true t e = e
     at false t e = absurd t
 
@@ -81,18 +84,18 @@ append_yes [] b n e = refl
 append_yes (x ∷ a) b n e = at (append_yes a b (and_right (not (eqb x.number 0)) (numbered a) n)) x.holds e
   where
     at : ((first_no a).number ≡ 0 → first_no (a ++ b) ≡ first_no b) → (t : Bool)
-        → (pick t (first_no a) (answer x.number x.place 0)).number ≡ 0
-        → pick t (first_no (a ++ b)) (answer x.number x.place 0) ≡ first_no b
+        → (pick t (first_no a) (answer x.number x.place)).number ≡ 0
+        → pick t (first_no (a ++ b)) (answer x.number x.place) ≡ first_no b
     at more true e = more e
     at more false e = absurd (subst (λ (t : Bool). Passes (not t)) (eq-eqb x.number 0 e) (and_left (not (eqb x.number 0)) (numbered a) n))
 
 -- What is asked of woven frames after the questions that need no setting, of a setting p.
 abbrev pub weaving_later : List ℕ → ℕ → Setting → List Question
-weaving_later incoming room p = symbol_question p.q incoming ∷ ask 6 (leb (length incoming) room) ∷ []
+weaving_later incoming room p = symbol_question (is_received p.q) incoming ∷ ask 6 (leb (length incoming) room) ∷ []
 
 abbrev pub woven_decoding_later : ℕ → List ℕ → ℕ → ℕ → Setting → List Question
 woven_decoding_later D reception message_room transmission_room p =
-    symbol_question p.q reception
+    symbol_question (is_received p.q) reception
     ∷ ask 5 (leb (D * (blocks_of p (length reception / D) * p.k)) message_room)
     ∷ ask 6 (leb (D * frame_length p (blocks_of p (length reception / D))) transmission_room)
     ∷ []
@@ -114,7 +117,7 @@ pub shares : (D : ℕ) (reception : List ℕ) (message_room transmission_room : 
     ≡ first_no (woven_decoding_later D reception message_room transmission_room p)
 shares D reception message_room transmission_room p h =
     let T = blocks_of p (length reception / D) in
-    let four = symbol_question p.q reception in
+    let four = symbol_question (is_received p.q) reception in
     ap (λ (t : Bool). first_no (four ∷ ask 5 t ∷ transmission_question p T (transmission_room / D) ∷ [])) (share D (T * p.k) message_room h)
     ∙ ap (λ (t : Bool). first_no (four ∷ ask 5 (leb (D * (T * p.k)) message_room) ∷ ask 6 t ∷ [])) (share D (frame_length p T) transmission_room h)
 
@@ -134,55 +137,63 @@ at_most_largest (x ∷ l) most = at (at_most_largest l (max most x))
 pub largest_symbols : (l : List ℕ) {most : ℕ} → most ≡ fold max 0 l → Symbols (most + 1) l
 largest_symbols l {most} e = record { below = λ i h. omega (arith, (at_most_largest l 0).1 i h) }
 
--- The first byte that is not below q.
-pub symbols_to_position : (q : ℕ) (l : List ℕ) → symbols_to q l ≡ position_or_len (λ byte. leb q byte) l
-unfolding symbols_to
-symbols_to_position q [] = refl
-symbols_to_position q (x ∷ l) = at (symbols_to_position q l) (leb q x) refl
+-- Bytes of which a test says whether they are admitted: all of them are, or the first that is not stands in this place.
+module _ (admits : ℕ → Bool) (bytes : List ℕ) where
+  pub passing_whole : AllPass admits bytes → passing_to admits bytes ≡ length bytes
+  unfolding passing_to
+  passing_whole all = prefix_len_is admits bytes (length bytes) 0 (omega arith) (λ k h. all k 0 h) (λ h. absurd (omega arith))
+
+  pub whole_passing : passing_to admits bytes ≡ length bytes → AllPass admits bytes
+  unfolding passing_to
+  whole_passing e k d h = prefix_len_passes admits bytes k d (omega arith)
+
+  pub position_found : {found : Option ℕ} → found ≡ position (λ b. not (admits b)) bytes
+      → MatchOption found (AllPass admits bytes) (λ place. (place ≡ passing_to admits bytes) × (place < length bytes))
+  unfolding passing_to
+  position_found {found} e =
+      subst Found (sym e) (subst (λ (t : ℕ). Found (cond (ltb t (length bytes)) (Some t) None)) place (at (ltb (prefix_len admits bytes) (length bytes)) refl))
+    where
+      Found : Option ℕ → Type 0
+      Found t = MatchOption t (AllPass admits bytes) (λ place. (place ≡ prefix_len admits bytes) × (place < length bytes))
+
+      turned : (t : Bool) (n : ℕ) → cond t n 0 ≡ cond (not t) 0 n
+      turned true n = refl
+      turned false n = refl
+
+      place : prefix_len admits bytes ≡ position_or_len (λ b. not (admits b)) bytes
+      place = is_position_or_len (prefix_len admits) (λ b. not (admits b)) refl (λ b rest. turned (admits b) (1 + prefix_len admits rest)) bytes
+
+      at : (t : Bool) → ltb (prefix_len admits bytes) (length bytes) ≡ t → Found (cond t (Some (prefix_len admits bytes)) None)
+      at true e = (refl, ltb-true _ _ e)
+      at false e = let h = ltb-false _ _ e in λ k d l. prefix_len_passes admits bytes k d (omega arith)
+
+  -- Question 4 of them.
+  pub four_yes : AllPass admits bytes → (symbol_question admits bytes).holds ≡ true
+  four_yes all = eq-eqb (passing_to admits bytes) (length bytes) (passing_whole all)
+
+  pub four_asked : AllPass admits bytes → answer 0 0 ≡ first_no (symbol_question admits bytes ∷ [])
+  four_asked all = sym (first_yes (symbol_question admits bytes) [] (four_yes all))
+
+  pub four_refused : {place : ℕ} → place ≡ passing_to admits bytes → place < length bytes → answer 4 place ≡ first_no (symbol_question admits bytes ∷ [])
+  four_refused {place} e h = ap (answer 4) e ∙ sym (first_no_lem (symbol_question admits bytes) [] (ne_eqb _ _ (λ whole. omega arith)))
+
+-- Symbols are admitted in a message, and what is admitted there are symbols; in a reception they are admitted too.
+pub symbols_admitted : {q : ℕ} {l : List ℕ} → Symbols q l → AllPass (is_symbol q) l
+symbols_admitted {q} {l} S = All-from_get_or (λ x. is_symbol q x ≡ true) l 0 (λ i h. lt-ltb _ q (S.below i h))
+
+pub admitted_symbols : {q : ℕ} {l : List ℕ} → AllPass (is_symbol q) l → Symbols q l
+admitted_symbols {q} {l} all = record { below = λ i h. ltb-true _ q (all i 0 h) }
+
+pub symbols_received : {q : ℕ} {l : List ℕ} → Symbols q l → AllPass (is_received q) l
+symbols_received {q} {l} S =
+    All-weaker (λ x. is_symbol q x ≡ true) (λ x. is_received q x ≡ true) (λ x e. simp e) l (symbols_admitted S)
+
+pub unknown_is_mark : UnknownIsMark
+unknown_is_mark q v few e = at (ltb v q) refl e
   where
-    at : symbols_to q l ≡ position_or_len (λ byte. leb q byte) l → (t : Bool) → leb q x ≡ t
-        → pick (ltb x q) (suc (symbols_to q l)) 0 ≡ position_or_len (λ byte. leb q byte) (x ∷ l)
-    at rest true e = let h = leb-true q x e in simp (e, le-ltb x q h)
-    at rest false e = let h = leb-false q x e in simp (e, lt-ltb x q h, rest) (omega arith)
-
--- All of them are symbols.
-pub symbols_to_whole : (q : ℕ) (l : List ℕ) → Symbols q l → symbols_to q l ≡ length l
-unfolding symbols_to
-symbols_to_whole q [] S = refl
-symbols_to_whole q (x ∷ l) S =
-    ap (λ (t : Bool). pick t (suc (symbols_to q l)) 0) (lt-ltb x q (S.below 0 (omega arith)))
-    ∙ ap suc (symbols_to_whole q l (record { below = λ i h. S.below (suc i) (omega arith) }))
-
-pub whole_symbols : (q : ℕ) (l : List ℕ) → symbols_to q l ≡ length l → Symbols q l
-unfolding symbols_to
-whole_symbols q [] e = no_symbols q
-whole_symbols q (x ∷ l) e = at (whole_symbols q l) (ltb x q) refl e
-  where
-    at : (symbols_to q l ≡ length l → Symbols q l) → (t : Bool) → ltb x q ≡ t → pick t (suc (symbols_to q l)) 0 ≡ suc (length l) → Symbols q (x ∷ l)
-    at more true b e = symbols_more q x l (ltb-true x q b) (more (omega arith))
-    at more false b e = absurd (omega arith)
-
--- What question 4 answers of a list of symbols, and of the first that is none, if there is one.
-pub symbols_asked : {q : ℕ} {l : List ℕ} → Symbols q l → answer 0 0 0 ≡ first_no (symbol_question q l ∷ [])
-symbols_asked {q} {l} S = sym (first_yes (symbol_question q l) [] (eq-eqb _ _ (symbols_to_whole q l S)))
-
-pub position_asked : (q : ℕ) (l : List ℕ) {found : Option ℕ} → found ≡ position (λ byte. leb q byte) l
-    → MatchOption found (answer 0 0 0 ≡ first_no (symbol_question q l ∷ [])) (λ place. answer 4 place 0 ≡ first_no (symbol_question q l ∷ []))
-position_asked q l {found} e =
-    subst asked (sym e) (subst (λ (t : ℕ). asked (cond (ltb t (length l)) (Some t) None)) place (at (ltb (symbols_to q l) (length l)) refl))
-  where
-    place : symbols_to q l ≡ position_or_len (λ byte. leb q byte) l
-    place = symbols_to_position q l
-
-    asked : Option ℕ → Type 0
-    asked t = MatchOption t (answer 0 0 0 ≡ first_no (symbol_question q l ∷ [])) (λ place. answer 4 place 0 ≡ first_no (symbol_question q l ∷ []))
-
-    at : (t : Bool) → ltb (symbols_to q l) (length l) ≡ t → asked (cond t (Some (symbols_to q l)) None)
-    at true e = let h = ltb-true _ _ e in sym (first_no_lem (symbol_question q l) [] (ne_eqb _ _ (λ whole. omega arith)))
-    at false e =
-        let h = ltb-false _ _ e in
-        let whole : symbols_to q l ≡ length l = omega (arith, place, prefix_len-le-length (λ byte. not (leb q byte)) l) in
-        sym (first_yes (symbol_question q l) [] (eq-eqb _ _ whole))
+    at : (t : Bool) → ltb v q ≡ t → (t || eqb v unknown_mark) ≡ true → is_unknown q v ≡ eqb v unknown_mark
+    at true s e = let h = ltb-true v q s in simp (lt-leb q v h, ne_eqb v unknown_mark (λ z. omega arith))
+    at false s e = let h = ltb-false v q s in simp (le-leb q v h, e)
 
 -- What questions 1 to 3 say of a frame of this length, over its setting.
 pub record FrameShape (p : Setting) (long : ℕ) : Type 0 where
@@ -230,7 +241,6 @@ pub record DecodingYes (number : ℕ) (reception : List ℕ) (message_room trans
   pub blocks : 1 ≤ blocks_of (setting_of number) (length reception)
   pub most : blocks_of (setting_of number) (length reception) ≤ most_blocks
   pub long : length reception ≡ frame_length (setting_of number) (blocks_of (setting_of number) (length reception))
-  pub symbols : Symbols (setting_of number).q reception
   pub has_message_room : blocks_of (setting_of number) (length reception) * (setting_of number).k ≤ message_room
   pub has_transmission_room : frame_length (setting_of number) (blocks_of (setting_of number) (length reception)) ≤ transmission_room
 
@@ -245,7 +255,6 @@ decoding_yes number reception message_room transmission_room e =
       blocks = frame.blocks;
       most = frame.most;
       long = frame.long_is;
-      symbols = whole_symbols p.q reception (eqb→eq (symbols_to p.q reception) (length reception) all.1.1.1.0);
       has_message_room = leb→le (blocks_of p (length reception) * p.k) message_room all.1.1.1.1.0;
       has_transmission_room = leb→le (frame_length p (blocks_of p (length reception))) transmission_room all.1.1.1.1.1.0;
     }
@@ -261,14 +270,14 @@ length_test {p} {long} frame =
     subst Passes (sym yes) tt
 
 pub decoding_all_yes : (number : ℕ) (reception : List ℕ) (message_room transmission_room : ℕ) → Passes (is_setting number)
-    → FrameShape (setting_of number) (length reception) → Symbols (setting_of number).q reception
+    → FrameShape (setting_of number) (length reception) → AllPass (is_received (setting_of number).q) reception
     → blocks_of (setting_of number) (length reception) * (setting_of number).k ≤ message_room
     → frame_length (setting_of number) (blocks_of (setting_of number) (length reception)) ≤ transmission_room
     → (first_no (decoding_questions number reception message_room transmission_room)).number ≡ 0
-decoding_all_yes number reception message_room transmission_room known frame S messages transmissions =
+decoding_all_yes number reception message_room transmission_room known frame received messages transmissions =
     let p = setting_of number in
     let T = blocks_of p (length reception) in
-    let four = subst Passes (sym (eq-eqb (symbols_to p.q reception) (length reception) (symbols_to_whole p.q reception S))) tt in
+    let four = subst Passes (sym (four_yes (is_received p.q) reception received)) tt in
     let five = le→leb (T * p.k) message_room messages in
     let six = le→leb (frame_length p T) transmission_room transmissions in
     ap (λ (t : Answer). t.number)
@@ -299,10 +308,34 @@ encoding_yes number message transmission_room e =
           record {
             blocks = (le-div_iff_mul-le (sizes_of number all.0).information).1 once;
             long = omega (arith, div-add-mod' (length message) p.k);
-            symbols = whole_symbols p.q message (eqb→eq (symbols_to p.q message) (length message) all.1.1.1.0);
+            symbols = admitted_symbols (whole_passing (is_symbol p.q) message (eqb→eq (passing_to (is_symbol p.q) message) (length message) all.1.1.1.0));
           };
       room = leb→le (frame_length p T) transmission_room all.1.1.1.1.0;
     }
+
+-- A message of T blocks, with room for its transmission, gets "yes".
+pub encoding_all_yes : (number T : ℕ) (message : List ℕ) (transmission_room : ℕ) → Passes (is_setting number) → T ≤ most_blocks
+    → Message (setting_of number) T message → frame_length (setting_of number) T ≤ transmission_room
+    → (first_no (encoding_questions number message transmission_room)).number ≡ 0
+encoding_all_yes number T message transmission_room known few M room =
+    let p = setting_of number in
+    let count : length message / p.k ≡ T = message_blocks p (sound_of number known) T message M in
+    let whole : length message % p.k ≡ 0 = ap (λ (t : ℕ). t % p.k) M.long ∙ mul-mod_left T p.k in
+    let one : 1 * p.k ≤ T * p.k = mul-le-mul_right p.k M.blocks in
+    let least : p.k ≤ length message = omega (arith, one, M.long) in
+    let eight : (eqb (length message % p.k) 0 && leb p.k (length message)) ≡ true = simp (eq-eqb _ _ whole, le-leb _ _ least) in
+    let four = subst Passes (sym (four_yes (is_symbol p.q) message (symbols_admitted M.symbols))) tt in
+    ap (λ (t : Answer). t.number)
+    (yes_all (encoding_questions number message transmission_room) (
+      known,
+      (
+        subst Passes (sym eight) tt,
+        (
+          le→leb _ most_blocks (subst (λ (t : ℕ). t ≤ most_blocks) (sym count) few),
+          (four, (le→leb _ transmission_room (subst (λ (t : ℕ). frame_length p t ≤ transmission_room) (sym count) room), tt)),
+        ),
+      ),
+    ))
 
 -- What is known of D woven frames of together this length, when 1, 14, 15, 2 and 3 got "yes".
 pub record WovenYes (number D long : ℕ) : Type 0 where
@@ -328,28 +361,28 @@ all_of_first (x ∷ a) b all = let rest = all_of_first a b all.1 in ((all.0, res
 
 -- What weaving and unweaving know when their questions got "yes".
 pub weaving_yes : (number D : ℕ) (incoming : List ℕ) (room : ℕ) → (first_no (weaving_questions number D incoming room)).number ≡ 0
-    → WovenYes number D (length incoming) × (Symbols (setting_of number).q incoming × (length incoming ≤ room))
+    → WovenYes number D (length incoming) × (AllPass (is_received (setting_of number).q) incoming × (length incoming ≤ room))
 weaving_yes number D incoming room e =
     let p = setting_of number in
     let yes_to = all_yes (weaving_questions number D incoming room) tt e in
     let all = all_of_first (woven_questions number D (length incoming)) (weaving_later incoming room p) yes_to in (
       woven_of number D (length incoming) all.0,
       (
-        whole_symbols p.q incoming (eqb→eq (symbols_to p.q incoming) (length incoming) all.1.0),
+        whole_passing (is_received p.q) incoming (eqb→eq (passing_to (is_received p.q) incoming) (length incoming) all.1.0),
         leb→le (length incoming) room all.1.1.0,
       ),
     )
 
--- Weaving asks the same of other symbols in the same number, which have the room.
+-- Weaving asks the same of other bytes in the same number, which are admitted and have the room.
 pub weaving_again : (number D : ℕ) (incoming other : List ℕ) (room room' : ℕ) → (first_no (weaving_questions number D incoming room)).number ≡ 0
-    → length other ≡ length incoming → Symbols (setting_of number).q other → length other ≤ room'
-    → first_no (weaving_questions number D other room') ≡ answer 0 0 0
-weaving_again number D incoming other room room' e same S enough =
+    → length other ≡ length incoming → AllPass (is_received (setting_of number).q) other → length other ≤ room'
+    → first_no (weaving_questions number D other room') ≡ answer 0 0
+weaving_again number D incoming other room room' e same received enough =
     let p = setting_of number in
     let yes_to = all_yes (weaving_questions number D incoming room) tt e in
     let first = (all_of_first (woven_questions number D (length incoming)) (weaving_later incoming room p) yes_to).0 in
     let woven = subst (λ (t : ℕ). AllYes (woven_questions number D t)) (sym same) first in
-    let four = subst Passes (sym (eq-eqb (symbols_to p.q other) (length other) (symbols_to_whole p.q other S))) tt in
+    let four = subst Passes (sym (four_yes (is_received p.q) other received)) tt in
     let six = le→leb (length other) room' enough in
     yes_all (weaving_questions number D other room')
     (woven.0, (woven.1.0, (woven.1.1.0, (woven.1.1.1.0, (woven.1.1.1.1.0, (four, (six, tt)))))))
@@ -357,7 +390,7 @@ weaving_again number D incoming other room room' e same S enough =
 -- What decoding of D woven frames knows when its questions got "yes".
 pub record WovenDecodingYes (number D : ℕ) (reception : List ℕ) (message_room transmission_room : ℕ) : Type 0 where
   pub woven : WovenYes number D (length reception)
-  pub symbols : Symbols (setting_of number).q reception
+  pub received : AllPass (is_received (setting_of number).q) reception
   pub has_message_room : D * (blocks_of (setting_of number) (length reception / D) * (setting_of number).k) ≤ message_room
   pub has_transmission_room : D * frame_length (setting_of number) (blocks_of (setting_of number) (length reception / D)) ≤ transmission_room
 
@@ -371,7 +404,7 @@ woven_decoding_yes number D reception message_room transmission_room e =
     let all = all_of_first (woven_questions number D (length reception)) (woven_decoding_later D reception message_room transmission_room p) yes_to in
     record {
       woven = woven_of number D (length reception) all.0;
-      symbols = whole_symbols p.q reception (eqb→eq (symbols_to p.q reception) (length reception) all.1.0);
+      received = whole_passing (is_received p.q) reception (eqb→eq (passing_to (is_received p.q) reception) (length reception) all.1.0);
       has_message_room = leb→le (D * (T * p.k)) message_room all.1.1.0;
       has_transmission_room = leb→le (D * frame_length p T) transmission_room all.1.1.1.0;
     }

@@ -1,7 +1,7 @@
 -- What a call knows from its questions' outcome, of the shape that they found.
 -- Holds: of an outcome `asked_yes`, `refusal_numbered`; of a shape `reception_setting`, `reception_long`, `reception_blocks`, `message_setting`,
 -- `message_blocks`; of what is asked after the shape was found `after_frame`, `after_count`, `after_woven`; of a call whose questions got "yes" `DecodingKnown`,
--- `EncodingKnown`, `WovenKnown`, `decoding_known`, `encoding_known`, `weaving_known`, `woven_decoding_known`.
+-- `EncodingKnown`, `decoding_known`, `encoding_known`, `weaving_known`, `woven_decoding_known`.
 use mathlib.Core.Path.{◌≡◌, sym, ap, subst, ◌∙◌}
 use mathlib.Core.Bool.{true}
 use mathlib.Core.List.{List, ◌++◌}
@@ -11,7 +11,6 @@ use native.Mathlib.Omega.{arith}
 use lib.Dec.{T as Passes}
 use lib.ListN.{length}
 use borrow.Author.Tests.{le-leb, eq-eqb}
-use Rattle.field.specs.Symbols.{Symbols}
 use Rattle.code.specs.parts.Residual.{frame_length}
 use Rattle.code.specs.declared.Setting.{Setting}
 use Rattle.code.specs.declared.SettingNumber.{SettingNumber}
@@ -35,7 +34,7 @@ use Rattle.question.proofs.Questions.{true_of, append_yes, shares, woven_decodin
 use Rattle.question.proofs.Questions.{decoding_yes, encoding_yes, weaving_yes, woven_decoding_yes}
 
 -- The outcome "yes" says that every question got it.
-pub asked_yes : {a : Answer} → answer 0 0 0 ≡ a → a.number ≡ 0
+pub asked_yes : {a : Answer} → answer 0 0 ≡ a → a.number ≡ 0
 asked_yes e = sym (ap (λ (t : Answer). t.number) e)
 
 -- A refusal says that one got "no".
@@ -73,7 +72,7 @@ module _ {number long : ℕ} {s : Shape} (r : ReceptionOf number long s) where
 
 -- What is asked of the shape after questions 1, 2 and 3 got "yes".
 pub after_frame : {number long : ℕ} {s : Shape} (later : Setting → ℕ → List Question) → ReceptionOf number long s
-    → answer 0 0 0 ≡ first_no (frame_questions number long)
+    → answer 0 0 ≡ first_no (frame_questions number long)
     → first_no (later (parameters_of s.setting) s.blocks) ≡ first_no (frame_questions number long ++ later (setting_of number) (blocks_of (setting_of number) long))
 after_frame {number} {long} {s} later r asked =
     let p = setting_of number in
@@ -91,7 +90,7 @@ after_count s number D long known least few whole =
 
 -- What is asked of one of the woven frames, with its share of the room, after 1, 14, 15, 2 and 3.
 pub after_woven : {number frames : ℕ} {w : WovenShape} (reception : List ℕ) (message_room transmission_room : ℕ) → WovenOf number frames (length reception) w
-    → answer 0 0 0 ≡ first_no (woven_questions number frames (length reception))
+    → answer 0 0 ≡ first_no (woven_questions number frames (length reception))
     → first_no
     (area_questions (parameters_of w.frame.setting) w.frame.blocks reception (message_room / w.frames) (transmission_room / w.frames))
     ≡ first_no (woven_decoding_questions number frames reception message_room transmission_room)
@@ -120,19 +119,17 @@ module _ {number long : ℕ} {s : Shape} (r : MessageOf number long s) where
 -- What decoding knows of the shape that it found.
 pub record DecodingKnown (s : Shape) (reception : List ℕ) (message_room transmission_room : ℕ) : Type 0 where
   pub long : length reception ≡ frame_length (parameters_of s.setting) s.blocks
-  pub symbols : Symbols (parameters_of s.setting).q reception
   pub has_message_room : s.blocks * (parameters_of s.setting).k ≤ message_room
   pub has_transmission_room : frame_length (parameters_of s.setting) s.blocks ≤ transmission_room
 
 pub decoding_known : {number : ℕ} {s : Shape} (reception : List ℕ) (message_room transmission_room : ℕ) → ReceptionOf number (length reception) s
-    → answer 0 0 0 ≡ first_no (decoding_questions number reception message_room transmission_room) → DecodingKnown s reception message_room transmission_room
+    → answer 0 0 ≡ first_no (decoding_questions number reception message_room transmission_room) → DecodingKnown s reception message_room transmission_room
 decoding_known {number} {s} reception message_room transmission_room r asked =
     let yes = decoding_yes number reception message_room transmission_room (asked_yes asked) in
     let p = reception_setting r in
     let T = reception_blocks r in
     record {
       long = reception_long r;
-      symbols = subst (λ (p : Setting). Symbols p.q reception) (sym p) yes.symbols;
       has_message_room =
           subst (λ (p : Setting). s.blocks * p.k ≤ message_room) (sym p)
           (subst (λ (t : ℕ). t * (setting_of number).k ≤ message_room) (sym T) yes.has_message_room);
@@ -147,7 +144,7 @@ pub record EncodingKnown (s : Shape) (message : List ℕ) (transmission_room : �
   pub room : frame_length (parameters_of s.setting) s.blocks ≤ transmission_room
 
 pub encoding_known : {number : ℕ} {s : Shape} (message : List ℕ) (transmission_room : ℕ) → MessageOf number (length message) s
-    → answer 0 0 0 ≡ first_no (encoding_questions number message transmission_room) → EncodingKnown s message transmission_room
+    → answer 0 0 ≡ first_no (encoding_questions number message transmission_room) → EncodingKnown s message transmission_room
 encoding_known {number} {s} message transmission_room r asked =
     let yes = encoding_yes number message transmission_room (asked_yes asked) in
     let p = message_setting r in
@@ -161,11 +158,7 @@ encoding_known {number} {s} message transmission_room r asked =
           (subst (λ (t : ℕ). frame_length (setting_of number) t ≤ transmission_room) (sym T) yes.room);
     }
 
--- What is known of woven frames of the shape that was found.
-pub record WovenKnown (w : WovenShape) (incoming : List ℕ) : Type 0 where
-  pub symbols : Symbols (parameters_of w.frame.setting).q incoming
-  pub long : length incoming ≡ w.frames * frame_length (parameters_of w.frame.setting) w.frame.blocks
-
+-- Woven frames of the shape that was found.
 woven_long : {number frames long : ℕ} {w : WovenShape} → WovenOf number frames long w
     → long ≡ w.frames * frame_length (parameters_of w.frame.setting) w.frame.blocks
 woven_long {number} {frames} {long} {w} r =
@@ -174,22 +167,22 @@ woven_long {number} {frames} {long} {w} r =
     r.whole ∙ ap (λ (t : ℕ). t * frames) one ∙ ap (λ (t : ℕ). frame_length p w.frame.blocks * t) (sym r.count) ∙ mul_comm _ _
 
 pub weaving_known : {number frames : ℕ} {w : WovenShape} (incoming : List ℕ) (room : ℕ) → WovenOf number frames (length incoming) w
-    → answer 0 0 0 ≡ first_no (weaving_questions number frames incoming room) → WovenKnown w incoming × (length incoming ≤ room)
+    → answer 0 0 ≡ first_no (weaving_questions number frames incoming room)
+    → (length incoming ≡ w.frames * frame_length (parameters_of w.frame.setting) w.frame.blocks) × (length incoming ≤ room)
 weaving_known {number} {frames} {w} incoming room r asked =
-    let yes = weaving_yes number frames incoming room (asked_yes asked) in
-    let p = reception_setting r.frame in
-    (record { symbols = subst (λ (p : Setting). Symbols p.q incoming) (sym p) yes.1.0; long = woven_long r }, yes.1.1)
+    (woven_long r, (weaving_yes number frames incoming room (asked_yes asked)).1.1)
 
 pub woven_decoding_known : {number frames : ℕ} {w : WovenShape} (reception : List ℕ) (message_room transmission_room : ℕ)
     → WovenOf number frames (length reception) w
-    → answer 0 0 0 ≡ first_no (woven_decoding_questions number frames reception message_room transmission_room)
-    → WovenKnown w reception × (w.frames * (w.frame.blocks * (parameters_of w.frame.setting).k) ≤ message_room)
+    → answer 0 0 ≡ first_no (woven_decoding_questions number frames reception message_room transmission_room)
+    → (length reception ≡ w.frames * frame_length (parameters_of w.frame.setting) w.frame.blocks)
+    × (w.frames * (w.frame.blocks * (parameters_of w.frame.setting).k) ≤ message_room)
     × (w.frames * frame_length (parameters_of w.frame.setting) w.frame.blocks ≤ transmission_room)
 woven_decoding_known {number} {frames} {w} reception message_room transmission_room r asked =
     let yes = woven_decoding_yes number frames reception message_room transmission_room (asked_yes asked) in
     let p = reception_setting r.frame in
     let T = reception_blocks r.frame in (
-      record { symbols = subst (λ (p : Setting). Symbols p.q reception) (sym p) yes.symbols; long = woven_long r },
+      woven_long r,
       subst (λ (D : ℕ). D * (w.frame.blocks * (parameters_of w.frame.setting).k) ≤ message_room) (sym r.count)
           (subst (λ (p : Setting). frames * (w.frame.blocks * p.k) ≤ message_room) (sym p)
           (subst (λ (t : ℕ). frames * (t * (setting_of number).k) ≤ message_room) (sym T) yes.has_message_room)),

@@ -1,10 +1,12 @@
--- The questions of each call (01, "Questions, asked in this order"; 02, #104): a call's answer is the first "no".
--- Holds: `Question`, `ask`, `ask_at`, `answer`, `first_no`; `most_blocks`, `most_frames`, `most_symbols`, `most_information`; `blocks_of` (T), `symbols_to`;
--- `length_questions`, `frame_questions`, `symbol_question`, `transmission_question`, `area_questions`, and from them the questions of decoding, encoding, display
--- and marks; `woven_questions`, and from them those of weaving, unweaving and decoding of woven frames; `encoding_samples`, `decoding_samples`,
--- `marks_samples`, `weaving_samples`, `woven_decoding_samples`.
-use Rattle.std.specs.Prelude.{◌≡◌, refl, Bool, ◌&&◌, List, [], ◌∷◌, ◌++◌, ℕ, suc, ◌+◌, ◌-◌, ◌*◌, ◌/◌, ◌%◌, eqb, leb, ltb, length, replicate}
+-- The questions of each call (01, "Questions, asked in this order"; 02, #104, #106): a call's answer is the first "no".
+-- Holds: `Question`, `ask`, `ask_at`, `answer`, `counted`, `first_no`; `most_blocks`, `most_frames`, `most_symbols`, `most_information`; `blocks_of` (T),
+-- `passing_to`; `is_symbol`, `is_received`, what question 4 admits, and `UnknownIsMark`; `length_questions`, `frame_questions`, `symbol_question`,
+-- `transmission_question`, `area_questions`, and from them the questions of decoding, encoding, display and marks; `woven_questions`, and from them those of
+-- weaving, unweaving and decoding of woven frames; `encoding_samples`, `decoding_samples`, `marks_samples`, `weaving_samples`, `woven_decoding_samples`.
+use Rattle.std.specs.Prelude.{◌≡◌, refl, Bool, true, ◌&&◌, ◌||◌, List, [], ◌∷◌, ◌++◌, ℕ, ◌+◌, ◌-◌, ◌*◌, ◌/◌, ◌%◌, ◌≤◌, eqb, leb, ltb, length, replicate}
+use Rattle.std.specs.List.{prefix_len}
 use Rattle.algebra.specs.Ops.{pick}
+use Rattle.field.specs.Symbols.{unknown_mark, is_unknown}
 use Rattle.code.specs.declared.Setting.{Setting}
 use Rattle.code.specs.Settings.{settings, is_setting, setting_of, largest}
 use Rattle.code.specs.Windows.{window_length}
@@ -23,13 +25,19 @@ ask number holds = record { number = number; place = 0; holds = holds }
 abbrev pub ask_at : ℕ → ℕ → Bool → Question
 ask_at number place holds = record { number = number; place = place; holds = holds }
 
-abbrev pub answer : ℕ → ℕ → ℕ → Answer
-answer number place altered = record { number = number; altered = altered; place = place }
+-- The answer of a call that counts nothing, and of every refusal.
+abbrev pub answer : ℕ → ℕ → Answer
+answer number place = record { number = number; altered = 0; place = place; unknown = 0 }
+
+-- The answer of a decoding that finds a message: "The answer's shared record gains the number of unknown symbols over all blocks, 0 with every refusal and from
+-- calls that don't decode" (02, #106).
+abbrev pub counted : ℕ → ℕ → Answer
+counted altered unknown = record { number = 0; altered = altered; place = 0; unknown = unknown }
 
 -- "A "no" gives the number .. the count is 0. When every answer is yes, number and place are 0."
 abbrev pub first_no : List Question → Answer
-first_no [] = answer 0 0 0
-first_no (x ∷ rest) = pick x.holds (first_no rest) (answer x.number x.place 0)
+first_no [] = answer 0 0
+first_no (x ∷ rest) = pick x.holds (first_no rest) (answer x.number x.place)
 
 -- "T at most 512"
 abbrev pub most_blocks : ℕ
@@ -50,10 +58,21 @@ most_information = largest (λ p. most_blocks * p.k) settings
 abbrev pub blocks_of : Setting → ℕ → ℕ
 blocks_of p long = long / p.n - p.m
 
--- How many symbols stand before the first byte that is not below q.
-unfoldable pub symbols_to : ℕ → List ℕ → ℕ
-symbols_to q [] = 0
-symbols_to q (x ∷ rest) = pick (ltb x q) (suc (symbols_to q rest)) 0
+-- How many bytes stand before the first that fails the test.
+unfoldable pub passing_to : (ℕ → Bool) → List ℕ → ℕ
+passing_to test bytes = prefix_len test bytes
+
+-- What question 4 admits: in encoding a symbol ("one byte below q"), elsewhere the mark of an unknown symbol too ("Questions 4 and 9 admit the mark, save in
+-- encoding", 02, #106).
+abbrev pub is_symbol : ℕ → ℕ → Bool
+is_symbol q x = ltb x q
+
+abbrev pub is_received : ℕ → ℕ → Bool
+is_received q x = is_symbol q x || eqb x unknown_mark
+
+-- Of the bytes that question 4 admits in a reception the mark alone stands for an unknown symbol (`unknown_is_mark`, proofs/Questions).
+abbrev pub UnknownIsMark : Type 0
+UnknownIsMark = (q v : ℕ) → q ≤ unknown_mark → is_received q v ≡ true → is_unknown q v ≡ eqb v unknown_mark
 
 -- Of a frame of this length, 2: "Is the length a multiple of n and at least (m+1) × n?" 3: "Is T at most 512?"
 abbrev pub length_questions : Setting → ℕ → List Question
@@ -66,9 +85,9 @@ length_questions p long =
 abbrev pub frame_questions : ℕ → ℕ → List Question
 frame_questions number long = ask 1 (is_setting number) ∷ length_questions (setting_of number) long
 
--- 4: "Is every symbol below q? Place: the first that is not, counted from 0."
-abbrev pub symbol_question : ℕ → List ℕ → Question
-symbol_question q symbols = ask_at 4 (symbols_to q symbols) (eqb (symbols_to q symbols) (length symbols))
+-- 4: "Is every symbol below q? Place: the first that is not, counted from 0." Of bytes of which these are admitted.
+abbrev pub symbol_question : (ℕ → Bool) → List ℕ → Question
+symbol_question admits symbols = ask_at 4 (passing_to admits symbols) (eqb (passing_to admits symbols) (length symbols))
 
 -- 6: "Does the transmission area have (T+m) × n bytes or more?"
 abbrev pub transmission_question : Setting → ℕ → ℕ → Question
@@ -77,7 +96,7 @@ transmission_question p T room = ask 6 (leb ((T + p.m) * p.n) room)
 -- 4, 5: "Does the message area have T × k bytes or more?", 6.
 abbrev pub area_questions : Setting → ℕ → List ℕ → ℕ → ℕ → List Question
 area_questions p T reception message_room transmission_room =
-    symbol_question p.q reception
+    symbol_question (is_received p.q) reception
     ∷ ask 5 (leb (T * p.k) message_room)
     ∷ transmission_question p T transmission_room
     ∷ []
@@ -94,7 +113,7 @@ encoding_questions number message transmission_room =
     ask 1 (is_setting number)
     ∷ ask 8 (eqb (length message % (setting_of number).k) 0 && leb (setting_of number).k (length message))
     ∷ ask 3 (leb (length message / (setting_of number).k) most_blocks)
-    ∷ symbol_question (setting_of number).q message
+    ∷ symbol_question (is_symbol (setting_of number).q) message
     ∷ transmission_question (setting_of number) (length message / (setting_of number).k) transmission_room
     ∷ []
 
@@ -120,7 +139,7 @@ woven_questions number D long =
 abbrev pub weaving_questions : ℕ → ℕ → List ℕ → ℕ → List Question
 weaving_questions number D incoming room =
     woven_questions number D (length incoming)
-    ++ symbol_question (setting_of number).q incoming
+    ++ symbol_question (is_received (setting_of number).q) incoming
     ∷ ask 6 (leb (length incoming) room)
     ∷ []
 
@@ -128,26 +147,27 @@ weaving_questions number D incoming room =
 abbrev pub woven_decoding_questions : ℕ → ℕ → List ℕ → ℕ → ℕ → List Question
 woven_decoding_questions number D reception message_room transmission_room =
     woven_questions number D (length reception)
-    ++ symbol_question (setting_of number).q reception
+    ++ symbol_question (is_received (setting_of number).q) reception
     ∷ ask 5 (leb (D * (blocks_of (setting_of number) (length reception / D) * (setting_of number).k)) message_room)
     ∷ ask 6 (leb (D * ((blocks_of (setting_of number) (length reception / D) + (setting_of number).m) * (setting_of number).n)) transmission_room)
     ∷ []
 
 -- Examples, computed: which question comes first where several would be answered "no".
--- No setting 257, though its last byte is 1; 8 before 3; 3 before 4; 4 with its place before 6; 6; yes.
+-- No setting 257, though its last byte is 1; 8 before 3; 3 before 4; 4 with its place before 6; 6; yes. A message has no unknown symbols: the mark gets 4.
 pub encoding_samples : first_no (encoding_questions 257 [] 0)
     ∷ first_no (encoding_questions 2 (replicate 1027 9) 0)
     ∷ first_no (encoding_questions 2 (replicate 1026 9) 0)
     ∷ first_no (encoding_questions 2 (replicate 1023 7 ++ 8 ∷ []) 0)
     ∷ first_no (encoding_questions 2 (replicate 1024 7) 3597)
     ∷ first_no (encoding_questions 2 (replicate 1024 7) 3598)
+    ∷ first_no (encoding_questions 2 (7 ∷ 255 ∷ []) 0)
     ∷ []
-    ≡ answer 1 0 0 ∷ answer 8 0 0 ∷ answer 3 0 0 ∷ answer 4 1023 0 ∷ answer 6 0 0 ∷ answer 0 0 0 ∷ []
-unfolding symbols_to
+    ≡ answer 1 0 ∷ answer 8 0 ∷ answer 3 0 ∷ answer 4 1023 ∷ answer 6 0 ∷ answer 0 0 ∷ answer 4 1 ∷ []
+unfolding passing_to
 encoding_samples = refl
 
 -- 1, below the settings and past them; 2 for a length that is no multiple of n, and for one below (m+1) × n; 3 before 4; 4 with its place before 5; 5 before 6;
--- 6; yes. With sixteen elements 15 is a symbol, and 16 is none.
+-- 6; yes. With sixteen elements 15 is a symbol, and 16 is none. Unknown symbols pass, with the mark 255 alone.
 pub decoding_samples : first_no (decoding_questions 0 [] 0 0)
     ∷ first_no (decoding_questions 6 [] 0 0)
     ∷ first_no (decoding_questions 3 (replicate 3592 9) 0 0)
@@ -158,10 +178,12 @@ pub decoding_samples : first_no (decoding_questions 0 [] 0 0)
     ∷ first_no (decoding_questions 3 (replicate 3591 7) 1536 3590)
     ∷ first_no (decoding_questions 3 (replicate 3591 7) 1536 3591)
     ∷ first_no (decoding_questions 4 (replicate 59 15 ++ 16 ∷ []) 0 0)
+    ∷ first_no (decoding_questions 1 (replicate 4 3 ++ replicate 8 255) 1 12)
+    ∷ first_no (decoding_questions 1 (replicate 11 255 ++ 254 ∷ []) 1 12)
     ∷ []
-    ≡ answer 1 0 0 ∷ answer 1 0 0 ∷ answer 2 0 0 ∷ answer 2 0 0 ∷ answer 3 0 0 ∷ answer 4 3590 0 ∷ answer 5 0 0 ∷ answer 6 0 0 ∷ answer 0 0 0
-    ∷ answer 4 59 0 ∷ []
-unfolding symbols_to
+    ≡ answer 1 0 ∷ answer 1 0 ∷ answer 2 0 ∷ answer 2 0 ∷ answer 3 0 ∷ answer 4 3590 ∷ answer 5 0 ∷ answer 6 0 ∷ answer 0 0
+    ∷ answer 4 59 ∷ answer 0 0 ∷ answer 4 11 ∷ []
+unfolding passing_to
 decoding_samples = refl
 
 -- 3 before 12; 12, for any j, before 13; 13; yes.
@@ -171,11 +193,11 @@ pub marks_samples : first_no (marks_questions 1 2060 0 513)
     ∷ first_no (marks_questions 1 2056 2055 511)
     ∷ first_no (marks_questions 1 2056 2056 511)
     ∷ []
-    ≡ answer 3 0 0 ∷ answer 12 0 0 ∷ answer 12 0 0 ∷ answer 13 0 0 ∷ answer 0 0 0 ∷ []
+    ≡ answer 3 0 ∷ answer 12 0 ∷ answer 12 0 ∷ answer 13 0 ∷ answer 0 0 ∷ []
 marks_samples = refl
 
 -- 1 before 14; 14 for no frame, one, nine and 2^64 − 1 frames, before 15; 15 before 2; an empty area passes 15 and gets 2; 2 of one frame's length, though both
--- frames' together would do; 3; 4 with its place before 6; 6; yes.
+-- frames' together would do; 3; 4 with its place before 6; 6; yes. Unknown symbols pass.
 pub weaving_samples : first_no (weaving_questions 6 0 [] 0)
     ∷ first_no (weaving_questions 1 0 (replicate 23 9) 0)
     ∷ first_no (weaving_questions 1 1 (replicate 23 9) 0)
@@ -188,20 +210,24 @@ pub weaving_samples : first_no (weaving_questions 6 0 [] 0)
     ∷ first_no (weaving_questions 1 2 (replicate 23 4 ++ 5 ∷ []) 0)
     ∷ first_no (weaving_questions 1 2 (replicate 24 4) 23)
     ∷ first_no (weaving_questions 1 8 (replicate 96 4) 96)
+    ∷ first_no (weaving_questions 1 2 (replicate 24 255) 24)
+    ∷ first_no (weaving_questions 1 2 (replicate 23 255 ++ 254 ∷ []) 24)
     ∷ []
-    ≡ answer 1 0 0 ∷ answer 14 0 0 ∷ answer 14 0 0 ∷ answer 14 0 0 ∷ answer 14 0 0 ∷ answer 15 0 0 ∷ answer 2 0 0 ∷ answer 2 0 0 ∷ answer 3 0 0
-    ∷ answer 4 23 0 ∷ answer 6 0 0 ∷ answer 0 0 0 ∷ []
-unfolding symbols_to
+    ≡ answer 1 0 ∷ answer 14 0 ∷ answer 14 0 ∷ answer 14 0 ∷ answer 14 0 ∷ answer 15 0 ∷ answer 2 0 ∷ answer 2 0 ∷ answer 3 0
+    ∷ answer 4 23 ∷ answer 6 0 ∷ answer 0 0 ∷ answer 0 0 ∷ answer 4 23 ∷ []
+unfolding passing_to
 weaving_samples = refl
 
 -- 14 before 15; 15 before 2; 4 with its place before 5; 5 for eight frames' bytes before 6; 6 for eight frames' bytes; yes.
+-- Unknown symbols pass.
 pub woven_decoding_samples : first_no (woven_decoding_questions 3 9 (replicate 113 9) 0 0)
     ∷ first_no (woven_decoding_questions 3 8 (replicate 113 9) 0 0)
     ∷ first_no (woven_decoding_questions 3 8 (replicate 111 7 ++ 8 ∷ []) 0 0)
     ∷ first_no (woven_decoding_questions 3 8 (replicate 112 7) 23 0)
     ∷ first_no (woven_decoding_questions 3 8 (replicate 112 7) 24 111)
     ∷ first_no (woven_decoding_questions 3 8 (replicate 112 7) 24 112)
+    ∷ first_no (woven_decoding_questions 3 8 (replicate 112 255) 24 112)
     ∷ []
-    ≡ answer 14 0 0 ∷ answer 15 0 0 ∷ answer 4 111 0 ∷ answer 5 0 0 ∷ answer 6 0 0 ∷ answer 0 0 0 ∷ []
-unfolding symbols_to
+    ≡ answer 14 0 ∷ answer 15 0 ∷ answer 4 111 ∷ answer 5 0 ∷ answer 6 0 ∷ answer 0 0 ∷ answer 0 0 ∷ []
+unfolding passing_to
 woven_decoding_samples = refl

@@ -6,7 +6,8 @@ use Rattle.question.specs.declared.refusal.Refusal.TheVariants.{UnknownSetting, 
 use Rattle.question.specs.declared.refusal.Refusal.TheVariants.{MessageLength, WrongCharacter, LineLength, LineTooLong, NoWindow, LengthsDiffer, FrameCount}
 use Rattle.question.specs.declared.refusal.Refusal.TheVariants.{UnevenFrames}
 use Rattle.question.specs.declared.answer.Answer.{Answer}
-use Rattle.question.specs.Questions.{answer}
+use Rattle.question.specs.declared.answer.Counts.{Counts}
+use Rattle.question.specs.Questions.{answer, counted}
 
 -- The number of the question that gets "no".
 abbrev pub number_of : Refusal → ℕ
@@ -32,12 +33,12 @@ place_of (NoSymbol place) = place
 place_of (WrongCharacter place) = place
 place_of refusal = 0
 
--- The answer of a call that gives an altered count, or refuses.
-abbrev pub answered : Result ℕ Refusal → Answer
-answered (Ok altered) = answer 0 0 altered
-answered (Err refusal) = answer (number_of refusal) (place_of refusal) 0
+-- The answer of a call that gives counts, or refuses.
+abbrev pub answered : Result Counts Refusal → Answer
+answered (Ok counts) = counted counts.altered counts.unknown
+answered (Err refusal) = answer (number_of refusal) (place_of refusal)
 
 -- The answer of a call that gives something else, or refuses.
 abbrev pub asked : {T : Type 0} → Result T Refusal → Answer
-asked (Ok x) = answer 0 0 0
-asked (Err refusal) = answer (number_of refusal) (place_of refusal) 0
+asked (Ok x) = answer 0 0
+asked (Err refusal) = answer (number_of refusal) (place_of refusal)

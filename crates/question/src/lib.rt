@@ -6,17 +6,35 @@ pub mod answer;
 pub mod refusal;
 pub mod shape;
 
-ghost use Rattle.std.specs.Prelude.{◌≡◌, ◌+◌, ◌∷◌, [], IfOk, length, nat_le, position};
+ghost use Rattle.std.specs.Prelude.{◌≡◌, ◌+◌, ◌∷◌, [], Bool, true, not, List, ℕ, IfOk, length, position};
 ghost use Rattle.field.specs.Symbols.{Symbols};
 ghost use Rattle.code.specs.parts.SettingNumbers.{number_of, parameters_of};
-ghost use Rattle.question.specs.Questions.{first_no, symbol_question, length_questions, frame_questions, area_questions, decoding_questions};
-ghost use Rattle.question.specs.Questions.{encoding_questions, display_questions, marks_questions, woven_questions, weaving_questions, woven_decoding_questions};
+ghost use Rattle.question.specs.Questions.{first_no, is_symbol, is_received, symbol_question, length_questions, frame_questions, area_questions};
+ghost use Rattle.question.specs.Questions.{decoding_questions, encoding_questions, display_questions, marks_questions};
+ghost use Rattle.question.specs.Questions.{woven_questions, weaving_questions, woven_decoding_questions};
 ghost use Rattle.question.specs.Refusals.{asked};
 ghost use Rattle.question.specs.parts.Shapes.{ReceptionOf, MessageOf, WovenOf};
 
 use code::{Setting, SettingNumber};
 use refusal::Refusal;
 use shape::{MOST_BLOCKS, MOST_FRAMES, Rooms, Shape, WovenShape};
+
+// "Byte 255 in a reception .. means an unknown symbol" (02, #106).
+pub const UNKNOWN_MARK: u8 = 255;
+
+// Whether question 4 admits a byte in a message: it is a symbol.
+pub fn is_symbol(q: usize, byte: u8) -> bool
+    ensures { result ≡ is_symbol q byte }
+{
+    usize::from(byte) < q
+}
+
+// Whether question 4 admits a byte in a reception: it is a symbol, or the mark of an unknown one.
+pub fn is_received(q: usize, byte: u8) -> bool
+    ensures { result ≡ is_received q byte }
+{
+    is_symbol(q, byte) || byte == UNKNOWN_MARK
+}
 
 // The largest byte, which no byte exceeds. No early exit: the compiler looks at many bytes at once.
 fn largest_byte(bytes: &[u8]) -> u8
@@ -25,24 +43,41 @@ fn largest_byte(bytes: &[u8]) -> u8
     bytes.iter().fold(0, |most, byte| most.max(*byte))
 }
 
-// The place of the first byte that is not below q, if there is one.
-fn first_not_below(q: usize, bytes: &[u8]) -> Option<usize>
-    ensures { result ≡ position (λ byte. nat_le q byte) bytes.now }
+// Whether all bytes are symbols. None is looked at by itself.
+fn all_symbols(q: usize, bytes: &[u8]) -> bool
+    ensures { result ≡ true → Symbols q bytes.now }
 {
-    bytes.iter().position(|byte| q <= usize::from(*byte))
+    usize::from(largest_byte(bytes)) < q
 }
 
-// Question 4. Where every byte is below q, no byte is looked at by itself.
-fn symbol_question(q: usize, bytes: &[u8]) -> Result<(), Refusal>
-    ensures { asked result ≡ first_no (symbol_question q bytes.now ∷ []) }
+// Question 4, by the place of the first byte that it does not admit, if there is one.
+fn all_admitted(refused: Option<usize>) -> Result<(), Refusal>
+    ensures { (admits : ℕ → Bool) (l : List ℕ) → refused ≡ position (λ b. not (admits b)) l → asked result ≡ first_no (symbol_question admits l ∷ []) }
 {
-    if usize::from(largest_byte(bytes)) < q {
-        return Ok(());
-    }
-    match first_not_below(q, bytes) {
+    match refused {
         Some(place) => Err(Refusal::NoSymbol(place)),
         None => Ok(()),
     }
+}
+
+// Question 4 of a message.
+fn message_question(q: usize, message: &[u8]) -> Result<(), Refusal>
+    ensures { asked result ≡ first_no (symbol_question (is_symbol q) message.now ∷ []) }
+{
+    if all_symbols(q, message) {
+        return Ok(());
+    }
+    all_admitted(message.iter().position(|byte| !is_symbol(q, *byte)))
+}
+
+// Question 4 of a reception.
+fn reception_question(q: usize, reception: &[u8]) -> Result<(), Refusal>
+    ensures { asked result ≡ first_no (symbol_question (is_received q) reception.now ∷ []) }
+{
+    if all_symbols(q, reception) {
+        return Ok(());
+    }
+    all_admitted(reception.iter().position(|byte| !is_received(q, *byte)))
 }
 
 // Questions 2 and 3 of a frame of this many symbols.
@@ -74,7 +109,7 @@ pub fn frame_questions(number: u64, long: usize) -> Result<Shape, Refusal>
 fn area_questions(shape: Shape, reception: &[u8], rooms: Rooms) -> Result<(), Refusal>
     ensures { asked result ≡ first_no (area_questions (parameters_of shape.setting) shape.blocks reception.now rooms.message rooms.transmission) }
 {
-    symbol_question(shape.parameters().q, reception)?;
+    reception_question(shape.parameters().q, reception)?;
     if rooms.message < shape.message_length() {
         return Err(Refusal::MessageRoom);
     }
@@ -113,7 +148,7 @@ pub fn encoding_questions(
         return Err(Refusal::TooManyBlocks);
     }
     let shape = Shape { setting, blocks };
-    symbol_question(p.q, message)?;
+    message_question(p.q, message)?;
     if transmission_room < shape.transmission_length() {
         return Err(Refusal::TransmissionRoom);
     }
@@ -177,7 +212,7 @@ pub fn weaving_questions(
     ensures shape { IfOk result (WovenOf number frames (length incoming.now)) }
 {
     let shape = woven_questions(number, frames, incoming.len())?;
-    symbol_question(shape.frame.parameters().q, incoming)?;
+    reception_question(shape.frame.parameters().q, incoming)?;
     if room < incoming.len() {
         return Err(Refusal::TransmissionRoom);
     }

@@ -13,7 +13,7 @@ pub enum Refusal {
     FrameLength,
     // 3
     TooManyBlocks,
-    // 4, and the place of the first byte that is no symbol
+    // 4, and the place of the first byte that is not admitted
     NoSymbol(usize),
     // 5
     MessageRoom,

@@ -1,6 +1,6 @@
 -- Woven frames: where each symbol goes, that weaving and unweaving undo each other, the columns of rows of symbols, and the calls.
--- Holds: `whole_frames` (the size of a frame); `length_transposed`, `transposed_symbol`, `transposed_twice`, `transposed_symbols`; `length_woven`,
--- `length_unwoven`, `woven_place`, `undone`, `rewoven`; of a column `column_length`, `column_symbol`, `column_symbols`, `column_part` (it is a frame of the
+-- Holds: `whole_frames` (the size of a frame); `length_transposed`, `transposed_symbol`, `transposed_twice`, `transposed_all`; `length_woven`,
+-- `length_unwoven`, `woven_place`, `undone`, `rewoven`; of a column `column_length`, `column_symbol`, `column_all`, `column_part` (it is a frame of the
 -- unwoven area), `column_one`, `column_size`; of the loop over the columns `column_room`, `transposed_of_columns`; of the calls `Movable`, `movable`, `unwoven_columns`, `laid_moved`.
 use mathlib.Core.Path.{◌≡◌, sym, ap, ◌∙◌, subst}
 use mathlib.Core.List.{List, ◌++◌}
@@ -10,10 +10,11 @@ use native.Mathlib.Omega.{arith}
 use lib.Arith.{digits_div, digits_mod, digits_lt}
 use lib.ListN.{length, get_or, take, drop}
 use lib.Seq.{length-take-le}
+use Rattle.std.specs.List.{All}
+use Rattle.std.proofs.lemmas.List.Elements.{All-from_get_or}
 use Rattle.area.specs.Lists.{part_at}
 use Rattle.area.proofs.Lists.{length_tabulate, get_d_tabulate, tabulated, place_in_blocks, blocks_hold, equal_blocks}
 use Rattle.area.proofs.Parts.{parts_apart, length_part_at, part_at_symbol}
-use Rattle.field.specs.Symbols.{Symbols}
 use Rattle.code.specs.parts.SettingNumbers.{parameters_of}
 use Rattle.question.specs.declared.shape.WovenShape.{WovenShape}
 use Rattle.question.specs.Questions.{answer, first_no, weaving_questions}
@@ -49,17 +50,15 @@ transposed_twice rows columns l long =
     equal_blocks rows columns (transposed columns rows once) l same_long long
     (λ f i hf hi. transposed_symbol columns rows once f i hf hi ∙ transposed_symbol rows columns l i f hi hf)
 
--- What is taken of symbols are symbols.
-pub transposed_symbols : (q rows columns : ℕ) (l : List ℕ) → length l ≡ rows * columns → Symbols q l → Symbols q (transposed rows columns l)
-transposed_symbols q rows columns l long S =
-    record {
-      below = λ s h.
-          let within : s < columns * rows = omega (arith, length_transposed rows columns l) in
-          let place = place_in_blocks columns s rows (blocks_hold columns s rows within) within in
-          subst (λ (t : ℕ). get_or (transposed rows columns l) t 0 < q) place.2
-          (subst (λ (t : ℕ). t < q) (sym (transposed_symbol rows columns l (s / rows) (s % rows) place.0 place.1))
-          (S.below (s % rows * columns + s / rows) (omega (arith, long, digits_lt place.1 place.0))));
-    }
+-- What all bytes are, all that are moved are.
+pub transposed_all : (P : ℕ → Type 0) (rows columns : ℕ) (l : List ℕ) → length l ≡ rows * columns → All P l → All P (transposed rows columns l)
+transposed_all P rows columns l long all =
+    All-from_get_or P (transposed rows columns l) 0 (λ s h.
+    let within : s < columns * rows = omega (arith, length_transposed rows columns l) in
+    let place = place_in_blocks columns s rows (blocks_hold columns s rows within) within in
+    subst (λ (t : ℕ). P (get_or (transposed rows columns l) t 0)) place.2
+    (subst P (sym (transposed_symbol rows columns l (s / rows) (s % rows) place.0 place.1))
+    (all (s % rows * columns + s / rows) 0 (omega (arith, long, digits_lt place.1 place.0)))))
 
 -- D frames of one length keep their number of symbols, woven and unwoven.
 module _ (D : ℕ) (l : List ℕ) (long : length l ≡ D * (length l / D)) where
@@ -104,13 +103,11 @@ module _ (D f : ℕ) (area : List ℕ) where
   column_place hf i h =
       let within : i * D + f < length area / D * D = digits_lt h hf in omega (arith, within, div-mul-le_self (length area) D)
 
-  pub column_symbols : (q : ℕ) → f < D → Symbols q area → Symbols q (column_of D f area)
-  column_symbols q hf s =
-      record {
-        below = λ i h.
-            let inside : i < length area / D = omega (arith, column_length) in
-            subst (λ (t : ℕ). t < q) (sym (column_symbol i inside)) (s.below (i * D + f) (column_place hf i inside));
-      }
+  pub column_all : (P : ℕ → Type 0) → f < D → All P area → All P (column_of D f area)
+  column_all P hf all =
+      All-from_get_or P (column_of D f area) 0 (λ i h.
+      let inside : i < length area / D = omega (arith, column_length) in
+      subst P (sym (column_symbol i inside)) (all (i * D + f) 0 (column_place hf i inside)))
 
   -- Of D woven frames, column f is frame f.
   pub column_part : f < D → column_of D f area ≡ part_at (length area / D) f (unwoven D area)
@@ -165,11 +162,11 @@ unwoven_columns {D} {size} {incoming} known e =
 -- The calls: the symbols laid in front of what the area held.
 module _ {number D : ℕ} {incoming before : List ℕ} where
   pub movable : {w : WovenShape} {size : ℕ} → WovenOf number D (length incoming) w
-      → answer 0 0 0 ≡ first_no (weaving_questions number D incoming (length before))
+      → answer 0 0 ≡ first_no (weaving_questions number D incoming (length before))
       → size ≡ (w.frame.blocks + (parameters_of w.frame.setting).m) * (parameters_of w.frame.setting).n → Movable D incoming before w size
   movable {w} {size} r asked s =
       let known = weaving_known incoming (length before) r asked in
-      let whole : length incoming ≡ w.frames * size = known.0.long ∙ ap (λ (t : ℕ). w.frames * t) (sym s) in
+      let whole : length incoming ≡ w.frames * size = known.0 ∙ ap (λ (t : ℕ). w.frames * t) (sym s) in
       record {
         frames = r.count;
         size_is = s ∙ sym (reception_long r.frame);
@@ -177,6 +174,6 @@ module _ {number D : ℕ} {incoming before : List ℕ} where
         front = length-take-le (length incoming) before known.1 ∙ whole;
       }
 
-  pub laid_moved : {laid front : List ℕ} → answer 0 0 0 ≡ first_no (weaving_questions number D incoming (length before)) → front ≡ laid
-      → Laid number D incoming laid before (answer 0 0 0) (front ++ drop (length incoming) before)
+  pub laid_moved : {laid front : List ℕ} → answer 0 0 ≡ first_no (weaving_questions number D incoming (length before)) → front ≡ laid
+      → Laid number D incoming laid before (answer 0 0) (front ++ drop (length incoming) before)
   laid_moved a f = record { answered = a; area = ap (λ (l : List ℕ). l ++ drop (length incoming) before) f }

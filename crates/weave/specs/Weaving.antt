@@ -43,7 +43,7 @@ abbrev pub CallUndone : (ℕ → List ℕ → List ℕ) → (ℕ → List ℕ �
 CallUndone lay back = (number D : ℕ) (incoming before after lent returned : List ℕ) (r s : Answer)
     → Laid number D incoming (lay D incoming) before r after → r.number ≡ 0 → length incoming ≤ length lent
     → Laid number D (take (length incoming) after) (back D (take (length incoming) after)) lent s returned
-    → (s ≡ answer 0 0 0) × (returned ≡ incoming ++ drop (length incoming) lent)
+    → (s ≡ answer 0 0) × (returned ≡ incoming ++ drop (length incoming) lent)
 
 -- Examples, computed: three frames of two symbols; two of three.
 pub woven_samples : woven 3 (1 ∷ 2 ∷ 3 ∷ 4 ∷ 5 ∷ 6 ∷ [])

@@ -4,7 +4,9 @@ use mathlib.Core.List.{List}
 use Prim.Native.Nat.{ℕ, ◌≤◌}
 use native.Mathlib.Omega.{arith}
 use lib.ListN.{length, take, length-take}
+use Rattle.std.specs.Prelude.{Err}
 use Rattle.field.specs.Symbols.{Symbols}
+use Rattle.question.specs.Refusals.{answered}
 use Rattle.question.proofs.Shapes.{refusal_numbered}
 use Rattle.line.specs.Questions.{setting_in, blocks_in}
 use Rattle.line.specs.Answering.{Answers, success, Shown, message_length, message_in, decoded}
@@ -18,7 +20,7 @@ message_long c = c.message_length.ensures ∙ shape_message c.in-Ok.ensures.shap
 
 message_said : (c : After-message_length)
     → Answers c.args.line.now
-    (success c.in-Ok-decode_line.altered (setting_in c.args.line.now) (blocks_in c.args.line.now) (message_in c.args.line.now c.decode_line.new.message))
+    (success c.in-Ok-decode_line.counts.altered (setting_in c.args.line.now) (blocks_in c.args.line.now) (message_in c.args.line.now c.decode_line.new.message))
     × (message_length c.args.line.now ≤ length c.decode_line.new.message)
     × (◌≡◌ {A = ℕ} 0 0 → Symbols 16 (message_in c.args.line.now c.decode_line.new.message))
 message_said c =
@@ -35,7 +37,7 @@ returns-in-Err-decode_line c =
     decoded frame.holds room _ c.in-Err-decode_line.ensures
     (record {
       text = _;
-      answers = subst (Answers line) (refusal_line line _ _ (refusal_numbered c.in-Err-decode_line.refusal)) found.0;
+      answers = subst (Answers line) (refusal_line line (answered (Err c.in-Err-decode_line.refusal)) _ (refusal_numbered c.in-Err-decode_line.refusal)) found.0;
       shown = c.write_refusal-in-Err-decode_line.ensures;
     })
 
@@ -59,7 +61,7 @@ returns-in-Ok-decode_line c =
     let found = (goal.at.returns-in-Ok-decode_line c).After-message_length in
     let line = c.args.line.now in
     let message = c.decode_line.new.message in
-    let altered = c.in-Ok-decode_line.altered in
+    let altered = c.in-Ok-decode_line.counts.altered in
     let frame = c.in-Ok.ensures.shape in
     let room = sym (c.has_room.ensures line frame) ∙ c.if-not-has_room.false in
     let text =

@@ -4,17 +4,15 @@ use native.Mathlib.Omega.{arith}
 use lib.ListN.{length, length-take, length-drop}
 use Rattle.question.specs.Refusals.{answered}
 use Rattle.line.specs.Answering.{line_areas}
-use Rattle.line.proofs.Frames.{symbols_count, digits_behind, room_is, frame_left}
+use Rattle.line.proofs.Frames.{symbols_count, room_is, frame_left}
 use Rattle.line.proofs.decode_line.Goals as goal
 
 pub read_digits-requires : goal.read_digits-requires
 read_digits-requires c =
     let a = c.args in
     let line = a.line.now in
-    let room = room_is line (length a.reception.now) (length a.message.now) (length a.transmission.now) c.requires.1 in (
-      digits_behind line c.requires.0.holds,
-      simp length-take (omega (arith, room.0, room.1, symbols_count line, length-drop 4 line)),
-    )
+    let room = room_is line (length a.reception.now) (length a.message.now) (length a.transmission.now) c.requires.1 in
+    simp length-take (omega (arith, room.0, room.1, symbols_count line, length-drop 4 line))
 
 pub returns : goal.returns
 returns c =

@@ -1,5 +1,5 @@
 -- The shapes of frames: what a call's questions find. Holds: `ReceptionOf`, `MessageOf`, `WovenOf`.
-use Rattle.std.specs.Prelude.{◌≡◌, ℕ, ◌+◌, ◌*◌, ◌/◌}
+use Rattle.std.specs.Prelude.{◌≡◌, ℕ, ◌*◌, ◌/◌}
 use Rattle.code.specs.Settings.{setting_of}
 use Rattle.code.specs.parts.Residual.{frame_length}
 use Rattle.code.specs.parts.SettingNumbers.{number_of}

@@ -1,4 +1,4 @@
--- `display::mark::difference_bits`: from the last place down, each mark is set below those of the later places.
+-- `display::mark::mark_bits`: from the last place down, each mark is set below those of the later places.
 use mathlib.Core.Path.{◌≡◌, ◌∙◌}
 use mathlib.Core.List.{reverse}
 use Rattle.std.proofs.Common.{rules, tests}
@@ -7,7 +7,7 @@ use Rattle.std.proofs.lemmas.Iterator.{YieldsList-from_zip}
 use Rattle.std.proofs.lemmas.Iterator.Adapters.{YieldsList-from_rev_slice}
 use Rattle.std.proofs.lemmas.Iterator.Consumers.{fold_from_yields_List}
 use Rattle.display.proofs.Bits.{bit_more, folded_bits}
-use Rattle.display.proofs.mark.difference_bits.Goals as goal
+use Rattle.display.proofs.mark.mark_bits.Goals as goal
 
 pub returns : goal.returns
 returns c =
