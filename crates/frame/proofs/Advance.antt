@@ -8,7 +8,6 @@ use native.Mathlib.Omega.{arith}
 use lib.ListN.{length, get_or}
 use Rattle.std.specs.Prelude.{Some, None}
 use Rattle.algebra.proofs.Tests.{false_not_true}
-use Rattle.field.specs.Symbols.{Symbols}
 use Rattle.field.specs.parts.Sequences.{AllBelow}
 use Rattle.code.specs.declared.Setting.{Setting}
 use Rattle.code.specs.Code.{distances_to}
@@ -43,37 +42,37 @@ module _ {p : Setting} {window : List ℕ} {found : Found} where
   pub search_below : LevelSearch p window (Some found) → AllBelow p.q found.information
   search_below (served some few below first) = below
 
-module _ {p : Setting} (S : Sound p) {T : ℕ} {reception : List ℕ} (R : Symbols p.q reception)
-    {j : ℕ} {message residual : List ℕ} (P : Settled p T reception j message residual) (l : j < T) {window : List ℕ} (is : window ≡ window_at p residual j) where
+module _ {p : Setting} (S : Sound p) {T unknown : ℕ} {reception : List ℕ}
+    {j : ℕ} {message residual : List ℕ} (P : Settled p T unknown reception j message residual) (l : j < T) {window : List ℕ} (is : window ≡ window_at p residual j) where
   -- No information is near: no message fits, whatever the areas hold.
-  pub advance_none : {i : ℕ} {message' residual' : List ℕ} → LevelSearch p window None → Advanced p T reception i message' residual' false
+  pub advance_none : {i : ℕ} {message' residual' : List ℕ} → LevelSearch p window None → Advanced p T unknown reception i message' residual' false
   advance_none (none_serves far) =
-      stopped (settled_none p S T reception R j message residual P l
+      stopped (settled_none p S T unknown reception j message residual P l
       (λ y Y near. far y Y (subst (λ (w : List ℕ). Near p w p.m y) (sym is) near)))
 
   -- The residual of the window is light: the guess of its first block is right.
-  pub advance_clean : length window ≡ window_length p → {cost : ℕ} → cost ≡ zero_cost p.q window → cost < distances_to p.n p.k p.m
-      → Advanced p T reception (j + 1) message residual true
-  advance_clean long_window counted few =
-      advanced (settled_found p S T reception R j message residual P (λ r. 0) message residual l
-      (λ y Y near r u. window_clean p S window long_window (omega arith) y Y (subst (λ (w : List ℕ). Near p w p.m y) (sym is) near) r u)
+  pub advance_clean : length window ≡ window_length p → zero_cost p.q window < distances_to p.n p.k p.m
+      → Advanced p T unknown reception (j + 1) message residual true
+  advance_clean long_window few =
+      advanced (settled_found p S T unknown reception j message residual P (λ r. 0) message residual l
+      (λ y Y near r u. window_clean p S window long_window few y Y (subst (λ (w : List ℕ). Near p w p.m y) (sym is) near) r u)
       (added_zero S P.areas (λ r. refl)))
 
   -- What was found went into the message.
   pub advance_found : {found : Found} {message' residual' : List ℕ} → LevelSearch p window (Some found)
-      → Added p T j (λ r. get_or found.information r 0) message residual message' residual'
-      → Advanced p T reception (j + 1) message' residual' true
+      → Added p T unknown j (λ r. get_or found.information r 0) message residual message' residual'
+      → Advanced p T unknown reception (j + 1) message' residual' true
   advance_found {found} {message' = message'} {residual' = residual'} (served some few below first) D =
-      advanced (settled_found p S T reception R j message residual P (λ r. get_or found.information r 0) message' residual' l
+      advanced (settled_found p S T unknown reception j message residual P (λ r. get_or found.information r 0) message' residual' l
       (λ y Y near r u. first y Y (subst (λ (w : List ℕ). Near p w p.m y) (sym is) near) r u) D)
 
-module _ {p : Setting} {T : ℕ} {reception : List ℕ} {j : ℕ} {message residual : List ℕ} where
+module _ {p : Setting} {T unknown : ℕ} {reception : List ℕ} {j : ℕ} {message residual : List ℕ} where
   -- A turn that did not stop has advanced..
-  pub advance_more : {r : Bool} → Advanced p T reception j message residual r → r ≡ true → Settled p T reception j message residual
+  pub advance_more : {r : Bool} → Advanced p T unknown reception j message residual r → r ≡ true → Settled p T unknown reception j message residual
   advance_more (advanced settled) e = settled
   advance_more (stopped far) e = absurd (false_not_true e)
 
   -- .. and one that stopped shows that no message fits, whatever the areas hold.
-  pub stopped_none : {r : Bool} → Advanced p T reception j message residual r → r ≡ false → NoneFits p T reception
+  pub stopped_none : {r : Bool} → Advanced p T unknown reception j message residual r → r ≡ false → NoneFits p T reception
   stopped_none (advanced settled) e = absurd (false_not_true (sym e))
   stopped_none (stopped far) e = far

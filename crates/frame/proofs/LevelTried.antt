@@ -11,10 +11,11 @@ use Rattle.std.specs.Prelude.{Some, None}
 use Rattle.std.specs.Bool.{then_some}
 use Rattle.area.specs.Lists.{view, part_at}
 use Rattle.area.specs.parts.Weights.{weight_of}
-use Rattle.field.specs.parts.Sequences.{AllBelow}
+use Rattle.field.specs.parts.Sequences.{AllBelow, at}
 use Rattle.code.specs.declared.Setting.{Setting}
 use Rattle.code.specs.Code.{level_distance, distances_to}
 use Rattle.code.specs.parts.Sound.{Sound}
+use Rattle.code.specs.Windows.{unknown_symbols}
 use Rattle.code.specs.parts.Cost.{level_cost}
 use Rattle.code.proofs.Distances.{distances_last}
 use Rattle.code.proofs.WindowBelow.{level_refused}
@@ -31,11 +32,12 @@ module _ {p : Setting} (S : Sound p) (window : List ℕ) {marks : List ℕ} {l :
   pub tried_far : Step p l (part_at p.n l window) marks None → LevelTried p window l None
   tried_far (far none unset) = fails (λ y Y h. rw (part_cost p l l window y) at (none y (λ b r u v. Y b r)))
 
-  -- A block was found, and its cost counted from the marks.
-  module _ {information : List ℕ} (step : Step p l (part_at p.n l window) marks (Some information)) {cost : ℕ} (counted : cost ≡ 2 * weight_of marks) where
+  -- A block was found, and its cost counted from the marks and its unknown symbols.
+  module _ {information : List ℕ} (step : Step p l (part_at p.n l window) marks (Some information)) {cost : ℕ}
+      (counted : cost ≡ 2 * weight_of marks + unknown_symbols p.q p.n (at (part_at p.n l window))) where
     cost_of : Step p l (part_at p.n l window) marks (Some information) → cost ≡ level_cost p (view p.n window l) l (view p.k information)
     cost_of (near below close marked) =
-        counted ∙ ap (λ (m : List ℕ). 2 * weight_of m) marked ∙ marks_cost p (part_at p.n l window) l (view p.k information)
+        counted ∙ ap (λ (m : List ℕ). 2 * weight_of m + unknown_symbols p.q p.n (at (part_at p.n l window))) marked ∙ marks_cost p (part_at p.n l window) l (view p.k information)
         ∙ part_cost p l l window (view p.k information)
 
     close_of : Step p l (part_at p.n l window) marks (Some information)

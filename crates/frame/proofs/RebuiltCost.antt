@@ -1,4 +1,4 @@
--- What rebuilt blocks of a window cost. Holds: `rebuilt_all`; `part_cost`.
+-- What rebuilt blocks of a window cost. Holds: `cost_at`; `rebuilt_all`; `part_cost`.
 use mathlib.Core.Path.{◌≡◌, refl, ap}
 use mathlib.Core.List.{List}
 use Prim.Native.Nat.{ℕ, ◌+◌}
@@ -11,7 +11,14 @@ use Rattle.code.specs.declared.Setting.{Setting}
 use Rattle.code.specs.Level.{combination}
 use Rattle.code.specs.parts.Cost.{symbol_cost, block_cost, rebuilt_cost, level_cost, window_cost}
 use Rattle.code.specs.Settings.{code_of}
+use Rattle.tables.specs.declared.combination.Combination.{Combination}
 use Rattle.frame.specs.parts.Window.{rebuilt_term, cost_before}
+
+-- What symbol i of a block costs against a combination.
+abbrev pub cost_at : Combination → List ℕ → ℕ → ℕ
+cost_at c block i =
+    let p = c.tables.now.setting in
+    symbol_cost p.q (at block i) (combination (code_of p) c.l (view p.k c.information.now) i)
 
 -- What the blocks before block l cost, and what block l costs, make up what blocks 0 .. l cost.
 pub rebuilt_all : (p : Setting) (window : List ℕ) (y : ℕ → ℕ → ℕ) (l : ℕ) → cost_before p window l y + rebuilt_term p window y l ≡ window_cost p window l y

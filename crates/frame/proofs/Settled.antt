@@ -24,35 +24,32 @@ use Rattle.code.proofs.ResidualSteps.{residual_start}
 use Rattle.frame.specs.parts.Window.{Near}
 use Rattle.frame.specs.parts.Frame.{Settled, Revised, Added, NoneFits}
 
-module _ (p : Setting) (S : Sound p) (T : ℕ) (reception : List ℕ) (R : Symbols p.q reception) where
-  received : (i : ℕ) → get_or reception i 0 < p.q
-  received = symbol_below p.q reception R (positive p S)
-
+module _ (p : Setting) (S : Sound p) (T unknown : ℕ) (reception : List ℕ) where
   -- The zero message, and the reception itself as its residual.
-  pub settled_start : length reception ≡ (T + p.m) * p.n → (message : List ℕ) → message ≡ replicate (T * p.k) 0 → Settled p T reception 0 message reception
-  settled_start long message e =
+  pub settled_start : (unknown ≡ 0 → Symbols p.q reception) → length reception ≡ (T + p.m) * p.n → (message : List ℕ) → message ≡ replicate (T * p.k) 0 → Settled p T unknown reception 0 message reception
+  settled_start known long message e =
       record {
         areas = record {
           message_long = ap length e ∙ length-replicate (T * p.k) 0;
           message_symbols = subst (Symbols p.q) (sym e) (symbols_zeros p.q (T * p.k) (positive p S));
           residual_long = long;
-          residual_symbols = R;
+          residual_symbols = known;
         };
-        is_residual = residual_start p S T reception message received zeros;
+        is_residual = residual_start p S T reception message zeros;
         begins = λ x f i l. absurd (omega arith);
       }
     where
       zeros : (i : ℕ) → get_or message i 0 ≡ 0
       zeros i = ap (λ (l : List ℕ). get_or l i 0) e ∙ get_d_zeros (T * p.k) i
 
-  module _ (j : ℕ) (message residual : List ℕ) (P : Settled p T reception j message residual) where
+  module _ (j : ℕ) (message residual : List ℕ) (P : Settled p T unknown reception j message residual) where
     found_below : (i : ℕ) → get_or message i 0 < p.q
     found_below = symbol_below p.q message P.areas.message_symbols (positive p S)
 
     -- What a message that fits has beyond the blocks found is near window j of the residual.
     pub near_of_fits : j < T → (x : List ℕ) → Fits p T reception x → Near p (window_at p residual j) p.m (ahead p x message j)
     near_of_fits l x F =
-        rw (residual_window p S T reception message residual received found_below P.is_residual x F.message_of j l (P.begins x F))
+        rw (residual_window p S T reception message residual found_below P.is_residual x F.message_of j l (P.begins x F))
         (fits_near p S T reception x F j l)
 
     pub fits_below : (x : List ℕ) → Fits p T reception x → BlocksBelow p.q (ahead p x message j)
@@ -81,23 +78,23 @@ module _ (p : Setting) (S : Sound p) (T : ℕ) (reception : List ℕ) (R : Symbo
             subst (λ (t : ℕ). get_or x t 0 ≡ get_or h t 0) place (block x F (i - j * p.k) (omega arith))
 
     -- Other guesses from a later block on keep what is known.
-    pub settled_revised : (i : ℕ) (message' residual' : List ℕ) → j ≤ i → Revised p T i message residual message' residual'
-        → Settled p T reception j message' residual'
+    pub settled_revised : (i : ℕ) (message' residual' : List ℕ) → j ≤ i → Revised p T unknown i message residual message' residual'
+        → Settled p T unknown reception j message' residual'
     settled_revised i message' residual' low N =
         record {
           areas = N.areas;
-          is_residual = N.is_residual reception R P.is_residual;
+          is_residual = N.is_residual reception P.is_residual;
           begins = λ x F a u. P.begins x F a u ∙ sym (N.before a (omega (arith, mul-le-mul_right p.k low)));
         }
 
     -- Block j was found beyond the guess: it goes into the message, and its contribution out of the residual.
     pub settled_found : (z : ℕ → ℕ) (message' residual' : List ℕ) → j < T
         → ((y : ℕ → ℕ → ℕ) → BlocksBelow p.q y → Near p (window_at p residual j) p.m y → (r : ℕ) → r < p.k → y 0 r ≡ z r)
-        → Added p T j z message residual message' residual' → Settled p T reception (j + 1) message' residual'
+        → Added p T unknown j z message residual message' residual' → Settled p T unknown reception (j + 1) message' residual'
     settled_found z message' residual' l first D =
         record {
           areas = D.revised.areas;
-          is_residual = D.revised.is_residual reception R P.is_residual;
+          is_residual = D.revised.is_residual reception P.is_residual;
           begins = begins_more message' D.revised.before (λ x F r u.
               sym (add_back p S (get_or x (j * p.k + r) 0) (get_or message (j * p.k + r) 0)
               (symbol_below p.q x F.message_of.symbols (positive p S) (j * p.k + r)) (found_below (j * p.k + r)))

@@ -2,6 +2,8 @@
 // The two areas stay two parameters: a struct of two `&mut` would need two clauses more in each contract, that its references stay the same.
 ghost use Rattle.std.specs.Prelude.{◌≡◌, ◌+◌, ◌*◌, ◌≤◌, ◌<◌, length, get_or};
 ghost use Rattle.field.specs.Symbols.{Symbols};
+ghost use Rattle.code.specs.Windows.{window_length};
+ghost use Rattle.tables.specs.parts.RowsAdded.{RowsAdded};
 ghost use Rattle.frame.specs.parts.Frame.{FrameAreas, Revised, Adjusted, Added};
 
 use super::Frame;
@@ -52,10 +54,22 @@ impl End {
 }
 
 impl Frame<'_> {
-    // Adds v to symbol r of block i of the message, and takes what it sends out of the residual.
+    // Adds v × row r of G_0, .., G_m to the known symbols of a window of the residual.
+    fn add_rows(&self, r: usize, v: u8, window: &mut [u8])
+        requires { (r < self.now.tables.now.setting.k) × (v < self.now.tables.now.setting.q) × (length window.old ≡ window_length self.now.tables.now.setting) × (self.now.unknown ≡ 0 → Symbols self.now.tables.now.setting.q window.old) }
+        ensures { RowsAdded self.now.tables.now.setting r v window.old window.new }
+    {
+        if self.unknown == 0 {
+            self.tables.add_rows(r, v, window);
+        } else {
+            self.tables.add_rows_to_known(r, v, window);
+        }
+    }
+
+    // Adds v to symbol r of block i of the message, and takes what it sends out of the known symbols of the residual.
     fn adjust(&self, i: usize, r: usize, v: u8, message: &mut [u8], residual: &mut [u8])
-        requires { (i < self.now.blocks) × (r < self.now.tables.now.setting.k) × (v < self.now.tables.now.setting.q) × FrameAreas self.now.tables.now.setting self.now.blocks message.old residual.old }
-        ensures { Adjusted self.now.tables.now.setting self.now.blocks i r v message.old residual.old message.new residual.new }
+        requires { (i < self.now.blocks) × (r < self.now.tables.now.setting.k) × (v < self.now.tables.now.setting.q) × FrameAreas self.now.tables.now.setting self.now.blocks self.now.unknown message.old residual.old }
+        ensures { Adjusted self.now.tables.now.setting self.now.blocks self.now.unknown i r v message.old residual.old message.new residual.new }
     {
         let p = self.tables.setting;
         let place = i * p.k + r;
@@ -64,13 +78,13 @@ impl Frame<'_> {
         let sum = self.tables.field.add(message[place], v);
         message[place] = sum;
         let less = self.tables.field.negate(v);
-        self.tables.add_rows(r, less, &mut residual[start..end]);
+        self.add_rows(r, less, &mut residual[start..end]);
     }
 
     // Adds an information block to block i of the message, if it has such a block.
     fn add_block(&self, i: usize, block: &[u8], message: &mut [u8], residual: &mut [u8])
-        requires { Symbols self.now.tables.now.setting.q block.now × (length block.now ≡ self.now.tables.now.setting.k) × FrameAreas self.now.tables.now.setting self.now.blocks message.old residual.old }
-        ensures { Added self.now.tables.now.setting self.now.blocks i (λ r. get_or block.now r 0) message.old residual.old message.new residual.new }
+        requires { Symbols self.now.tables.now.setting.q block.now × (length block.now ≡ self.now.tables.now.setting.k) × FrameAreas self.now.tables.now.setting self.now.blocks self.now.unknown message.old residual.old }
+        ensures { Added self.now.tables.now.setting self.now.blocks self.now.unknown i (λ r. get_or block.now r 0) message.old residual.old message.new residual.new }
     {
         if self.blocks <= i {
             return;
@@ -85,8 +99,8 @@ impl Frame<'_> {
 
     // Adds the information found at window j: its first block is certain, the others are guesses that later windows check.
     pub fn add_found(&self, j: usize, found: &Found, message: &mut [u8], residual: &mut [u8])
-        requires { Symbols self.now.tables.now.setting.q found.now.information × (found.now.blocks ≤ self.now.tables.now.setting.m + 1) × (j < self.now.blocks) × FrameAreas self.now.tables.now.setting self.now.blocks message.old residual.old }
-        ensures { Added self.now.tables.now.setting self.now.blocks j (λ r. get_or found.now.information r 0) message.old residual.old message.new residual.new }
+        requires { Symbols self.now.tables.now.setting.q found.now.information × (found.now.blocks ≤ self.now.tables.now.setting.m + 1) × (j < self.now.blocks) × FrameAreas self.now.tables.now.setting self.now.blocks self.now.unknown message.old residual.old }
+        ensures { Added self.now.tables.now.setting self.now.blocks self.now.unknown j (λ r. get_or found.now.information r 0) message.old residual.old message.new residual.new }
     {
         let k = self.tables.setting.k;
         self.add_block(j, &found.information[..k], message, residual);
@@ -96,34 +110,40 @@ impl Frame<'_> {
         }
     }
 
-    // Guesses block i of the message from the k symbols at an end of the residual of its block: any guess will do. It is right where they were not altered.
+    // Guesses block i of the message from the k symbols at an end of the residual of its block, unknown ones as zeros: any guess will do. It is right where they
+    // were neither altered nor lost.
     fn guess_from(&self, end: End, i: usize, message: &mut [u8], residual: &mut [u8])
-        requires { (i < self.now.blocks) × FrameAreas self.now.tables.now.setting self.now.blocks message.old residual.old }
-        ensures { Revised self.now.tables.now.setting self.now.blocks i message.old residual.old message.new residual.new }
+        requires { (i < self.now.blocks) × FrameAreas self.now.tables.now.setting self.now.blocks self.now.unknown message.old residual.old }
+        ensures { Revised self.now.tables.now.setting self.now.blocks self.now.unknown i message.old residual.old message.new residual.new }
     {
         let p = self.tables.setting;
         let scale = end.scale(self.tables);
         let start = i * p.n + end.start(p);
         for turn in 0..p.k {
             let r = end.symbol_in_turn(p.k, turn);
-            let v = self.tables.field.multiply(scale, residual[start + r]);
+            let symbol = self.tables.field.known_symbol(residual[start + r]);
+            let v = self.tables.field.multiply(scale, symbol);
             self.adjust(i, r, v, message, residual);
         }
     }
 
-    // Whether the residual of block i costs at most d_0.
+    // Whether the residual of block i costs little against zeros: at most d_0, or less where symbols are unknown.
     fn is_light(&self, i: usize, residual: &[u8]) -> bool
         requires { i * self.now.tables.now.setting.n + self.now.tables.now.setting.n ≤ length residual.now }
     {
         let p = self.tables.setting;
         let block = area::part(residual, p.n, i);
-        super::window::zero_cost(block) <= code::level_distance(p, 0)
+        let distance = code::level_distance(p, 0);
+        if self.unknown == 0 {
+            return area::weight(block) <= distance / 2;
+        }
+        super::window::is_light(p.q, block, distance)
     }
 
     // Guesses block i of the message again, if it has such a block and its residual is too heavy: from the first symbols, or else from the last ones.
     fn guess_block(&self, i: usize, message: &mut [u8], residual: &mut [u8])
-        requires { FrameAreas self.now.tables.now.setting self.now.blocks message.old residual.old }
-        ensures { Revised self.now.tables.now.setting self.now.blocks i message.old residual.old message.new residual.new }
+        requires { FrameAreas self.now.tables.now.setting self.now.blocks self.now.unknown message.old residual.old }
+        ensures { Revised self.now.tables.now.setting self.now.blocks self.now.unknown i message.old residual.old message.new residual.new }
     {
         if self.blocks <= i {
             return;
@@ -140,8 +160,8 @@ impl Frame<'_> {
 
     // Guesses blocks j + first .. j + m. Which blocks are guessed is free: nothing rests on a guess.
     pub fn guess_window(&self, j: usize, first: usize, message: &mut [u8], residual: &mut [u8])
-        requires { (j < self.now.blocks) × FrameAreas self.now.tables.now.setting self.now.blocks message.old residual.old }
-        ensures { Revised self.now.tables.now.setting self.now.blocks j message.old residual.old message.new residual.new }
+        requires { (j < self.now.blocks) × FrameAreas self.now.tables.now.setting self.now.blocks self.now.unknown message.old residual.old }
+        ensures { Revised self.now.tables.now.setting self.now.blocks self.now.unknown j message.old residual.old message.new residual.new }
     {
         for s in first..self.tables.setting.m + 1 {
             self.guess_block(j + s, message, residual);

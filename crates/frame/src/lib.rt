@@ -9,10 +9,12 @@ ghost use Rattle.std.specs.Prelude.{◌≤◌};
 
 use tables::Tables;
 
-// A frame of T information blocks, T+m blocks in all, by the tables of its setting: `blocks` is T.
+// A frame of T information blocks, T+m blocks in all, by the tables of its setting: `blocks` is T. So many symbols of its reception are unknown, and they are in
+// its residual; where none is, nobody looks for them.
 #[derive(Clone, Copy)]
 pub struct Frame<'a> {
     pub tables: &'a Tables,
     pub blocks: usize,
+    pub unknown: usize,
     pub ghost some: { 1 ≤ blocks },
 }

@@ -27,14 +27,14 @@ impl Frame<'_> {
         message: &mut [u8],
         residual: &mut [u8],
     ) -> Option<usize>
-        requires { (bound ≡ distances_to self.now.tables.now.setting.n self.now.tables.now.setting.k self.now.tables.now.setting.m) × (j < self.now.blocks) × FrameAreas self.now.tables.now.setting self.now.blocks message.old residual.old }
-        ensures { Turned self.now.tables.now.setting self.now.blocks j message.old residual.old message.new residual.new (is_some result) }
+        requires { (bound ≡ distances_to self.now.tables.now.setting.n self.now.tables.now.setting.k self.now.tables.now.setting.m) × (j < self.now.blocks) × FrameAreas self.now.tables.now.setting self.now.blocks self.now.unknown message.old residual.old }
+        ensures { Turned self.now.tables.now.setting self.now.blocks self.now.unknown j message.old residual.old message.new residual.new (is_some result) }
     {
         let window = Window {
             tables: self.tables,
             symbols: self.window(j, residual),
         };
-        if super::window::zero_cost(window.symbols) < bound {
+        if super::window::is_light(self.tables.setting.q, window.symbols, bound) {
             return Some(self.tables.setting.m);
         }
         let found = window.find_level()?;
@@ -46,8 +46,8 @@ impl Frame<'_> {
     // window begins one block later; of its blocks only those after the settled ones are guessed, since only they can have changed or are new. None where one
     // has no near information: then no message fits.
     fn read_windows(&self, message: &mut [u8], residual: &mut [u8]) -> Option<()>
-        requires { Settled self.now.tables.now.setting self.now.blocks residual.old 0 message.old residual.old }
-        ensures { Advanced self.now.tables.now.setting self.now.blocks residual.old self.now.blocks message.new residual.new (is_some result) }
+        requires { Settled self.now.tables.now.setting self.now.blocks self.now.unknown residual.old 0 message.old residual.old }
+        ensures { Advanced self.now.tables.now.setting self.now.blocks self.now.unknown residual.old self.now.blocks message.new residual.new (is_some result) }
     {
         let bound = code::distances_to(self.tables.setting, self.tables.setting.m);
         let mut first: usize = 0;
@@ -65,15 +65,12 @@ impl Frame<'_> {
     {
         let p = self.tables.setting;
         let bound = code::distances_to(p, p.m);
-        (0..self.blocks).all(|j| {
-            let cost = super::window::zero_cost(self.window(j, residual));
-            cost < bound
-        })
+        (0..self.blocks).all(|j| super::window::is_light(p.q, self.window(j, residual), bound))
     }
 
     // The message that fits the reception that stands in the residual's place, and its residual, in the areas that the caller lent; or none, if no message fits.
     pub fn read(&self, message: &mut [u8], residual: &mut [u8]) -> Option<()>
-        requires { (length message.old ≡ self.now.blocks * self.now.tables.now.setting.k) × (length residual.old ≡ frame_length self.now.tables.now.setting self.now.blocks) × Symbols self.now.tables.now.setting.q residual.old }
+        requires { (length message.old ≡ self.now.blocks * self.now.tables.now.setting.k) × (length residual.old ≡ frame_length self.now.tables.now.setting self.now.blocks) × (self.now.unknown ≡ 0 → Symbols self.now.tables.now.setting.q residual.old) }
         ensures { FrameRead self.now.tables.now.setting self.now.blocks residual.old message.new residual.new (is_some result) }
     {
         message.fill(0);

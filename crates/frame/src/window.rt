@@ -1,7 +1,6 @@
 // One window: the information near it, found by the levels of the code.
 ghost use Rattle.std.specs.Prelude.{◌≡◌, ℕ, ◌*◌, ◌≤◌, ◌<◌, ltb, min, length};
 ghost use Rattle.area.specs.Lists.{view};
-ghost use Rattle.field.specs.Symbols.{Symbols};
 ghost use Rattle.field.specs.parts.Sequences.{AllBelow, at};
 ghost use Rattle.code.specs.Windows.{window_length};
 ghost use Rattle.code.specs.parts.Cost.{level_cost, zero_cost};
@@ -16,7 +15,6 @@ use tables::{LONGEST_BLOCK, Tables};
 pub struct Window<'a> {
     pub tables: &'a Tables,
     pub symbols: &'a [u8],
-    pub ghost below: { Symbols tables.now.setting.q symbols.now },
     pub ghost long: { length symbols.now ≡ window_length tables.now.setting },
 }
 
@@ -27,11 +25,16 @@ pub struct Found {
     pub blocks: usize,
 }
 
-// What the symbols cost against zeros, whatever the field.
-pub fn zero_cost(symbols: &[u8]) -> usize
-    ensures { (q : ℕ) → result ≡ zero_cost q symbols.now }
+// Whether the symbols cost less than the bound against zeros. Where they would even if every unknown one were a known one that differs, none is looked for.
+pub fn is_light(q: usize, symbols: &[u8], bound: usize) -> bool
+    requires { 1 ≤ q }
+    ensures { result ≡ ltb (zero_cost q symbols.now) bound }
 {
-    2 * area::weight(symbols)
+    let most = 2 * area::weight(symbols);
+    if most < bound {
+        return true;
+    }
+    most - code::unknown_symbols(q, symbols) < bound
 }
 
 // What a received block costs against a rebuilt one, counted up to the bound: a cost that reaches it may be larger.
@@ -39,15 +42,13 @@ fn cost_against(rebuilt: &Combination, block: &[u8], bound: usize) -> usize
     requires { length block.now ≡ rebuilt.now.tables.now.setting.n }
     ensures { min bound result ≡ min bound (level_cost rebuilt.now.tables.now.setting (at block.now) rebuilt.now.l (view rebuilt.now.tables.now.setting.k rebuilt.now.information.now)) }
 {
+    let q = rebuilt.tables.setting.q;
     let mut cost: usize = 0;
     for (i, &received) in block.iter().enumerate() {
         if bound <= cost {
             return cost;
         }
-        let symbol = rebuilt.symbol(i);
-        if received != symbol {
-            cost += 2;
-        }
+        cost += code::symbol_cost(q, received, rebuilt.symbol(i));
     }
     cost
 }
@@ -79,7 +80,7 @@ impl Window<'_> {
     }
 
     // One level: the information of the code block near block l of the window, if it rebuilds blocks 0 .. l near enough. What block l costs is counted from the marks
-    // of its repair.
+    // of its repair, and its unknown symbols.
     fn try_level(&self, l: usize) -> Option<Information>
         requires { l ≤ self.now.tables.now.setting.m }
         ensures { LevelTried self.now.tables.now.setting self.now.symbols.now l result }
@@ -89,7 +90,9 @@ impl Window<'_> {
         let mut room = [0u8; LONGEST_BLOCK];
         let marks = &mut room[..p.n];
         let information = block::repair(self.tables, block, l, marks)?;
-        let left = code::distances_to(p, l) - block::marked_cost(marks);
+        let bound = code::distances_to(p, l);
+        let cost = block::marked_cost(marks) + code::unknown_symbols(p.q, block);
+        let left = bound - cost;
         self.is_near_before(&information, l, left)
             .then_some(information)
     }

@@ -15,12 +15,12 @@ use Rattle.code.specs.parts.Residual.{frame_length}
 use Rattle.code.specs.declared.Setting.{Setting}
 use Rattle.code.specs.Settings.{setting_of}
 use Rattle.code.specs.parts.Sound.{Sound}
-use Rattle.code.specs.Windows.{transmission, altered}
+use Rattle.code.specs.Windows.{transmission, altered, unknown_in}
 use Rattle.code.proofs.Settings.{sound_of}
 use Rattle.code.proofs.CodeBelow.{transmission_length}
 use Rattle.code.proofs.Demand3.{at_most_one_fits}
 use Rattle.question.specs.declared.answer.Answer.{Answer}
-use Rattle.question.specs.Questions.{answer, first_no, blocks_of, decoding_questions}
+use Rattle.question.specs.Questions.{answer, counted, first_no, blocks_of, decoding_questions}
 use Rattle.question.proofs.Questions.{decoding_yes}
 use Rattle.link.specs.Decoding.{FrameDecoded, found, none_fits, DecodedIn, Decoded, refused, well_formed, DecodingDetermined}
 use Rattle.link.specs.Woven.{refused as woven_refused, well_formed as woven_well_formed, WovenDetermined}
@@ -31,7 +31,7 @@ module _ (p : Setting) (S : Sound p) (T : ℕ) (reception : List ℕ) where
       → (r ≡ s) × (message ≡ other) × (sent ≡ other_sent)
   frame_determined {r} {s} {message} {other} (found F e t) (found G f u) =
       let one : message ≡ other = at_most_one_fits p S T reception message other F G in (
-        e ∙ (ap (λ (x : List ℕ). answer 0 0 (altered p T reception (transmission p x))) one ∙ sym f),
+        e ∙ (ap (λ (x : List ℕ). counted (altered p T reception (transmission p x)) (unknown_in p T reception)) one ∙ sym f),
         one,
         t ∙ (ap (transmission p) one ∙ sym u),
       )
@@ -147,11 +147,11 @@ woven_determined number D reception message transmitted r s message' transmitted
     T : ℕ
     T = blocks_of p (length reception / D)
 
-    one : (g : ℕ) → g < D → (get_or r.frame g (answer 0 0 0) ≡ get_or s.frame g (answer 0 0 0))
+    one : (g : ℕ) → g < D → (get_or r.frame g (answer 0 0) ≡ get_or s.frame g (answer 0 0))
         × (part_at (T * p.k) g message' ≡ part_at (T * p.k) g other) × (part_at (frame_length p T) g transmitted' ≡ part_at (frame_length p T) g other_sent)
     one g below = decoded_determined number _ _ _ _ _ _ _ _ _ (F.frame g below) (G.frame g below)
 
-    at : (g : ℕ) → Dec (g < D) → get_or r.frame g (answer 0 0 0) ≡ get_or s.frame g (answer 0 0 0)
+    at : (g : ℕ) → Dec (g < D) → get_or r.frame g (answer 0 0) ≡ get_or s.frame g (answer 0 0)
     at g (yes below) = (one g below).0
     at g (no past) = F.no_frame g (omega arith) ∙ sym (G.no_frame g (omega arith))
 

@@ -1,6 +1,6 @@
 -- What the proofs of the public calls share.
-pub mod Sending
 pub mod Decoding
+pub mod Sending
 pub mod CountBound
 pub mod Determined
 pub mod OrderKinds

@@ -10,20 +10,20 @@ use Prim.Native.Nat.{ℕ, ◌*◌, ◌/◌, ◌≤◌}
 use native.Mathlib.Omega.{arith}
 use lib.Dec.{T as Passes, eqb, leb, eqb→eq, leb→le, le→leb}
 use lib.ListN.{length, drop, replicate, length-replicate}
-use borrow.Author.Tests.{eq-eqb, eqb-true}
+use borrow.Author.Tests.{eq-eqb}
 use Rattle.algebra.specs.Ops.{pick}
 use Rattle.algebra.proofs.Tests.{and_left, and_right}
 use Rattle.code.specs.parts.Residual.{frame_length}
 use Rattle.code.specs.declared.Setting.{Setting}
 use Rattle.code.specs.Settings.{setting_of}
 use Rattle.code.specs.parts.Sound.{Sound}
-use Rattle.code.specs.Windows.{transmission, altered, Fits}
+use Rattle.code.specs.Windows.{transmission, altered, unknown_in, Fits}
 use Rattle.code.proofs.CodeBelow.{transmission_long, transmission_length}
 use Rattle.code.proofs.Settings.{sound_of}
 use Rattle.code.proofs.Demand3.{at_most_one_fits}
 use Rattle.code.proofs.Search.{fits_test, fits_of_test, none_fits_test, no_message_fits}
 use Rattle.question.specs.declared.answer.Answer.{Answer}
-use Rattle.question.specs.Questions.{answer, first_no, blocks_of, decoding_questions, encoding_questions}
+use Rattle.question.specs.Questions.{answer, counted, first_no, blocks_of, decoding_questions, encoding_questions}
 use Rattle.question.proofs.Questions.{all_yes, yes_all, decoding_yes}
 use Rattle.link.specs.Encoding.{encoded_area}
 use Rattle.link.specs.Orders.{Call, encoding, decoding, Order, Promised, Overwritten, OrderKept}
@@ -43,6 +43,25 @@ same_list_lem [] (y ∷ b) t = absurd t
 same_list_lem (x ∷ a) [] t = absurd t
 same_list_lem (x ∷ a) (y ∷ b) t = ap₂ ◌∷◌ (eqb→eq x y (and_left (eqb x y) (same_list a b) t)) (same_list_lem a b (and_right (eqb x y) (same_list a b) t))
 
+unfoldable pub same_answer : Answer → Answer → Bool
+same_answer a b = eqb a.number b.number && (eqb a.altered b.altered && (eqb a.place b.place && eqb a.unknown b.unknown))
+
+same_answer_lem : (a b : Answer) → Passes (same_answer a b) → a ≡ b
+unfolding same_answer
+same_answer_lem a b t =
+    let number = eqb a.number b.number in
+    let altered = eqb a.altered b.altered in
+    let place = eqb a.place b.place in
+    let unknown = eqb a.unknown b.unknown in
+    let counts : Passes (altered && (place && unknown)) = and_right number (altered && (place && unknown)) t in
+    let last : Passes (place && unknown) = and_right altered (place && unknown) counts in
+    λ i. record {
+      number = eqb→eq a.number b.number (and_left number (altered && (place && unknown)) t) i;
+      altered = eqb→eq a.altered b.altered (and_left altered (place && unknown) counts) i;
+      place = eqb→eq a.place b.place (and_left place unknown last) i;
+      unknown = eqb→eq a.unknown b.unknown (and_right place unknown last) i;
+    }
+
 -- T of a reception.
 abbrev pub blocks : Order → ℕ
 blocks o = blocks_of (setting_of o.setting) (length o.given)
@@ -51,7 +70,7 @@ blocks o = blocks_of (setting_of o.setting) (length o.given)
 unfoldable pub encoding_test : Order → Bool
 encoding_test o =
     eqb (first_no (encoding_questions o.setting o.given (length o.sent))).number 0
-    && ((eqb o.number 0 && (eqb o.place 0 && eqb o.count 0))
+    && (same_answer o.answer (answer 0 0)
     && same_list o.sent (transmission (setting_of o.setting) o.given))
 
 -- A reception that is read: its message fits.
@@ -59,7 +78,7 @@ unfoldable pub read_test : Order → Bool
 read_test o =
     fits_test (setting_of o.setting) (blocks o) o.given o.message
     && (same_list o.sent (transmission (setting_of o.setting) o.message)
-    && eqb o.count (altered (setting_of o.setting) (blocks o) o.given o.sent))
+    && same_answer o.answer (counted (altered (setting_of o.setting) (blocks o) o.given o.sent) (unknown_in (setting_of o.setting) (blocks o) o.given)))
 
 -- A reception that gets number 7: the search finds no message.
 unfoldable pub seven_test : Order → Bool
@@ -67,14 +86,13 @@ seven_test o =
     none_fits_test (setting_of o.setting) (blocks o) o.given
     && (same_list o.message (replicate (blocks o * (setting_of o.setting).k) 0)
     && (same_list o.sent (replicate (frame_length (setting_of o.setting) (blocks o)) 0)
-    && eqb o.count 0))
+    && same_answer o.answer (answer 7 0)))
 
 -- A reception: with areas just long enough questions 1 to 6 get "yes".
 unfoldable pub decoding_test : Order → Bool
 decoding_test o =
     eqb (first_no (decoding_questions o.setting o.given (length o.message) (length o.sent))).number 0
-    && (eqb o.place 0
-    && elim (eqb o.number 0) [ true ↦ read_test o | false ↦ eqb o.number 7 && seven_test o ])
+    && elim (eqb o.answer.number 0) [ true ↦ read_test o | false ↦ seven_test o ]
 
 abbrev pub test_of : Call → Order → Bool
 test_of encoding o = encoding_test o
@@ -89,7 +107,7 @@ room_more : (a room room' : ℕ) → Passes (leb a room) → room ≤ room' → 
 room_more a room room' t h = le→leb a room' (omega (arith, leb→le a room t))
 
 encoding_room : (number : ℕ) (message : List ℕ) (room room' : ℕ) → (first_no (encoding_questions number message room)).number ≡ 0 → room ≤ room'
-    → first_no (encoding_questions number message room') ≡ answer 0 0 0
+    → first_no (encoding_questions number message room') ≡ answer 0 0
 encoding_room number message room room' e h =
     let yes_to = all_yes (encoding_questions number message room) tt e in
     let p = setting_of number in
@@ -108,7 +126,7 @@ encoding_room number message room room' e h =
     )
 
 decoding_room : (number : ℕ) (reception : List ℕ) (a a' b b' : ℕ) → (first_no (decoding_questions number reception a b)).number ≡ 0 → a ≤ a' → b ≤ b'
-    → first_no (decoding_questions number reception a' b') ≡ answer 0 0 0
+    → first_no (decoding_questions number reception a' b') ≡ answer 0 0
 decoding_room number reception a a' b b' e ha hb =
     let yes_to = all_yes (decoding_questions number reception a b) tt e in
     let p = setting_of number in
@@ -127,10 +145,6 @@ decoding_room number reception a a' b b' e ha hb =
       ),
     )
 
-same_answer : {r : Answer} {a b c a' b' c' : ℕ} → r ≡ answer a b c → a' ≡ a → b' ≡ b → c' ≡ c → r ≡ answer a' b' c'
-same_answer {r} {a} {b} {c} {a'} {b'} {c'} e ea eb ec =
-    e ∙ (ap (λ (t : ℕ). answer t b c) (sym ea) ∙ (ap (λ (t : ℕ). answer a' t c) (sym eb) ∙ ap (λ (t : ℕ). answer a' b' t) (sym ec)))
-
 overwritten_by : (front other before after : List ℕ) (a : ℕ) → after ≡ other ++ drop a before → front ≡ other → length front ≡ a
     → Overwritten front before after
 overwritten_by front other before after a e same long =
@@ -143,7 +157,7 @@ zeros_long n l e = ap length e ∙ length-replicate n 0
 encoding_order : (o : Order) → Passes (encoding_test o) → Promised encoding o
 unfolding encoding_test
 encoding_order o t before after r room E = (
-  same_answer (E.answered ∙ clear) zero_number zero_place zero_count,
+  E.answered ∙ (clear ∙ sym (same_answer_lem o.answer (answer 0 0) (and_left none same later))),
   overwritten_by o.sent (transmission p o.given) before after (frame_length p (length o.given / p.k)) written sent_is
       (ap length sent_is ∙ transmission_long p o.given),
 )
@@ -154,34 +168,22 @@ encoding_order o t before after r room E = (
     asked : Bool
     asked = eqb (first_no (encoding_questions o.setting o.given (length o.sent))).number 0
 
-    zeros : Bool
-    zeros = eqb o.number 0 && (eqb o.place 0 && eqb o.count 0)
+    none : Bool
+    none = same_answer o.answer (answer 0 0)
 
     same : Bool
     same = same_list o.sent (transmission p o.given)
 
-    later : Passes (zeros && same)
-    later = and_right asked (zeros && same) t
+    later : Passes (none && same)
+    later = and_right asked (none && same) t
 
-    clear : first_no (encoding_questions o.setting o.given (length before)) ≡ answer 0 0 0
+    clear : first_no (encoding_questions o.setting o.given (length before)) ≡ answer 0 0
     clear =
         encoding_room o.setting o.given (length o.sent) (length before)
-        (eqb→eq (first_no (encoding_questions o.setting o.given (length o.sent))).number 0 (and_left asked (zeros && same) t)) room
-
-    zero_number : o.number ≡ 0
-    zero_number = eqb→eq o.number 0 (and_left (eqb o.number 0) (eqb o.place 0 && eqb o.count 0) (and_left zeros same later))
-
-    rest : Passes (eqb o.place 0 && eqb o.count 0)
-    rest = and_right (eqb o.number 0) (eqb o.place 0 && eqb o.count 0) (and_left zeros same later)
-
-    zero_place : o.place ≡ 0
-    zero_place = eqb→eq o.place 0 (and_left (eqb o.place 0) (eqb o.count 0) rest)
-
-    zero_count : o.count ≡ 0
-    zero_count = eqb→eq o.count 0 (and_right (eqb o.place 0) (eqb o.count 0) rest)
+        (eqb→eq (first_no (encoding_questions o.setting o.given (length o.sent))).number 0 (and_left asked (none && same) t)) room
 
     sent_is : o.sent ≡ transmission p o.given
-    sent_is = same_list_lem o.sent (transmission p o.given) (and_right zeros same later)
+    sent_is = same_list_lem o.sent (transmission p o.given) (and_right none same later)
 
     written : after ≡ encoded_area p o.given before
     written =
@@ -190,13 +192,12 @@ encoding_order o t before after r room E = (
 
 -- Question 7's answer and parts are the order's.
 record Parts (o : Order) (r : Answer) (message sent : List ℕ) : Type 0 where
-  answered : r ≡ answer o.number o.place o.count
+  answered : r ≡ o.answer
   message_is : o.message ≡ message
   sent_is : o.sent ≡ sent
 
 -- Questions 1 to 6 get "yes" of the order's reception with these areas.
-module _ (o : Order) (asked : (first_no (decoding_questions o.setting o.given (length o.message) (length o.sent))).number ≡ 0)
-    (clear_place : o.place ≡ 0) where
+module _ (o : Order) (asked : (first_no (decoding_questions o.setting o.given (length o.message) (length o.sent))).number ≡ 0) where
   abbrev p : Setting
   p = setting_of o.setting
 
@@ -214,7 +215,7 @@ module _ (o : Order) (asked : (first_no (decoding_questions o.setting o.given (l
       → length o.message ≡ blocks o * p.k → length o.sent ≡ frame_length p (blocks o)
       → ((x y : List ℕ) → FrameDecoded p (blocks o) o.given r x y → Parts o r x y)
       → Decoded o.setting o.given message sent r message' sent'
-      → (r ≡ answer o.number o.place o.count) × Overwritten o.message message message' × Overwritten o.sent sent sent'
+      → (r ≡ o.answer) × Overwritten o.message message message' × Overwritten o.sent sent sent'
   whole message message' sent sent' r hm hs long sent_long frame (refused h e f g) = absurd (never_refused message sent hm hs h)
   whole message message' sent sent' r hm hs long sent_long frame (well_formed h D) =
       let parts = frame D.message_part D.transmission_part D.decoded in (
@@ -223,9 +224,9 @@ module _ (o : Order) (asked : (first_no (decoding_questions o.setting o.given (l
         overwritten_by o.sent D.transmission_part sent sent' (frame_length p (blocks o)) D.transmission_area parts.sent_is sent_long,
       )
 
-  read_order : o.number ≡ 0 → Passes (read_test o) → Promised decoding o
+  read_order : Passes (read_test o) → Promised decoding o
   unfolding read_test
-  read_order zero_number t message message' sent sent' r hm hs D = whole message message' sent sent' r hm hs fits.message_of.long sent_long frame D
+  read_order t message message' sent sent' r hm hs D = whole message message' sent sent' r hm hs fits.message_of.long sent_long frame D
     where
       fit : Bool
       fit = fits_test p (blocks o) o.given o.message
@@ -233,8 +234,11 @@ module _ (o : Order) (asked : (first_no (decoding_questions o.setting o.given (l
       same : Bool
       same = same_list o.sent (transmission p o.message)
 
+      counts : List ℕ → Answer
+      counts sent = counted (altered p (blocks o) o.given sent) (unknown_in p (blocks o) o.given)
+
       count : Bool
-      count = eqb o.count (altered p (blocks o) o.given o.sent)
+      count = same_answer o.answer (counts o.sent)
 
       fits : Fits p (blocks o) o.given o.message
       fits = fits_of_test p sound (blocks o) o.given o.message (and_left fit (same && count) t)
@@ -242,8 +246,8 @@ module _ (o : Order) (asked : (first_no (decoding_questions o.setting o.given (l
       sent_is : o.sent ≡ transmission p o.message
       sent_is = same_list_lem o.sent (transmission p o.message) (and_left same count (and_right fit (same && count) t))
 
-      count_is : o.count ≡ altered p (blocks o) o.given o.sent
-      count_is = eqb→eq o.count (altered p (blocks o) o.given o.sent) (and_right same count (and_right fit (same && count) t))
+      answer_is : o.answer ≡ counts o.sent
+      answer_is = same_answer_lem o.answer (counts o.sent) (and_right same count (and_right fit (same && count) t))
 
       sent_long : length o.sent ≡ frame_length p (blocks o)
       sent_long =
@@ -255,14 +259,14 @@ module _ (o : Order) (asked : (first_no (decoding_questions o.setting o.given (l
           let one : o.message ≡ x = at_most_one_fits p sound (blocks o) o.given o.message x fits F in
           let sent_one : o.sent ≡ transmission p x = sent_is ∙ ap (transmission p) one in
           record {
-            answered = same_answer e zero_number clear_place (count_is ∙ ap (altered p (blocks o) o.given) sent_one);
+            answered = e ∙ sym (answer_is ∙ ap counts sent_one);
             message_is = one;
             sent_is = sent_one ∙ sym g;
           }
 
-  seven_order : o.number ≡ 7 → Passes (seven_test o) → Promised decoding o
+  seven_order : Passes (seven_test o) → Promised decoding o
   unfolding seven_test
-  seven_order seven t message message' sent sent' r hm hs D =
+  seven_order t message message' sent sent' r hm hs D =
       whole message message' sent sent' r hm hs (zeros_long (blocks o * p.k) o.message message_is)
       (zeros_long (frame_length p (blocks o)) o.sent sent_is) frame D
     where
@@ -275,50 +279,45 @@ module _ (o : Order) (asked : (first_no (decoding_questions o.setting o.given (l
       no_sent : Bool
       no_sent = same_list o.sent (replicate (frame_length p (blocks o)) 0)
 
-      no_count : Bool
-      no_count = eqb o.count 0
+      seven : Bool
+      seven = same_answer o.answer (answer 7 0)
 
-      later : Passes (no_message && (no_sent && no_count))
-      later = and_right none (no_message && (no_sent && no_count)) t
+      later : Passes (no_message && (no_sent && seven))
+      later = and_right none (no_message && (no_sent && seven)) t
 
       message_is : o.message ≡ replicate (blocks o * p.k) 0
-      message_is = same_list_lem o.message (replicate (blocks o * p.k) 0) (and_left no_message (no_sent && no_count) later)
+      message_is = same_list_lem o.message (replicate (blocks o * p.k) 0) (and_left no_message (no_sent && seven) later)
 
       sent_is : o.sent ≡ replicate (frame_length p (blocks o)) 0
-      sent_is = same_list_lem o.sent (replicate (frame_length p (blocks o)) 0) (and_left no_sent no_count (and_right no_message (no_sent && no_count) later))
+      sent_is = same_list_lem o.sent (replicate (frame_length p (blocks o)) 0) (and_left no_sent seven (and_right no_message (no_sent && seven) later))
 
-      count_is : o.count ≡ 0
-      count_is = eqb→eq o.count 0 (and_right no_sent no_count (and_right no_message (no_sent && no_count) later))
+      answer_is : o.answer ≡ answer 7 0
+      answer_is = same_answer_lem o.answer (answer 7 0) (and_right no_sent seven (and_right no_message (no_sent && seven) later))
 
       frame : (x y : List ℕ) → FrameDecoded p (blocks o) o.given r x y → Parts o r x y
-      frame x y (found F e g) = absurd (no_message_fits p sound (blocks o) o.given (and_left none (no_message && (no_sent && no_count)) t) x F)
+      frame x y (found F e g) = absurd (no_message_fits p sound (blocks o) o.given (and_left none (no_message && (no_sent && seven)) t) x F)
       frame x y (none_fits far e f g) =
-          record { answered = same_answer e seven clear_place count_is; message_is = message_is ∙ sym f; sent_is = sent_is ∙ sym g }
+          record { answered = e ∙ sym answer_is; message_is = message_is ∙ sym f; sent_is = sent_is ∙ sym g }
 
 order_kept : (c : Call) (o : Order) → Passes (test_of c o) → Promised c o
 unfolding decoding_test
 order_kept encoding o t = encoding_order o t
-order_kept decoding o t = at (eqb o.number 0) refl (and_right place kind (and_right asked (place && kind) t))
+order_kept decoding o t = at (eqb o.answer.number 0) (and_right asked (kind (eqb o.answer.number 0)) t)
   where
     asked : Bool
     asked = eqb (first_no (decoding_questions o.setting o.given (length o.message) (length o.sent))).number 0
 
-    place : Bool
-    place = eqb o.place 0
-
-    kind : Bool
-    kind = elim (eqb o.number 0) [ true ↦ read_test o | false ↦ eqb o.number 7 && seven_test o ]
+    kind : Bool → Bool
+    kind b = elim b [ true ↦ read_test o | false ↦ seven_test o ]
 
     yes_to : (first_no (decoding_questions o.setting o.given (length o.message) (length o.sent))).number ≡ 0
-    yes_to = eqb→eq (first_no (decoding_questions o.setting o.given (length o.message) (length o.sent))).number 0 (and_left asked (place && kind) t)
+    yes_to =
+        eqb→eq (first_no (decoding_questions o.setting o.given (length o.message) (length o.sent))).number 0
+        (and_left asked (kind (eqb o.answer.number 0)) t)
 
-    clear_place : o.place ≡ 0
-    clear_place = eqb→eq o.place 0 (and_left place kind (and_right asked (place && kind) t))
-
-    at : (b : Bool) → eqb o.number 0 ≡ b → Passes (elim b [ true ↦ read_test o | false ↦ eqb o.number 7 && seven_test o ]) → Promised decoding o
-    at true e t = read_order o yes_to clear_place (eqb-true o.number 0 e) t
-    at false e t =
-        seven_order o yes_to clear_place (eqb→eq o.number 7 (and_left (eqb o.number 7) (seven_test o) t)) (and_right (eqb o.number 7) (seven_test o) t)
+    at : (b : Bool) → Passes (kind b) → Promised decoding o
+    at true read = read_order o yes_to read
+    at false seven = seven_order o yes_to seven
 
 -- A list that passes is kept.
 pub each_kept : (l : List Order) → Passes (orders_test l) → (o : Order) → Memᴰ o l → OrderKept o

@@ -2,6 +2,7 @@
 -- Holds: `frames_more`, as the loop over the frames goes; `woven_known`; `alone`, `column_alone` (a frame by itself);
 -- `woven_decoded`.
 use mathlib.Core.Path.{◌≡◌, sym, ap, subst, ◌∙◌}
+use mathlib.Core.Bool.{true}
 use mathlib.Core.List.{List}
 use Prim.Native.Nat.{ℕ, ◌+◌, ◌*◌, ◌/◌, ◌≤◌, ◌<◌}
 use native.Mathlib.Omega.{arith}
@@ -10,20 +11,20 @@ use lib.ListN.{length, get_or, set}
 use lib.Seq.{get_or-set_same, get_or-set_other}
 use Rattle.area.specs.Lists.{part_at}
 use Rattle.area.proofs.Parts.{parts_apart, length_part_at, with_part, part_put, part_put_before, drop_put}
-use Rattle.field.specs.Symbols.{Symbols}
 use Rattle.code.specs.parts.Residual.{frame_length}
 use Rattle.code.specs.declared.Setting.{Setting}
 use Rattle.code.specs.Settings.{setting_of}
 use Rattle.code.specs.parts.SettingNumbers.{parameters_of}
 use Rattle.question.specs.declared.answer.Answer.{Answer}
 use Rattle.question.specs.declared.shape.WovenShape.{WovenShape}
-use Rattle.question.specs.Questions.{answer, first_no, blocks_of, woven_decoding_questions}
+use Rattle.std.specs.List.{AllPass}
+use Rattle.question.specs.Questions.{answer, is_received, first_no, blocks_of, woven_decoding_questions}
 use Rattle.question.specs.parts.Shapes.{WovenOf}
 use Rattle.question.proofs.Questions.{FrameShape, WovenDecodingYes, woven_decoding_yes}
 use Rattle.question.proofs.Shapes.{reception_setting, reception_blocks}
 use Rattle.weave.specs.Weaving.{unwoven}
 use Rattle.weave.specs.parts.Columns.{column_of}
-use Rattle.weave.proofs.Weaving.{column_length, column_symbols, column_part}
+use Rattle.weave.proofs.Weaving.{column_length, column_all, column_part}
 use Rattle.link.specs.declared.woven.WovenAnswer.{WovenAnswer}
 use Rattle.link.specs.parts.WovenFrames.{FramesTo, EachDecoded}
 use Rattle.link.specs.Decoding.{FrameDecoded, Decoded}
@@ -39,23 +40,23 @@ module _ (p : Setting) (T D : ℕ) (woven message transmitted : List ℕ) where
   frames_more short long f answers messages sent part reread a e e' few short_room short_part long_room long_part F now =
       record {
         frame = λ g h. at g h (ℕ_discrete g f);
-        no_frame = λ g h. get_or-set_other answers f g a (answer 0 0 0) (omega arith) ∙ F.no_frame g (omega arith);
+        no_frame = λ g h. get_or-set_other answers f g a (answer 0 0) (omega arith) ∙ F.no_frame g (omega arith);
         message_past = rw (sym e) (drop_put short f messages part short_room short_part message (rw e F.message_past));
         transmission_past = rw (sym e') (drop_put long f sent reread long_room long_part transmitted (rw e' F.transmission_past));
       }
     where
       at : (g : ℕ) → g < f + 1 → Dec (g ≡ f)
-          → FrameDecoded p T (column_of D g woven) (get_or (set answers f a) g (answer 0 0 0)) (part_at (T * p.k) g (with_part short f messages part))
+          → FrameDecoded p T (column_of D g woven) (get_or (set answers f a) g (answer 0 0)) (part_at (T * p.k) g (with_part short f messages part))
           (part_at (frame_length p T) g (with_part long f sent reread))
       at g h (yes s) =
           let here = part_put short f messages part short_room short_part in
           let here' = part_put long f sent reread long_room long_part in
-          rw (s, sym e, sym e', get_or-set_same answers f a (answer 0 0 0) few, here, here') now
+          rw (s, sym e, sym e', get_or-set_same answers f a (answer 0 0) few, here, here') now
       at g h (no d) =
           let below : g < f = omega arith in
           let kept = part_put_before short f messages part short_room short_part g below in
           let kept' = part_put_before long f sent reread long_room long_part g below in
-          rw (get_or-set_other answers f g a (answer 0 0 0) d, sym e, sym e', kept, kept') (rw (e, e') (F.frame g below))
+          rw (get_or-set_other answers f g a (answer 0 0) d, sym e, sym e', kept, kept') (rw (e, e') (F.frame g below))
 
 -- What decoding of woven frames knows once the questions before 7 got "yes".
 module _ (number D : ℕ) (reception message transmitted : List ℕ)
@@ -84,8 +85,9 @@ module _ (number D : ℕ) (reception message transmitted : List ℕ)
     frame_shape : FrameShape p (length frame)
     frame_shape = subst (FrameShape p) (sym frame_long) woven_known.woven.frame
 
-    frame_symbols : Symbols p.q frame
-    frame_symbols = subst (Symbols p.q) frame_column (column_symbols D f reception p.q below woven_known.symbols)
+    frame_received : AllPass (is_received p.q) frame
+    frame_received =
+        subst (AllPass (is_received p.q)) frame_column (column_all D f reception (λ x. is_received p.q x ≡ true) below woven_known.received)
 
     frame_blocks : blocks_of p (length frame) ≡ T
     frame_blocks = ap (blocks_of p) frame_long
@@ -105,7 +107,7 @@ module _ (number D : ℕ) (reception message transmitted : List ℕ)
         → Decoded number frame (part_at (T * p.k) f message) (part_at (frame_length p T) f transmitted) a part sent
     alone {a} {part} {sent} F =
         decoded_alone number frame (part_at (T * p.k) f message) (part_at (frame_length p T) f transmitted) woven_known.woven.setting frame_shape
-        frame_symbols short long
+        frame_received short long
         (subst (λ (t : ℕ). FrameDecoded p t frame a part sent) (sym frame_blocks) (subst (λ (l : List ℕ). FrameDecoded p T l a part sent) frame_column F))
 
     -- .. and the other way round.
@@ -116,7 +118,7 @@ module _ (number D : ℕ) (reception message transmitted : List ℕ)
         subst (λ (l : List ℕ). FrameDecoded p T l a part sent) (sym frame_column)
         (subst (λ (t : ℕ). FrameDecoded p t frame a part sent) frame_blocks
         (frame_alone number frame (part_at (T * p.k) f message) (part_at (frame_length p T) f transmitted) woven_known.woven.setting frame_shape
-        frame_symbols short long A))
+        frame_received short long A))
 
   -- All frames, of the shape that the questions found.
   pub woven_decoded : {w : WovenShape} → WovenOf number D (length reception) w → {r : WovenAnswer} {message' transmitted' : List ℕ}

@@ -2,14 +2,15 @@
 //
 // A line in: the call's letter, the setting, and j or D (16 digits each), the lengths of three areas (4 digits each), with a space after each,
 // then the areas, two digits a byte, one after the other. All digits are hexadecimal.
-// A line out: number, place and count of the answer in decimal, then what the call returned and what it left in the areas; for a desk line, its answer.
+// A line out: number, place, altered and unknown symbols of the answer in decimal, then what the call returned and what it left in the areas; for a desk line,
+// its answer.
 #![tactic(auto)]
 
 ghost use Rattle.std.specs.Prelude.{◌≤◌, ◌<◌, length};
 
 use display::Marks;
 use link::woven::WovenAnswer;
-use question::answer::Answer;
+use question::answer::{Answer, Counts};
 use question::refusal::Refusal;
 use question::shape::MOST_FRAMES;
 use std::fmt;
@@ -68,7 +69,7 @@ impl fmt::Display for Digits<'_> {
     }
 }
 
-// An answer, written as its number, place and count.
+// An answer, written as its number, its place, and how many symbols are altered and unknown.
 #[derive(Clone, Copy)]
 struct Numbers {
     of: Answer,
@@ -78,16 +79,16 @@ impl fmt::Display for Numbers {
     fn fmt<W: fmt::Write>(&self, f: &mut fmt::Formatter<W>) -> fmt::Result {
         write!(
             f,
-            "{} {} {}",
-            self.of.number, self.of.place, self.of.altered
+            "{} {} {} {}",
+            self.of.number, self.of.place, self.of.altered, self.of.unknown
         )
     }
 }
 
-// The answer of a call that gives no count, and what it returned or left in its one area.
+// The answer of a call that counts nothing, and what it returned or left in its one area.
 fn show_outcome(rt: &HostRuntime, outcome: Result<(), Refusal>, area: &[u8]) -> Result<(), Error> {
     let answer = Numbers {
-        of: Answer::from(outcome.map(|()| 0)),
+        of: Answer::from(outcome.map(|()| Counts::default())),
     };
     writeln!(rt.stdout(), "{} {}", answer, Digits { of: area })
 }

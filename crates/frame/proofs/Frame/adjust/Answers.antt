@@ -12,7 +12,7 @@ returns c =
     let t = a.self.now.tables.now in
     let p = t.setting in
     let less = c.negate-less in
-    adjusted p t.ready.sound a.self.now.blocks a.i a.r a.v a.message.now a.residual.now c.requires.3 c.requires.0 c.requires.1 c.requires.2
+    adjusted p t.ready.sound a.self.now.blocks a.self.now.unknown a.i a.r a.v a.message.now a.residual.now c.requires.3 c.requires.0 c.requires.1 c.requires.2
     c.add-sum.result (rw (sym t.same_field) at c.add-sum.ensures.same)
     less.result (omega (arith, t.same_field, less.ensures.below))
     (ap ((ops_of p.q).add a.v) (rw (sym t.same_field) at less.ensures.same) ∙ (laws p t.ready.sound).plus_neg a.v c.requires.2)

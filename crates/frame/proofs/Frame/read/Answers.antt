@@ -16,7 +16,7 @@ pub read_windows-requires : goal.read_windows-requires
 read_windows-requires c =
     let a = c.args in
     let t = a.self.now.tables.now in
-    settled_start t.setting t.ready.sound a.self.now.blocks a.residual.now c.requires.2 c.requires.1 _
+    settled_start t.setting t.ready.sound a.self.now.blocks a.self.now.unknown a.residual.now c.requires.2 c.requires.1 _
     (c.fill.ensures.after (λ y e. e) ∙ ap (λ (t : ℕ). replicate t 0) c.requires.0)
 
 pub returns-in_err-read_windows : goal.returns-in_err-read_windows
@@ -31,6 +31,6 @@ pub returns : goal.returns
 returns c =
     let a = c.args in
     let p : Setting = a.self.now.tables.now.setting in
-    let read = frame_compared a.self.now.tables.now.ready.sound c.requires.2 c.requires.1 a.self.now.some (advance_more c.in_ok-read_windows.ensures refl) c.compare_windows.ensures in
+    let read = frame_compared a.self.now.tables.now.ready.sound c.requires.1 a.self.now.some (advance_more c.in_ok-read_windows.ensures refl) c.compare_windows.ensures in
     rw c.then_some.ensures
     (subst (FrameRead p a.self.now.blocks a.residual.now c.read_windows.new.message c.read_windows.new.residual) (decided c.compare_windows.result) read)

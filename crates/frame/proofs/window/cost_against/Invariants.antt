@@ -2,7 +2,7 @@
 use Prim.Native.Nat.{◌*◌, ◌≤◌}
 use mathlib.Core.Path.{◌≡◌}
 use Rattle.algebra.specs.Weight.{total}
-use Rattle.block.proofs.Marking.{cost_at}
+use Rattle.frame.proofs.RebuiltCost.{cost_at}
 use Rattle.frame.proofs.window.cost_against.Given as goal
 
 abbrev pub invariant-loop-i : goal.invariant-loop-i

@@ -1,8 +1,37 @@
--- `link::decode::altered_count`: the weight of the blocks before the closing ones.
+-- `link::decode::altered_count`: the known symbols that are not zero, of the blocks before the closing ones.
 use mathlib.Core.Path.{◌∙◌}
 use Prim.Native.Nat.{◌*◌}
-use Rattle.area.proofs.Parts.{front_weight}
+use native.Mathlib.Omega.{arith}
+use Rattle.area.proofs.Parts.{front_count, front_weight}
+use Rattle.field.specs.Symbols.{is_unknown}
+use Rattle.field.specs.parts.Sequences.{at}
+use Rattle.code.specs.declared.Setting.{Setting}
+use Rattle.code.proofs.CodeBelow.{positive}
+use Rattle.code.proofs.Cost.{known_nonzero}
 use Rattle.link.proofs.decode.altered_count.Goals as goal
 
+pub overflow_sub-result : goal.overflow_sub-result
+overflow_sub-result c =
+    let t = c.args.frame.now.tables.now in
+    let p : Setting = t.setting in
+    let count = c.args.frame.now.blocks * p.n in
+    let left = c.args.residual.now in
+    omega (
+      arith,
+      c.weight.ensures ∙ front_weight count left c.requires,
+      c.unknown_symbols.ensures ∙ front_count (is_unknown p.q) count left c.requires,
+      known_nonzero p.q (positive p t.ready.sound) count (at left),
+    )
+
 pub returns : goal.returns
-returns c = c.weight.ensures ∙ front_weight (c.args.frame.now.blocks * c.args.frame.now.tables.now.setting.n) c.args.residual.now c.requires
+returns c =
+    let t = c.args.frame.now.tables.now in
+    let p : Setting = t.setting in
+    let count = c.args.frame.now.blocks * p.n in
+    let left = c.args.residual.now in
+    omega (
+      arith,
+      c.weight.ensures ∙ front_weight count left c.requires,
+      c.unknown_symbols.ensures ∙ front_count (is_unknown p.q) count left c.requires,
+      known_nonzero p.q (positive p t.ready.sound) count (at left),
+    )

@@ -17,7 +17,6 @@ decode_frame-requires c =
     let front : length (take long.result a.transmission.now) ≡ long.result =
     length-take-le _ _ (omega (arith, long.ensures, known.has_transmission_room)) in (
       front,
-      known.symbols,
       length-take-le _ _ (omega (arith, short.ensures, known.has_message_room)) ∙ short.ensures,
       front ∙ long.ensures,
     )

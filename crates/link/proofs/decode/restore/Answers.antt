@@ -3,7 +3,7 @@ use mathlib.Core.Path.{sym, subst}
 use Prim.Native.Nat.{ℕ, ◌≤◌, ◌<◌}
 use native.Mathlib.Omega.{arith}
 use Rattle.weave.specs.parts.Columns.{symbols_of}
-use Rattle.weave.proofs.Weaving.{column_size, column_symbols}
+use Rattle.weave.proofs.Weaving.{column_size}
 use Rattle.link.proofs.Decoding.{restored_more}
 use Rattle.link.proofs.decode.restore.Goals as goal
 
@@ -13,9 +13,8 @@ subtract-requires c =
     let k = c.args.reception.now in
     let l = c.loop-i in
     let least : l.i ≤ l.i = omega arith in
-    let size = column_size k.long k.columns k.c k.rows.now k.whole k.within in
-    let symbols = column_symbols k.columns k.c k.rows.now q k.within c.requires.1 in (
-      subst (λ (t : ℕ). t < q) (sym c.symbol.ensures) (symbols.below l.i (omega (arith, size, c.requires.0, l.invariant.long))),
+    let size = column_size k.long k.columns k.c k.rows.now k.whole k.within in (
+      subst (λ (t : ℕ). t < q) (sym c.symbol.ensures) (c.requires.1.below l.i (omega (arith, size, c.requires.0, l.invariant.long))),
       subst (λ (t : ℕ). t < q) (sym (l.invariant.outside l.i least)) (c.requires.2.below l.i (omega (arith, l.invariant.long))),
     )
 

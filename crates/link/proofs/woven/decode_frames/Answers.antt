@@ -19,11 +19,11 @@ part_in {size} {frames} {f} {lent} part e l room same =
 
 pub slice_bounds-decode_frame-end : goal.slice_bounds-decode_frame-end
 slice_bounds-decode_frame-end c =
-    part_in c.message_length-short.result c.message_length-short.ensures c.loop-f-test.true c.requires.2 c.loop-f.auto.message
+    part_in c.message_length-short.result c.message_length-short.ensures c.loop-f-test.true c.requires.1 c.loop-f.auto.message
 
 pub slice_bounds-decode_frame-end-in-loop-f : goal.slice_bounds-decode_frame-end-in-loop-f
 slice_bounds-decode_frame-end-in-loop-f c =
-    part_in c.transmission_length-long.result c.transmission_length-long.ensures c.loop-f-test.true c.requires.3 c.loop-f.auto.transmission
+    part_in c.transmission_length-long.result c.transmission_length-long.ensures c.loop-f-test.true c.requires.2 c.loop-f.auto.transmission
 
 pub loop-f-preserved : goal.loop-f-preserved
 loop-f-preserved c =
@@ -32,8 +32,8 @@ loop-f-preserved c =
     let l = c.loop-f in
     let short = c.message_length-short in
     let long = c.transmission_length-long in
-    let message_part = part_in short.result short.ensures c.loop-f-test.true c.requires.2 l.auto.message in
-    let transmission_part = part_in long.result long.ensures c.loop-f-test.true c.requires.3 l.auto.transmission in
+    let message_part = part_in short.result short.ensures c.loop-f-test.true c.requires.1 l.auto.message in
+    let transmission_part = part_in long.result long.ensures c.loop-f-test.true c.requires.2 l.auto.transmission in
     let decoded = c.decode_frame in
     let few : l.f < length (map answered l.outcomes) = omega (arith, c.loop-f-test.true, a.shape.few, length-map l.outcomes answered, l.invariant.0) in (
       length-set l.outcomes l.f decoded.result ∙ l.invariant.0,

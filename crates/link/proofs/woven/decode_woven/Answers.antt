@@ -11,7 +11,7 @@ decode_frames-requires c =
     let a = c.args in
     let asked = c.in_ok-shape.ensures in
     let known = woven_decoding_known a.reception.now (length a.message.now) (length a.transmission.now) asked.shape asked.answer in
-    (known.0.long ∙ mul_comm _ _, known.0.symbols, known.1, known.2)
+    (known.0 ∙ mul_comm _ _, known.1, known.2)
 
 pub returns : goal.returns
 returns c =

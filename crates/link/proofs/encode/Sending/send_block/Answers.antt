@@ -1,5 +1,5 @@
 -- `link::encode::Sending::send_block`: the symbols of block i before symbol r were sent.
-use mathlib.Core.Path.{◌≡◌, sym, ap, subst, ◌∙◌}
+use mathlib.Core.Path.{◌≡◌, refl, sym, ap, subst, ◌∙◌}
 use mathlib.Core.List.{List}
 use Prim.Native.Nat.{ℕ, ◌+◌, ◌*◌, ◌≤◌, ◌<◌}
 use native.Mathlib.Omega.{arith}
@@ -17,7 +17,7 @@ use Rattle.link.proofs.encode.Sending.send_block.Goals as goal
 
 -- Window i lies within the area.
 window_in : {p : Setting} {T i count : ℕ} {message area : List ℕ} → i < T → SentTo p T message count area → i * p.n + window_length p ≤ length area
-window_in {p} {T} {i} {area = area} l sent = window_room p T i sent.rest area sent.areas l
+window_in {p} {T} {i} {area = area} l sent = window_room p T 0 i sent.rest area sent.areas l
 
 -- A symbol of block i.
 symbol_in : (k i r : ℕ) (message : List ℕ) {block : List ℕ} → block ≡ part_at k i message → r < k → get_or block r 0 ≡ get_or message (i * k + r) 0
@@ -35,7 +35,7 @@ add_rows-requires c =
       subst (λ (t : ℕ). t < p.q) (sym (symbol_in p.k i l.r self.message.now c.part-block.ensures.part below))
           (message_below p self.tables.now.ready.sound self.blocks self.message.now self.fits i l.r),
       part_length (window_length p) (i * p.n) l.area (window_in c.requires.0 l.invariant),
-      symbols_part p.q (i * p.n) (i * p.n + window_length p) l.area l.invariant.areas.residual_symbols,
+      symbols_part p.q (i * p.n) (i * p.n + window_length p) l.area (l.invariant.areas.residual_symbols refl),
     )
 
 pub loop-r-preserved : goal.loop-r-preserved
