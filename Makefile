@@ -1,4 +1,4 @@
-# make run: the desk program on document 01's sample lines. make test: all tests. make figures: the benchmark.
+# make run: the desk program on sample lines. make test: all tests. make figures: the benchmark.
 # make archive: what C links.
 .PHONY: run test archive gate callers figures
 

@@ -3,6 +3,7 @@
 #define EXPECT_H
 
 #include "orderlink.h"
+#include "settings.h"
 
 #include <stdbool.h>
 #include <stdio.h>
@@ -30,11 +31,18 @@ static inline bool all(const uint8_t *bytes, size_t length, uint8_t value)
     return true;
 }
 
-/* Whether an answer has this number and place and this altered count. */
-static inline bool answers(struct orderlink_answer answer, uint32_t number, uint64_t place,
-                           uint32_t altered)
+/* Whether an answer has this number and place, and counts nothing. */
+static inline bool answers(struct orderlink_answer answer, uint32_t number, uint64_t place)
 {
-    return answer.number == number && answer.place == place && answer.altered == altered;
+    return answer.number == number && answer.place == place && answer.altered == 0 &&
+           answer.unknown == 0;
+}
+
+/* Whether an answer is that of a decoding which found the message and counts this. */
+static inline bool found(struct orderlink_answer answer, struct damage counted)
+{
+    return answer.number == 0 && answer.place == 0 && answer.altered == counted.altered &&
+           answer.unknown == counted.unknown;
 }
 
 /* Whether a decoding of woven frames was refused with this number and place; no frame then has an
@@ -42,9 +50,9 @@ static inline bool answers(struct orderlink_answer answer, uint32_t number, uint
 static inline bool refuses(struct orderlink_woven woven, uint32_t number, uint64_t place)
 {
     for (size_t f = 0; f < sizeof woven.frame / sizeof woven.frame[0]; f++)
-        if (!answers(woven.frame[f], 0, 0, 0))
+        if (!answers(woven.frame[f], 0, 0))
             return false;
-    return number != 0 && answers(woven.answer, number, place, 0);
+    return number != 0 && answers(woven.answer, number, place);
 }
 
 #endif

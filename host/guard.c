@@ -119,7 +119,7 @@ static void encode(uint64_t setting, const uint8_t *order, size_t order_length, 
         struct area transmission = lend(side, NULL, room);
         say("encode", setting, order_length, room, 0, side);
         EXPECT(answers(orderlink_encode(setting, message.bytes, order_length, transmission.bytes,
-                                        room), number, place, 0));
+                                        room), number, place));
         take_back(message, order, order_length);
         take_back(transmission, sent, filled);
     }
@@ -136,7 +136,7 @@ static void weave(bool undo, uint64_t setting, uint64_t frames, const uint8_t *h
         say(undo ? "unweave" : "weave", setting, length, room, 0, side);
         EXPECT(answers((undo ? orderlink_unweave : orderlink_weave)(
                            setting, frames, in.bytes, length, out.bytes, room),
-                       number, place, 0));
+                       number, place));
         take_back(in, held, length);
         take_back(out, expected, filled);
     }
@@ -148,8 +148,9 @@ struct decoding {
     uint64_t setting, frames;
     const uint8_t *reception;
     size_t length, message_room, transmission_room;
-    uint32_t number, altered;
+    uint32_t number;
     uint64_t place;
+    struct damage counted;
     struct orderlink_answer frame[MOST_FRAMES];
     const uint8_t *message, *transmission;
     size_t message_filled, transmission_filled;
@@ -160,19 +161,22 @@ static void decode_in(const struct decoding *c, struct area reception, struct ar
                       struct area transmission)
 {
     if (c->frames == 0) {
-        EXPECT(answers(orderlink_decode(c->setting, reception.bytes, reception.length,
-                                        message.bytes, message.length, transmission.bytes,
-                                        transmission.length),
-                       c->number, c->place, c->altered));
+        struct orderlink_answer answer =
+            orderlink_decode(c->setting, reception.bytes, reception.length, message.bytes,
+                             message.length, transmission.bytes, transmission.length);
+        EXPECT(c->number == 0 ? found(answer, c->counted) : answers(answer, c->number, c->place));
         return;
     }
     struct orderlink_woven woven =
         orderlink_decode_woven(c->setting, c->frames, reception.bytes, reception.length,
                                message.bytes, message.length, transmission.bytes,
                                transmission.length);
-    EXPECT(answers(woven.answer, c->number, c->place, 0));
-    for (size_t f = 0; f < MOST_FRAMES; f++)
-        EXPECT(answers(woven.frame[f], c->frame[f].number, 0, c->frame[f].altered));
+    EXPECT(answers(woven.answer, c->number, c->place));
+    for (size_t f = 0; f < MOST_FRAMES; f++) {
+        struct damage counted = { c->frame[f].altered, c->frame[f].unknown };
+        EXPECT(c->frame[f].number == 0 ? found(woven.frame[f], counted)
+                                       : answers(woven.frame[f], c->frame[f].number, 0));
+    }
 }
 
 static void decode(struct decoding c)
@@ -200,7 +204,7 @@ static void mark(uint64_t setting, const uint8_t *received, size_t length, const
         say("marks", setting, length, sent_length, 0, side);
         struct orderlink_marks window = orderlink_marks(setting, reception.bytes, length,
                                                         transmission.bytes, sent_length, j);
-        EXPECT(answers(window.answer, number, 0, 0) && window.set == set);
+        EXPECT(answers(window.answer, number, 0) && window.set == set);
         take_back(reception, received, length);
         take_back(transmission, sent, sent_length);
     }
@@ -265,9 +269,9 @@ static void try_blocks(const struct setting *setting, size_t blocks)
     size_t length = transmission_length(setting, blocks);
     fill(order, order_length, setting->q);
     EXPECT(orderlink_encode(number, order, order_length, sent, length).number == 0);
-    uint32_t altered = damage(setting, sent, damaged, length);
     fill(noise, length, setting->q);
     memcpy(wrong, sent, length);
+    wrong[0] = UNKNOWN;
     wrong[length - 1] = (uint8_t)setting->q;
 
     for (size_t more = 0; more <= MORE; more += MORE)
@@ -276,6 +280,7 @@ static void try_blocks(const struct setting *setting, size_t blocks)
     encode(number, order, 0, length, 8, 0, NULL, 0);
     encode(number, wrong + length - order_length, order_length, length, 4, order_length - 1, NULL,
            0);
+    encode(number, wrong, order_length, length, 4, 0, NULL, 0);
     encode(number, order, order_length, length - 1, 6, 0, NULL, 0);
     encode(number, order, order_length, 0, 6, 0, NULL, 0);
 
@@ -287,14 +292,19 @@ static void try_blocks(const struct setting *setting, size_t blocks)
     };
     decode(call);
     call.reception = damaged;
-    call.altered = altered;
-    decode(call);
-    call.message_room = order_length + MORE;
-    call.transmission_room = length + MORE;
-    decode(call);
+    for (int way = 0; way < WAYS; way++) {
+        struct damage each = most_damage(setting, way);
+        call.counted = damage_windows(setting, each, sent, damaged, length);
+        for (size_t more = 0; more <= MORE; more += MORE) {
+            call.message_room = order_length + more;
+            call.transmission_room = length + more;
+            decode(call);
+        }
+        mark(number, damaged, length, sent, length, 0, 0, each.altered + each.unknown);
+        mark(number, damaged, length, sent, length, blocks - 1, 0, each.altered + each.unknown);
+    }
     call.reception = noise;
     call.number = 7;
-    call.altered = 0;
     call.message = call.transmission = zeros;
     decode(call);
     call.message_room = order_length;
@@ -303,8 +313,6 @@ static void try_blocks(const struct setting *setting, size_t blocks)
 
     refused_decodings(setting, 0, blocks);
 
-    mark(number, damaged, length, sent, length, 0, 0, setting->t);
-    mark(number, damaged, length, sent, length, blocks - 1, 0, setting->t);
     mark(0, damaged, length, sent, length, 0, 1, 0);
     mark(number, damaged, 0, sent, length, 0, 2, 0);
     mark(number, damaged, length, sent, length, blocks, 12, 0);
@@ -326,6 +334,7 @@ static void try_woven(const struct setting *setting, uint64_t frames, size_t blo
                                 length).number == 0);
     interleave(sent, count, length, woven);
     memcpy(wrong, woven, whole);
+    wrong[0] = UNKNOWN;
     wrong[whole - 1] = (uint8_t)setting->q;
 
     for (int undo = 0; undo <= 1; undo++) {
@@ -364,16 +373,21 @@ static void try_woven(const struct setting *setting, uint64_t frames, size_t blo
         .transmission = sent, .transmission_filled = whole,
     };
     decode(call);
-    uint32_t altered[MOST_FRAMES];
-    memcpy(damaged, woven, whole);
-    strike(setting, damaged, count, length, whole / 3, count * setting->t, altered);
     call.reception = damaged;
-    for (size_t f = 0; f < count; f++)
-        call.frame[f].altered = altered[f];
-    decode(call);
-    call.message_room += MORE;
-    call.transmission_room += MORE;
-    decode(call);
+    for (int dropped = 0; dropped <= 1; dropped++) {
+        struct damage counted[MOST_FRAMES];
+        memcpy(damaged, woven, whole);
+        strike(setting, damaged, count, length, whole / 4,
+               count * (dropped ? setting->d : setting->t), dropped, counted);
+        for (size_t f = 0; f < count; f++)
+            call.frame[f] = (struct orderlink_answer){ .altered = counted[f].altered,
+                                                       .unknown = counted[f].unknown };
+        for (size_t more = 0; more <= MORE; more += MORE) {
+            call.message_room = count * order_length + more;
+            call.transmission_room = whole + more;
+            decode(call);
+        }
+    }
     fill(noise, length, setting->q);
     for (size_t i = 0; i < length; i++)
         damaged[i * count + count - 1] = noise[i];

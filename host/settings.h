@@ -1,13 +1,17 @@
 /* The table of settings, woven frames, and damage up to a setting's limit, for the programs in this
-   folder. */
+   folder. Damage alters symbols to others and drops them, which leaves them unknown. */
 #ifndef SETTINGS_H
 #define SETTINGS_H
 
+#include <stdbool.h>
 #include <stddef.h>
 #include <stdint.h>
 #include <string.h>
 
 enum { MOST_BLOCKS = 512, MOST_FRAMES = 8 };
+
+/* What stands in a reception for an unknown symbol. */
+enum { UNKNOWN = 255 };
 
 /* A row of the table; the letters are those of orderlink.h. */
 struct setting {
@@ -16,16 +20,17 @@ struct setting {
     size_t n;
     size_t k;
     size_t m;
+    uint32_t d;
     uint32_t t;
 };
 
 static const struct setting settings[] = {
-    /* number, q, n, k, m, t */
-    { 1, 5, 4, 1, 2, 4 },
-    { 2, 8, 7, 2, 2, 5 },
-    { 3, 8, 7, 3, 1, 3 },
-    { 4, 16, 15, 3, 3, 16 },
-    { 5, 16, 15, 5, 2, 8 },
+    /* number, q, n, k, m, d, t */
+    { 1, 5, 4, 1, 2, 8, 4 },
+    { 2, 8, 7, 2, 2, 11, 5 },
+    { 3, 8, 7, 3, 1, 6, 3 },
+    { 4, 16, 15, 3, 3, 33, 16 },
+    { 5, 16, 15, 5, 2, 17, 8 },
 };
 
 enum { SETTING_COUNT = sizeof settings / sizeof settings[0] };
@@ -40,19 +45,39 @@ static inline size_t transmission_length(const struct setting *setting, size_t b
     return (blocks + setting->m) * setting->n;
 }
 
-/* Copies a transmission with exactly t symbols of every window altered; returns how many count,
-   those before the closing blocks. */
-static inline uint32_t damage(const struct setting *setting, const uint8_t *sent,
-                              uint8_t *reception, size_t length)
+/* How many symbols of a window are damaged. */
+struct damage {
+    uint32_t altered, unknown;
+};
+
+/* The ways to damage a window as far as may be: altered symbols alone, unknown ones alone, both. */
+enum { WAYS = 3 };
+
+static inline struct damage most_damage(const struct setting *setting, int way)
+{
+    uint32_t both = setting->d / 4;
+    const struct damage most[WAYS] = { { setting->t, 0 },
+                                       { 0, setting->d },
+                                       { both, setting->d - 2 * both } };
+    return most[way];
+}
+
+/* Copies a transmission with exactly such damage in every window; returns what decoding counts of
+   it: the altered symbols before the closing blocks, and all unknown ones. */
+static inline struct damage damage_windows(const struct setting *setting, struct damage each,
+                                           const uint8_t *sent, uint8_t *reception, size_t length)
 {
     size_t window = (setting->m + 1) * setting->n, closing = length - setting->m * setting->n;
-    uint32_t altered = 0;
+    struct damage counted = { 0, 0 };
     for (size_t i = 0; i < length; i++) {
-        uint32_t hit = i % window % 2 == 0 && i % window < 2 * setting->t;
-        reception[i] = (uint8_t)((sent[i] + hit) % setting->q);
-        altered += i < closing ? hit : 0;
+        size_t place = i % window;
+        bool dropped = place >= window - each.unknown;
+        bool hit = place % 2 == 0 && place < 2 * each.altered;
+        reception[i] = dropped ? UNKNOWN : (uint8_t)((sent[i] + hit) % setting->q);
+        counted.altered += i < closing ? hit : 0;
+        counted.unknown += dropped;
     }
-    return altered;
+    return counted;
 }
 
 /* Weaves frames of a length: symbol i of frame f goes to i * frames + f. */
@@ -63,16 +88,17 @@ static inline void interleave(const uint8_t *sent, size_t frames, size_t length,
             woven[i * frames + f] = sent[f * length + i];
 }
 
-/* Alters a run of woven symbols; says of each frame how many count, those before its closing
-   blocks. */
+/* Alters or drops a run of woven symbols; says of each frame what decoding counts of it. */
 static inline void strike(const struct setting *setting, uint8_t *woven, size_t frames,
-                          size_t length, size_t start, size_t run, uint32_t altered[MOST_FRAMES])
+                          size_t length, size_t start, size_t run, bool dropped,
+                          struct damage counted[MOST_FRAMES])
 {
     size_t closing = length - setting->m * setting->n;
-    memset(altered, 0, MOST_FRAMES * sizeof altered[0]);
+    memset(counted, 0, MOST_FRAMES * sizeof counted[0]);
     for (size_t i = start; i < start + run; i++) {
-        woven[i] = (uint8_t)((woven[i] + 1) % setting->q);
-        altered[i % frames] += i / frames < closing;
+        woven[i] = dropped ? UNKNOWN : (uint8_t)((woven[i] + 1) % setting->q);
+        counted[i % frames].altered += !dropped && i / frames < closing;
+        counted[i % frames].unknown += dropped;
     }
 }
 

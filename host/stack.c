@@ -10,6 +10,7 @@
  * 64 KiB.
  */
 #define _POSIX_C_SOURCE 200809L
+#include "expect.h"
 #include "orderlink.h"
 #include "settings.h"
 
@@ -22,7 +23,6 @@
 enum {
     STACK = 256 * 1024,
     LIMIT = 64 * 1024,
-    UNTOUCHED = 0xaa,
     ROOM = 64 * 1024,
 };
 
@@ -30,11 +30,12 @@ enum {
 static _Alignas(4096) unsigned char stack[STACK];
 
 /* The orders of a setting, one after the other, with what is sent for them, alone and woven, and
-   what is received: the first order damaged in every window, and the woven ones by a run. */
+   what is received: the first order damaged in every window, in one way, and the woven ones by a
+   run, of unknown symbols where the way has any. */
 static const struct setting *setting;
 static size_t order_length, length, orders_length, whole;
 static uint8_t order[ROOM], sent[ROOM], woven[ROOM], reception[ROOM], struck[ROOM];
-static uint32_t altered, altered_of[MOST_FRAMES];
+static struct damage each, counted, counted_of[MOST_FRAMES];
 
 /* What a call fills. */
 static uint8_t message[ROOM], filled[ROOM];
@@ -49,15 +50,15 @@ static bool decode(void)
 {
     struct orderlink_answer decoded = orderlink_decode(setting->number, reception, length, message,
                                                        order_length, filled, length);
-    return decoded.number == 0 && decoded.altered == altered &&
-           memcmp(message, order, order_length) == 0 && memcmp(filled, sent, length) == 0;
+    return found(decoded, counted) && memcmp(message, order, order_length) == 0 &&
+           memcmp(filled, sent, length) == 0;
 }
 
 static bool mark(void)
 {
     struct orderlink_marks marked = orderlink_marks(setting->number, reception, length, sent,
                                                     length, MOST_BLOCKS - 1);
-    return marked.answer.number == 0 && marked.set == setting->t;
+    return marked.answer.number == 0 && marked.set == each.altered + each.unknown;
 }
 
 static bool weave(void)
@@ -80,7 +81,7 @@ static bool decode_woven(void)
                                filled, whole);
     bool right = decoded.answer.number == 0;
     for (size_t f = 0; f < MOST_FRAMES; f++)
-        right = right && decoded.frame[f].number == 0 && decoded.frame[f].altered == altered_of[f];
+        right = right && found(decoded.frame[f], counted_of[f]);
     return right && memcmp(message, order, orders_length) == 0 && memcmp(filled, sent, whole) == 0;
 }
 
@@ -92,8 +93,9 @@ static const struct call {
     { "weave", weave },   { "unweave", unweave }, { "decode_woven", decode_woven },
 };
 
-/* Makes and sends the longest orders of a setting, and damages them; false if there is no room. */
-static bool prepare(void)
+/* Makes and sends the longest orders of a setting, and damages them in one way; false if there is
+   no room. */
+static bool prepare(int way)
 {
     order_length = message_length(setting, MOST_BLOCKS);
     length = transmission_length(setting, MOST_BLOCKS);
@@ -107,9 +109,12 @@ static bool prepare(void)
         orderlink_encode(setting->number, order + f * order_length, order_length,
                          sent + f * length, length);
     interleave(sent, MOST_FRAMES, length, woven);
-    altered = damage(setting, sent, reception, length);
+    each = most_damage(setting, way);
+    counted = damage_windows(setting, each, sent, reception, length);
     memcpy(struck, woven, whole);
-    strike(setting, struck, MOST_FRAMES, length, whole / 2, MOST_FRAMES * setting->t, altered_of);
+    strike(setting, struck, MOST_FRAMES, length, whole / 2,
+           MOST_FRAMES * (each.unknown > 0 ? setting->d : setting->t), each.unknown > 0,
+           counted_of);
     return true;
 }
 
@@ -155,16 +160,17 @@ int main(void)
     enum { CALLS = sizeof calls / sizeof calls[0] };
     size_t most[CALLS] = { 0 };
     bool within = true;
-    for (setting = settings; setting < settings + SETTING_COUNT; setting++) {
-        if (!prepare()) {
-            fprintf(stderr, "stack.c: no room for the longest orders\n");
-            return EXIT_FAILURE;
+    for (setting = settings; setting < settings + SETTING_COUNT; setting++)
+        for (int way = 0; way < WAYS; way++) {
+            if (!prepare(way)) {
+                fprintf(stderr, "stack.c: no room for the longest orders\n");
+                return EXIT_FAILURE;
+            }
+            for (size_t i = 0; i < CALLS; i++) {
+                size_t bytes = touched(&calls[i]);
+                most[i] = bytes > most[i] ? bytes : most[i];
+            }
         }
-        for (size_t i = 0; i < CALLS; i++) {
-            size_t bytes = touched(&calls[i]);
-            most[i] = bytes > most[i] ? bytes : most[i];
-        }
-    }
     for (size_t i = 0; i < CALLS; i++) {
         printf("stack of %s: %zu bytes touched, the thread's own included\n", calls[i].name,
                most[i]);

@@ -7,9 +7,15 @@
  *   message       T information blocks of k symbols, 1 <= T <= 512
  *   transmission  T + m blocks of n symbols: what is sent for a message
  *   reception     T + m blocks of n symbols: what came in for a transmission
+ *   unknown       of a reception, a symbol that was not received: in its place
+ *                 stands the byte 255. The other symbols are known ones.
  *   window j      blocks j to j + m, for j from 0 to T - 1
- *   fits          a message fits a reception when in every window its
- *                 transmission differs from the reception in at most t symbols
+ *   fits          a message fits a reception when in every window twice the
+ *                 known symbols in which the reception differs from the
+ *                 message's transmission plus the unknown symbols is at most d.
+ *                 Where no symbol of a window is unknown, this is: at most t
+ *                 symbols differ. Where none differs, it is: at most d are
+ *                 unknown.
  *   frame         a transmission or a reception, where a call takes D of them,
  *                 all of one setting and one length, 2 <= D <= 8
  *   woven         D frames symbol by symbol: symbol i of frame f stands at
@@ -18,12 +24,12 @@
  *   Blocks lie one after the other, and so do frames that are not woven.
  *   Blocks, symbols, windows and frames are counted from 0.
  *
- *   setting   q   n  k  m   t
- *      1      5   4  1  2   4
- *      2      8   7  2  2   5
- *      3      8   7  3  1   3
- *      4     16  15  3  3  16
- *      5     16  15  5  2   8
+ *   setting   q   n  k  m   d   t
+ *      1      5   4  1  2   8   4
+ *      2      8   7  2  2  11   5
+ *      3      8   7  3  1   6   3
+ *      4     16  15  3  3  33  16
+ *      5     16  15  5  2  17   8
  *
  * Areas
  *   Every area is a pointer to its first byte and a length in bytes. A call
@@ -47,8 +53,8 @@
  *    1  Is the setting 1, 2, 3, 4 or 5?
  *    2  Is the reception's length a multiple of n and at least (m + 1) * n?
  *    3  Is T at most 512?
- *    4  Is every symbol below q?
- *       Place: the first that is not, counted from 0.
+ *    4  Is every symbol below q or, but in encoding, unknown?
+ *       Place: the first byte that is neither, counted from 0.
  *    5  Does the message area have T * k bytes or more?
  *    6  Does the transmission area have (T + m) * n bytes or more?
  *    7  Does some message fit? There is never more than one.
@@ -77,32 +83,34 @@ extern "C" {
 /* What a call answers. */
 struct orderlink_answer {
     uint32_t number;  /* 0, or the question that got "no" */
-    uint32_t altered; /* after decoding with number 0: in how many symbols of
-                         blocks 0 to T - 1 reception and transmission differ,
-                         at most t * (T/(m + 1), rounded up); else 0. The
-                         closing blocks, T to T + m - 1, do not count, so 0
+    uint32_t altered; /* after decoding with number 0: in how many known symbols
+                         of blocks 0 to T - 1 reception and transmission
+                         differ, at most t * (T/(m + 1), rounded up); else 0.
+                         The closing blocks, T to T + m - 1, do not count, so 0
                          does not say that nothing was altered. */
-    uint64_t place;   /* with number 4: the place of the first wrong symbol in
-                         the message, the reception or the incoming area;
-                         else 0 */
+    uint64_t place;   /* with number 4: the place of the first wrong byte in the
+                         message, the reception or the incoming area; else 0 */
+    uint32_t unknown; /* after decoding with number 0: how many symbols of the
+                         reception are unknown, in all T + m blocks, at most
+                         d * ((T + m)/(m + 1), rounded up); else 0 */
 };
 
 /*
- * The differences in a window. C++ has to say "struct orderlink_marks", since
- * the function has the same name.
+ * The differences and the unknown symbols in a window. C++ has to say "struct
+ * orderlink_marks", since the function has the same name.
  */
 struct orderlink_marks {
     struct orderlink_answer answer;
     uint64_t marks; /* bit i, of value (uint64_t)1 << i, is set when symbol i of
-                       the window differs; the bits from (m + 1) * n on are 0;
-                       all are 0 if refused */
+                       the window differs or is unknown; the bits from
+                       (m + 1) * n on are 0; all are 0 if refused */
     uint32_t set;   /* how many marks are set; 0 if refused */
 };
 
 /* What the decoding of D woven frames answers. */
 struct orderlink_woven {
-    struct orderlink_answer answer;   /* of the questions before 7; its altered
-                                         count is 0 */
+    struct orderlink_answer answer;   /* of the questions before 7; its counts
+                                         are 0 */
     struct orderlink_answer frame[8]; /* the frames' own answers in order, each
                                          as if the frame were decoded alone;
                                          zeros from frame D on, and all zeros
@@ -111,7 +119,8 @@ struct orderlink_woven {
 
 /*
  * Encodes a message of T = message_len / k blocks.
- * Questions: 1, 8, 3, 4 (the message's symbols), 6.
+ * Questions: 1, 8, 3, 4 (the message's symbols, of which none is unknown: 255
+ * gets 4), 6.
  * The areas must not overlap; where they do, number 0 means nothing.
  *
  * number 0    the first (T + m) * n bytes of the transmission area hold the
@@ -141,7 +150,9 @@ struct orderlink_answer orderlink_decode(uint64_t setting,
 /*
  * Marks the differences of a reception of T = reception_len / n - m information
  * blocks and a transmission in window j: the (m + 1) * n bytes from place j * n
- * on, in both. They are compared as they are, also those not below q.
+ * on, in both. They are compared as they are, also those not below q; but a
+ * symbol that is unknown, 255 in the reception, is marked whatever byte the
+ * transmission has there, 255 too.
  * Questions: 1, 2 and 3 (of the reception), 12, 13.
  *
  * number 0    the marks of the window, and how many are set
@@ -159,7 +170,8 @@ struct orderlink_marks orderlink_marks(uint64_t setting,
  * (for as many bytes as come in, in_len).
  * The areas must not overlap; where they do, number 0 means nothing.
  *
- * number 0    the first in_len bytes of the out area hold the woven frames
+ * number 0    the first in_len bytes of the out area hold the woven frames,
+ *             unknown symbols as they came in
  * any other   the out area is unchanged
  */
 struct orderlink_answer orderlink_weave(uint64_t setting, uint64_t frames,
@@ -174,7 +186,7 @@ struct orderlink_answer orderlink_weave(uint64_t setting, uint64_t frames,
  * The areas must not overlap; where they do, number 0 means nothing.
  *
  * number 0    the first in_len bytes of the out area hold the frames, one after
- *             the other
+ *             the other, unknown symbols as they came in
  * any other   the out area is unchanged
  */
 struct orderlink_answer orderlink_unweave(uint64_t setting, uint64_t frames,
@@ -204,7 +216,8 @@ struct orderlink_answer orderlink_unweave(uint64_t setting, uint64_t frames,
  *
  * If answer.number is 0 and the only damage to the woven transmissions is one
  * run of at most D * t neighbouring symbols, every message comes back: no frame
- * has more than t of these symbols.
+ * has more than t of these symbols. The same is true of one run of at most D * d
+ * unknown symbols: no frame has more than d of them.
  */
 struct orderlink_woven orderlink_decode_woven(uint64_t setting, uint64_t frames,
                                               const uint8_t *reception, size_t reception_len,

@@ -1,17 +1,22 @@
 //! The calls that a C host makes, as every implementation here offers them.
 
-/// The answer of a call: the first question that got "no", its place, and the altered count.
+/// The byte that stands for an unknown symbol in a reception.
+pub const UNKNOWN: u8 = 255;
+
+/// The answer of a call: the first question that got "no", its place, and after decoding how many
+/// known symbols were altered and how many were unknown.
 #[repr(C)]
 #[derive(Clone, Copy, Debug, Default, PartialEq, Eq)]
 pub struct Answer {
     pub number: u32,
     pub altered: u32,
     pub place: u64,
+    pub unknown: u32,
 }
 
 impl Answer {
     /// Every question got "yes".
-    pub const YES: Answer = Answer { number: 0, altered: 0, place: 0 };
+    pub const YES: Answer = Answer { number: 0, altered: 0, place: 0, unknown: 0 };
 
     /// A refusal whose place is 0.
     pub const fn no(number: u32) -> Answer {
@@ -20,11 +25,12 @@ impl Answer {
 
     /// A refusal with its place.
     pub const fn no_at(number: u32, place: usize) -> Answer {
-        Answer { number, altered: 0, place: place as u64 }
+        Answer { number, place: place as u64, ..Answer::YES }
     }
 }
 
-/// The differences of a window, the earliest symbol in the lowest bit, and how many there are.
+/// The differences of a window and its unknown symbols, the earliest symbol in the lowest bit, and
+/// how many there are.
 #[repr(C)]
 #[derive(Clone, Copy, Debug, Default, PartialEq, Eq)]
 pub struct Marks {

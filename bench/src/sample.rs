@@ -1,5 +1,6 @@
 //! Messages and receptions to try: random, clean, and damaged up to a chosen limit.
 
+use crate::calls::UNKNOWN;
 use crate::oracle::Setting;
 use std::ops::Range;
 
@@ -65,42 +66,86 @@ pub fn alter(random: &mut Random, setting: &Setting, symbol: &mut u8) {
     *symbol = ((*symbol as usize + step) % setting.q as usize) as u8;
 }
 
-/// Alters symbols so that each window of m+1 blocks has exactly `limit` altered ones, spread evenly.
-pub fn damage_evenly(random: &mut Random, setting: &Setting, symbols: &mut [u8], limit: usize) {
+/// Alters and drops symbols so that each window of m+1 blocks has exactly so many of either, spread
+/// evenly.
+pub fn damage_evenly(
+    random: &mut Random,
+    setting: &Setting,
+    symbols: &mut [u8],
+    altered: usize,
+    unknown: usize,
+) {
     let window = setting.m + 1;
     let turn = random.below(window);
     for (s, block) in symbols.chunks_mut(setting.n).enumerate() {
-        let share = (limit + (s + turn) % window) / window;
-        for place in random.order(setting.n).into_iter().take(share) {
-            alter(random, setting, &mut block[place]);
-        }
+        // Where one of the shares is rounded up, the other is rounded down.
+        let altered = (altered + (s + turn) % window) / window;
+        let unknown = (unknown + window - 1 - (s + turn) % window) / window;
+        let places = random.order(setting.n);
+        damage_places(random, setting, block, &places, altered, unknown);
     }
 }
 
 /// Alters symbols in random order wherever no window then has more than `limit` altered ones.
 pub fn damage_up_to(random: &mut Random, setting: &Setting, symbols: &mut [u8], limit: usize) {
-    let mut altered = vec![0; symbols.len() / setting.n];
+    let mut damage = vec![0; symbols.len() / setting.n];
     for place in random.order(symbols.len()) {
-        altered[place / setting.n] += 1;
-        if worst_window(setting, &altered, place / setting.n) <= limit {
+        if has_room(setting, &mut damage, place, 1, limit) {
             alter(random, setting, &mut symbols[place]);
-        } else {
-            altered[place / setting.n] -= 1;
         }
     }
 }
 
-/// Alters so many symbols of the closing blocks.
-pub fn damage_closing(random: &mut Random, setting: &Setting, symbols: &mut [u8], count: usize) {
-    let closing = symbols.len() - setting.m * setting.n;
-    for place in random.order(setting.m * setting.n).into_iter().take(count) {
-        alter(random, setting, &mut symbols[closing + place]);
+/// Alters and drops symbols in random order, one in `times` altered, wherever in no window twice
+/// the altered ones plus the dropped ones are then more than `limit`. A symbol that is left as it
+/// was stands in a window where they are just as many.
+pub fn damage_mixed(
+    random: &mut Random,
+    setting: &Setting,
+    symbols: &mut [u8],
+    limit: usize,
+    times: usize,
+) {
+    let mut damage = vec![0; symbols.len() / setting.n];
+    for place in random.order(symbols.len()) {
+        if random.once_in(times) && has_room(setting, &mut damage, place, 2, limit) {
+            alter(random, setting, &mut symbols[place]);
+        } else if has_room(setting, &mut damage, place, 1, limit) {
+            symbols[place] = UNKNOWN;
+        }
     }
+}
+
+/// Alters and drops so many symbols of the closing blocks.
+pub fn damage_closing(
+    random: &mut Random,
+    setting: &Setting,
+    symbols: &mut [u8],
+    altered: usize,
+    unknown: usize,
+) {
+    let closing = symbols.len() - setting.m * setting.n;
+    let places = random.order(setting.m * setting.n);
+    damage_places(random, setting, &mut symbols[closing..], &places, altered, unknown);
 }
 
 /// Alters every symbol of a run.
 pub fn damage_run(random: &mut Random, setting: &Setting, symbols: &mut [u8], run: Range<usize>) {
     symbols[run].iter_mut().for_each(|symbol| alter(random, setting, symbol));
+}
+
+/// Alters the symbols at the first places, and drops those at the next.
+fn damage_places(
+    random: &mut Random,
+    setting: &Setting,
+    symbols: &mut [u8],
+    places: &[usize],
+    altered: usize,
+    unknown: usize,
+) {
+    let (altered, rest) = places.split_at(altered);
+    altered.iter().for_each(|&place| alter(random, setting, &mut symbols[place]));
+    rest[..unknown].iter().for_each(|&place| symbols[place] = UNKNOWN);
 }
 
 /// Frames of one length woven: the first symbol of each, then the second of each, and so on.
@@ -109,10 +154,24 @@ pub fn woven(frames: &[Vec<u8>]) -> Vec<u8> {
     symbols.flat_map(|i| frames.iter().map(move |frame| frame[i])).collect()
 }
 
-/// The most altered symbols in a window that holds a block.
-fn worst_window(setting: &Setting, altered: &[usize], block: usize) -> usize {
+/// Adds to the damage of a place's block, unless a window then has more than `limit`.
+fn has_room(
+    setting: &Setting,
+    damage: &mut [usize],
+    place: usize,
+    more: usize,
+    limit: usize,
+) -> bool {
+    let block = place / setting.n;
+    let room = worst_window(setting, damage, block) + more <= limit;
+    damage[block] += if room { more } else { 0 };
+    room
+}
+
+/// The most damage in a window that holds a block.
+fn worst_window(setting: &Setting, damage: &[usize], block: usize) -> usize {
     let first = block.saturating_sub(setting.m);
-    let last = block.min(altered.len() - setting.m - 1);
-    let count = |j: usize| altered[j..=j + setting.m].iter().sum();
-    (first..=last).map(count).max().unwrap_or(0)
+    let last = block.min(damage.len() - setting.m - 1);
+    let sum = |j: usize| damage[j..=j + setting.m].iter().sum();
+    (first..=last).map(sum).max().unwrap_or(0)
 }

@@ -1,6 +1,10 @@
-"""Calls with right answers that need no decoder: the examples of 000, 004 and 01, orders of settings 4 and 5 damaged up to the limit and beyond it, orders
-damaged in their closing blocks alone, woven frames with a run of altered symbols, orders and lines of the greatest length, numbers that are no setting
-or no D, and blocks of every level. What is sent is made by 01's definition."""
+"""Calls with right answers that need no decoder: the examples of 000, 004, 01 and 02, orders with altered and unknown symbols up to the limit and just beyond
+it, orders damaged in their closing blocks alone, woven frames with a run of altered or unknown symbols, orders and lines of the greatest length, numbers that
+are no setting or no D, and blocks of every level. What is sent is made by 01's definition.
+
+Damage is twice the known symbols that were altered plus the unknown ones. Where a window has damage d + 1, and none has more, no message fits: of the window
+where two messages first differ, d + 1 symbols or more are sent differently, each of which is unknown or altered for one of the two, so their damage together
+is at least 2 (d + 1). With d_l in the place of d + 1 the same is true of the code blocks of level l."""
 import functools, itertools
 
 # The settings of 01 and 02: q, n, k, m and t.
@@ -12,6 +16,20 @@ SETTINGS = {
     5: (16, 15, 5, 2, 8),
 }
 UNUSED = "a5"
+UNKNOWN = 255
+
+
+def most_damage(setting):
+    """d: d_0 + .. + d_m - 1."""
+    _, n, k, m, t = SETTINGS[setting]
+    d = sum(n - l * k + 1 for l in range(1, m + 2)) - 1
+    assert d // 2 == t
+    return d
+
+
+def mixes(damage):
+    """Every number of altered symbols, with the number of unknown ones that brings them to this damage."""
+    return [(altered, damage - 2 * altered) for altered in range(damage // 2 + 1)]
 
 
 def double(q, a):
@@ -25,11 +43,11 @@ assert POWERS[8] == [1, 2, 4, 3, 6, 7, 5]
 
 
 def symbols(text):
-    return [int(c, 16) for c in text if c != " "]
+    return [UNKNOWN if c == "-" else int(c, 16) for c in text if c != " "]
 
 
 def digits(area):
-    return "".join("%x" % symbol for symbol in area)
+    return "".join("-" if symbol == UNKNOWN else "%x" % symbol for symbol in area)
 
 
 def powers(text):
@@ -76,16 +94,19 @@ def areas(*held):
     return ["".join("%02x" % symbol for symbol in area) for area in held]
 
 
-def answered(number, place=0, count=0):
-    return {"number": number, "place": place, "count": count}
+def answered(number, place=0, count=0, unknown=0):
+    return {"number": number, "place": place, "count": count, "unknown": unknown}
+
+
+def counted(setting, reception, transmission):
+    """The answer where a message fits. Closing blocks do not count, unknown symbols are counted apart."""
+    _, n, _, m, _ = SETTINGS[setting]
+    altered = [r not in (UNKNOWN, t) for r, t in zip(reception, transmission)]
+    return answered(0, count=sum(altered[: len(altered) - m * n]), unknown=reception.count(UNKNOWN))
 
 
 def decoded(setting, reception, number, message, transmission, tail=0, place=0):
-    """A decoding with areas `tail` bytes longer than needed, which keep those; numbers other than 0 and 7 change nothing. Closing blocks do not count."""
-    count = 0
-    if number == 0:
-        _, n, k, _, _ = SETTINGS[setting]
-        count = sum(reception[i] != transmission[i] for i in range(len(message) // k * n))
+    """A decoding with areas `tail` bytes longer than needed, which keep those; numbers other than 0 and 7 change nothing."""
     r, m, t = areas(reception, message, transmission)
     before_m, before_t = UNUSED * (len(m) // 2 + tail), UNUSED * (len(t) // 2 + tail)
     kept = UNUSED * tail
@@ -93,20 +114,20 @@ def decoded(setting, reception, number, message, transmission, tail=0, place=0):
         "call": "decode",
         "args": {"number": setting, "reception": r, "marea": before_m, "tarea": before_t},
         "result": {
-            "answer": answered(number, place, count),
+            "answer": answered(number, place) if number else counted(setting, reception, transmission),
             "message": m + kept if number in (0, 7) else before_m,
             "transmission": t + kept if number in (0, 7) else before_t,
         },
     }
 
 
-def encoded(setting, message, number, transmission):
+def encoded(setting, message, number, transmission, place=0):
     m, t = areas(message, transmission)
     before = UNUSED * (len(t) // 2)
     return {
         "call": "encode",
         "args": {"number": setting, "message": m, "tarea": before},
-        "result": {"answer": answered(number), "transmission": t if number == 0 else before},
+        "result": {"answer": answered(number, place), "transmission": t if number == 0 else before},
     }
 
 
@@ -122,10 +143,11 @@ def displayed(setting, reception, j, number):
 
 
 def marked(setting, reception, transmission, j, number):
-    """The differences in window j, the earliest lowest; none if refused."""
+    """The differences and the unknown symbols in window j, the earliest lowest; none if refused. An unknown symbol is marked also where the transmission holds
+    the same byte."""
     _, n, _, m, _ = SETTINGS[setting] if number == 0 else [0] * 5
     window = range(n * j, n * (j + m + 1))
-    differ = [reception[i] != transmission[i] for i in window]
+    differ = [reception[i] == UNKNOWN or reception[i] != transmission[i] for i in window]
     r, t = areas(reception, transmission)
     return {
         "call": "marks",
@@ -176,18 +198,43 @@ def long_order(setting, T):
     return message, (transmission + [0] * (n * m))[: n * (T + m)]
 
 
-def altered_at(setting, transmission, places):
+def altered_at(setting, transmission, places, unknown=()):
+    """Symbols altered at some places and dropped at others."""
     q = SETTINGS[setting][0]
     reception = list(transmission)
     for i, place in enumerate(places):
         reception[place] = (reception[place] + 1 + i % (q - 1)) % q
+    for place in unknown:
+        reception[place] = UNKNOWN
     return reception
+
+
+def damage(reception, transmission):
+    return [1 if r == UNKNOWN else 2 * (r != t) for r, t in zip(reception, transmission)]
+
+
+def windows_damage(setting, reception, transmission):
+    """The damage in each window."""
+    _, n, _, m, _ = SETTINGS[setting]
+    each = damage(reception, transmission)
+    return [sum(each[j : j + (m + 1) * n]) for j in range(0, len(each) - m * n, n)]
+
+
+def fits(setting, reception, transmission):
+    return max(windows_damage(setting, reception, transmission)) <= most_damage(setting)
+
+
+def tried(setting, reception, message, transmission):
+    """The decoding of a reception that has no more than d + 1 damage in a window."""
+    if fits(setting, reception, transmission):
+        return decoded(setting, reception, 0, message, transmission, tail=1)
+    assert max(windows_damage(setting, reception, transmission)) == most_damage(setting) + 1
+    return decoded(setting, reception, 7, [0] * len(message), [0] * len(transmission), tail=1)
 
 
 def worked_orders():
     """Orders of settings 4 and 5: clean; with t altered symbols in the first or the last window, at its start, at its end, or all over it; with one symbol
-    more. With t + 1 altered no message fits: d is 2t + 1, and of the window where two messages first differ more than d symbols are sent differently, so
-    another message is as far from such a reception."""
+    more, which no message fits, since d is 2t + 1."""
     for setting, text in ((4, "f0e 1d2 c3b 4a5"), (5, "01234 56789 abcde fedcb")):
         _, n, k, m, t = SETTINGS[setting]
         message = symbols(text)
@@ -199,24 +246,47 @@ def worked_orders():
             for window in (range(t + 1), range(size - t - 1, size), range(0, size, size // (t + 1))):
                 places = [j * n + place for place in window][: t + 1]
                 reception = altered_at(setting, transmission, places[:t])
-                yield decoded(setting, reception, 0, message, transmission, tail=1)
+                yield tried(setting, reception, message, transmission)
                 for shown in range(last + 1):
                     yield displayed(setting, reception, shown, 0)
                     yield marked(setting, reception, transmission, shown, 0)
-                reception = altered_at(setting, transmission, places)
-                yield decoded(setting, reception, 7, [0] * len(message), [0] * len(transmission), tail=1)
+                yield tried(setting, altered_at(setting, transmission, places), message, transmission)
 
 
-def fits(setting, reception, message):
-    """Whether in every window at most t symbols differ from the message's transmission."""
-    _, n, _, m, t = SETTINGS[setting]
-    differ = [a != b for a, b in zip(reception, transmission_of(setting, message))]
-    return all(sum(differ[j : j + (m + 1) * n]) <= t for j in range(0, len(differ) - m * n, n))
+def unknown_symbols():
+    """02's examples. Orders of every setting with every mix of altered and unknown symbols that is d or d + 1 in a window, the first or the last, spread over
+    it. An order with unknown symbols shown and marked; one encoded, which is refused; a reception with the byte before their mark."""
+    transmission = symbols("2431 2323 2134")
+    yield decoded(1, symbols("2431 ---- ----"), 0, [1], transmission, tail=1)
+    for missing in (range(3, 12), range(9), range(0, 12, 2), range(1, 12, 2)):
+        for sent in (transmission, [0] * 12):
+            places = list(missing) + [place for place in range(12) if place not in missing]
+            yield decoded(1, altered_at(1, sent, (), places[:9]), 7, [0], [0] * 12, tail=1)
+    for setting, (q, n, k, m, _) in SETTINGS.items():
+        message = [(i * i + 2 * i + 3) % q for i in range(3 * k)]
+        transmission = transmission_of(setting, message)
+        size = (m + 1) * n
+        for j in (0, 2):
+            window = [j * n + 11 * i % size for i in range(size)]
+            assert sorted(window) == list(range(j * n, j * n + size))
+            for altered, unknown in mixes(most_damage(setting)) + mixes(most_damage(setting) + 1):
+                reception = altered_at(setting, transmission, window[:altered], window[altered : altered + unknown])
+                yield tried(setting, reception, message, transmission)
+        reception = altered_at(setting, transmission, (1, n), (0, n + 2, size))
+        for shown in range(3):
+            yield displayed(setting, reception, shown, 0)
+            yield marked(setting, reception, transmission, shown, 0)
+            yield marked(setting, transmission, reception, shown, 0)
+            yield marked(setting, reception, reception, shown, 0)
+        order = message[: k + 1] + [UNKNOWN] + message[k + 2 :]
+        yield encoded(setting, order, 4, transmission, place=k + 1)
+        reception[n] = 254
+        yield decoded(setting, reception, 4, message, transmission, tail=1, place=n)
 
 
 def closing_damage():
-    """Orders of settings 1 to 3 with t altered symbols, all in closing blocks: none counts. With one more there no message fits: all are tried. In settings 4 and
-    5 `worked_orders` has such orders, with the end of the last window altered."""
+    """Orders of settings 1 to 3 with t altered symbols, all in closing blocks: none counts. With one more there no message fits: all are tried. In settings 4
+    and 5 `worked_orders` has such orders, with the end of the last window altered."""
     for setting, text in ((1, "3"), (2, "56"), (3, "526")):
         q, n, k, _, t = SETTINGS[setting]
         message = symbols(text)
@@ -225,7 +295,8 @@ def closing_damage():
         reception = altered_at(setting, transmission, closing[-t:])
         yield decoded(setting, reception, 0, message, transmission, tail=1)
         reception = altered_at(setting, transmission, closing[-t - 1 :])
-        assert not any(fits(setting, reception, list(other)) for other in itertools.product(range(q), repeat=k))
+        messages = map(list, itertools.product(range(q), repeat=k))
+        assert not any(fits(setting, reception, transmission_of(setting, other)) for other in messages)
         yield decoded(setting, reception, 7, [0] * len(message), [0] * len(transmission), tail=1)
 
 
@@ -239,35 +310,37 @@ def woven(frames):
     return area
 
 
-def struck(setting, messages, start, length):
-    """Woven orders decoded after a run of altered symbols. A frame with at most t of them comes back; one with more gets 7, and zeros."""
-    _, n, _, m, t = SETTINGS[setting]
+def struck(setting, messages, start, length, dropped):
+    """Woven orders decoded after a run of altered or of unknown symbols. A frame with no more than d damage in a window comes back; one with d + 1 gets 7, and
+    zeros."""
     D, run = len(messages), range(start, start + length)
     sent = [transmission_of(setting, message) for message in messages]
-    reception = altered_at(setting, woven(sent), run)
-    frames, message, transmission = [], [], []
-    for f in range(D):
-        hit = [place // D for place in run if place % D == f]
-        back = len(hit) <= t
-        frames.append(answered(0, count=sum(i < len(sent[f]) - m * n for i in hit)) if back else answered(7))
-        message += messages[f] if back else [0] * len(messages[f])
-        transmission += sent[f] if back else [0] * len(sent[f])
+    reception = altered_at(setting, woven(sent), () if dropped else run, run if dropped else ())
+    decodings = [tried(setting, reception[f::D], messages[f], sent[f]) for f in range(D)]
+    frames = [decoding["result"]["answer"] for decoding in decodings]
+    back = [answer["number"] == 0 for answer in frames]
+    message, transmission = (sum(([s if back[f] else 0 for s in area[f]] for f in range(D)), []) for area in (messages, sent))
     return decoded_woven(setting, D, reception, 0, frames, message, transmission, tail=2)
 
 
 def woven_orders():
-    """D orders woven and unwoven; decoded after a run of D × t altered symbols, at the start, across the first block's border and at the end, which leaves every
-    order whole. One symbol more makes t + 1 in one window of one frame, which no message fits where d is 2t + 1, as in settings 2, 4 and 5."""
+    """D orders woven and unwoven, with and without unknown symbols; decoded after a run of D × t altered or D × d unknown symbols, at the start, across the
+    first block's border and at the end, which leaves every order whole. One symbol more makes d + 1 damage in one window of one frame; of altered ones only
+    where d is 2t + 1, as in settings 2, 4 and 5."""
     for setting, (q, n, k, _, t) in SETTINGS.items():
+        d = most_damage(setting)
         for D in range(2, 9):
             messages = [[(3 * f + i * i + 1) % q for i in range(2 * k)] for f in range(D)]
             sent = [transmission_of(setting, message) for message in messages]
-            apart, together = sum(sent, []), woven(sent)
-            yield laid("weave", setting, D, apart, 0, together, tail=1)
-            yield laid("unweave", setting, D, together, 0, apart, tail=1)
-            for run in (D * t, D * t + 1)[: 2 if setting in (2, 4, 5) else 1]:
-                for start in (0, 1, D * n - run // 2, len(together) - run):
-                    yield struck(setting, messages, start, run)
+            received = [altered_at(setting, frame, (), range(f, len(frame), 5)) for f, frame in enumerate(sent)]
+            for frames in (sent, received):
+                apart, together = sum(frames, []), woven(frames)
+                yield laid("weave", setting, D, apart, 0, together, tail=1)
+                yield laid("unweave", setting, D, together, 0, apart, tail=1)
+            runs = [(D * t, False), (D * d, True), (D * d + 1, True)] + [(D * t + 1, False)] * (d % 2)
+            for run, dropped in runs:
+                for start in (0, 1, max(D * n - run // 2, 0), len(together) - run):
+                    yield struck(setting, messages, start, run, dropped)
 
 
 def refused_woven():
@@ -275,7 +348,7 @@ def refused_woven():
     for setting, (q, n, k, m, _) in SETTINGS.items():
         for D in (2, 8):
             length = (2 + m) * n
-            wrong = [0] * (D * length - 2) + [q, 255]
+            wrong = [0] * (D * length - 3) + [UNKNOWN, q, 254]
             asked = [(setting + 5, 0, [q], 1, 0)]
             asked += [(setting, no_frames, wrong + [0], 14, 0) for no_frames in (0, 1, 9, 2**32 + 2, 2**63, 2**64 - 1)]
             asked += [(setting, D, incoming, 15, 0) for incoming in ([q], wrong + [0], wrong[1:])]
@@ -293,8 +366,8 @@ def refused_woven():
 
 
 def repaired(setting, level, block, code_block):
-    """A block step's code block and marks, symbol 0's mark lowest; where no code block is near enough, none and no mark."""
-    marks = sum(2**i for i, (a, b) in enumerate(zip(block, code_block or block)) if a != b)
+    """A block step's code block and marks, symbol 0's mark lowest; where no code block is near enough, none and no mark. Unknown symbols are not marked."""
+    marks = sum(2**i for i, (a, b) in enumerate(zip(block, code_block or block)) if a not in (UNKNOWN, b))
     b, c = areas(block, code_block or [])
     return {"call": "block_step", "args": {"number": setting, "level": level, "block": b}, "result": [c or None, marks]}
 
@@ -347,9 +420,21 @@ def beyond(setting, level, code_block, limit):
         yield repaired(setting, level, block, near[0] if near else None)
 
 
+def mixed(setting, level, code_block):
+    """A code block with every mix of altered and unknown symbols that a repair undoes, and with every one that is just more; with all symbols unknown."""
+    _, n, k, _, _ = SETTINGS[setting]
+    limit = n - (level + 1) * k
+    pairs = [pair for damage in range(limit + 2) for pair in mixes(damage) if pair[1]]
+    for i, (altered, unknown) in enumerate(pairs + [(0, n)]):
+        places = list(spots(n, altered + unknown)[i % 3])[:: 1 - i % 2 * 2]
+        block = altered_at(setting, code_block, places[:altered], places[altered:])
+        yield repaired(setting, level, block, code_block if 2 * altered + unknown <= limit else None)
+
+
 def block_steps():
     """Blocks of every level of every setting: two code blocks, the first all zero, as they are, with one altered symbol, with as many as a repair undoes, that
-    is half of d_l - 1, rounded down, and with one more. Where d_l is 1 every block is a code block."""
+    is half of d_l - 1, rounded down, and with one more; the second with altered and unknown symbols. Where d_l is 1 every block is a code block if it has no
+    unknown symbol."""
     for setting, (q, n, k, m, _) in SETTINGS.items():
         for level in range(m + 1):
             size = (level + 1) * k
@@ -361,6 +446,7 @@ def block_steps():
                     for places in spots(n, count):
                         yield repaired(setting, level, altered_at(setting, code_block, places), code_block)
                 yield from beyond(setting, level, code_block, limit)
+            yield from mixed(setting, level, code_block)
             if n == size:
                 block = [(i * i * i + 5 * i + 3) % q for i in range(n)]
                 yield repaired(setting, level, block, block)
@@ -401,6 +487,7 @@ def examples():
         yield encoded(setting, symbols(message), 0, powers(row))
         yield decoded(setting, powers(row), 0, symbols(message), powers(row))
     yield from worked_orders()
+    yield from unknown_symbols()
     yield from closing_damage()
     yield from woven_orders()
     yield from refused_woven()
@@ -411,9 +498,10 @@ def examples():
         yield decoded(number, transmission, 1, message, transmission)
         yield displayed(number, transmission, 0, 1)
         yield marked(number, transmission, transmission, 0, 1)
-    # 01's sample lines; question 11's limit, and what is asked after it.
+    # The desk's sample lines; question 11's limit, and what is asked after it.
     samples = {
         "1001243123230000": "00000010011",
+        "10012431--------": "00000010011",
         "1001243123200000": "070000",
         "1001243523230000": "040003",
         "": "090000",
@@ -423,7 +511,24 @@ def examples():
     }
     # Settings 4 and 5, and what is no setting.
     others = {"5001": "0a0000", "4201": "030000", "5201": "030000", "0001": "010000", "6001": "010000", "f001": "010000"}
-    for line, answer in (samples | others).items():
+    # Unknown symbols: with an altered one; too many; too few and too many of them; where no symbol stands.
+    dropped = {
+        "10011431------34": "00000110011",
+        "10011431-------4": "070000",
+        "1001------------": "070000",
+        "10012431-------": "0a0000",
+        "10012431---------": "0a0000",
+        "10012431-----5--": "040009",
+        "10012431----g---": "09000c",
+        "-0012431--------": "090000",
+        "100-2431--------": "090003",
+        "-": "090000",
+        "10-": "090002",
+        "1000-": "0a0000",
+        "f000-": "010000",
+        "-" * 7730: "0b0000",
+    }
+    for line, answer in (samples | others | dropped).items():
         yield answered_line(line, answer)
     for setting, (_, n, _, m, _) in SETTINGS.items():
         message, transmission = map(digits, long_order(setting, 512))
@@ -463,10 +568,14 @@ def examples():
         yield displayed(setting, transmission, 513, 3)
         # One question after another gets a no, the later ones getting one too.
         message, transmission = long_order(setting, 3)
-        wrong = transmission[:9] + [q] + transmission[10:]
+        wrong = transmission[:8] + [UNKNOWN, q, 254] + transmission[11:]
         yield decoded(setting + 5, wrong, 1, message, transmission)
         yield decoded(setting, wrong[:-1], 2, message, transmission)
         yield decoded(setting, wrong, 4, message[1:], transmission[1:], place=9)
         yield decoded(setting, transmission, 5, message[1:], transmission[1:])
         yield decoded(setting, transmission, 6, message, transmission[1:])
+        yield marked(setting, transmission[:-1], transmission, 3, 2)
+        yield marked(setting, long_order(setting, 513)[1], transmission, 513, 3)
+        yield marked(setting, transmission, transmission[:-1], 3, 12)
+        yield marked(setting, transmission, transmission[:-1], 2, 13)
     yield from block_steps()

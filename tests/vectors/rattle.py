@@ -2,10 +2,10 @@
 """Makes stdin and stdout of crates/link_test and crates/block_test: the calls of calls.jsonl and of examples.py, and what the programs must write.
 
 link_test, all calls but block steps. A line of stdin: the call's letter, the setting, j or D, the lengths of three areas and the areas, all in hexadecimal
-(crates/link_test/src/main.rt). A line of stdout: number, place and count of the answer in decimal, then what the call returned and what it left in the areas;
-for a desk line, its answer.
-block_test, the block steps. A line of stdin: the setting, the level and the block, in hexadecimal. Stdout: first the counts that the program makes without
-input (block-counts.txt); then for each line of stdin the code block, in hexadecimal, or none, and a digit for each symbol's mark.
+(crates/link_test/src/main.rt). A line of stdout: number, place, altered and unknown symbols of the answer in decimal, then what the call returned and what it
+left in the areas; for a desk line, its answer.
+block_test, the block steps. A line of stdin: the setting, the level and the block, in hexadecimal, ff for an unknown symbol. Stdout: first the counts that the
+program makes without input (block-counts.txt); then for each line of stdin the code block, in hexadecimal, or none, and a digit for each symbol's mark.
 Run it where it stands; `--check` only says whether the files are up to date."""
 import itertools, json, os, sys
 
@@ -15,13 +15,17 @@ here = os.path.dirname(os.path.abspath(__file__))
 crates = os.path.join(here, "..", "..", "crates")
 
 
+# What is said of an answer.
+NAMES = ("number", "place", "count", "unknown")
+
+
 def said(answer):
-    return [str(answer[name]) for name in ("number", "place", "count")]
+    return [str(answer[name]) for name in NAMES]
 
 
 def said_of_frames(answers):
     """The answers of eight frames; those that are not there are zeros."""
-    none = {"number": 0, "place": 0, "count": 0}
+    none = dict.fromkeys(NAMES, 0)
     return [number for f in range(8) for number in said(answers[f] if f < len(answers) else none)]
 
 

@@ -1,16 +1,19 @@
-//! Repair of one block: Reed–Solomon decoding at a level, up to half the level's distance.
+//! Repair of one block: Reed–Solomon decoding of altered and unknown symbols at a level, as far as
+//! twice the altered ones plus the unknown ones are below the level's distance.
 
-use super::code::{Block, Code, MAX_N};
+use super::code::{Block, Code};
 use super::field::{Field, MAX_Q};
+use super::received::Received;
 
-/// A polynomial with a root for each repaired symbol, at most half of a block, lowest power first.
-type Polynomial = [u8; MAX_N / 2 + 1];
+/// A polynomial with a root for each unknown or altered symbol, at most as many as there are
+/// syndromes, lowest power first.
+type Polynomial = Block;
 
-/// A repaired block, and which of its symbols the repair altered.
+/// A repaired block, and which of its known symbols the repair altered.
 #[derive(Debug, PartialEq)]
 pub struct Repaired {
     pub codeword: Block,
-    /// True where received and repaired symbol differ; false past the block.
+    /// True where a known received symbol and the repaired one differ; false past the block.
     pub marks: [bool; MAX_Q],
 }
 
@@ -21,76 +24,113 @@ impl Repaired {
     }
 }
 
-/// The level-l codeword within the repair limit of a block with its marks, if there is one.
-pub fn repair(code: &Code, l: usize, block: &[u8]) -> Option<Repaired> {
+/// A product of 1 − X x over some places' X = α^i, and how many places these are.
+#[derive(Clone, Copy)]
+struct Locator {
+    product: Polynomial,
+    degree: usize,
+}
+
+/// The level-l codeword within the repair limit of a block with its marks, if there is one. An
+/// unknown symbol of the block may have any value.
+pub fn repair(code: &Code, l: usize, block: &[u8], received: impl Received) -> Option<Repaired> {
     let mut syndromes = Block::default();
     let syndromes = &mut syndromes[..code.syndrome_count(l)];
     for (i, syndrome) in syndromes.iter_mut().enumerate() {
         *syndrome = code.syndrome(block, i);
     }
+    let unknown = unknown_places(code, received, syndromes.len())?;
     if syndromes.iter().all(|&syndrome| syndrome == 0) {
         return Some(Repaired::unmarked(code, block));
     }
-    let (locator, degree) = locator(&code.field, syndromes, code.repair_limit(l))?;
-    correct(code, block, syndromes, &locator[..=degree])
+    let locator = locator(&code.field, syndromes, unknown)?;
+    correct(code, block, received, syndromes, &locator.product[..=locator.degree])
 }
 
-/// The product of 1 − X x over the altered places' X = α^i, and its degree, if within the limit
-/// (Massey's shortest register that makes the syndromes).
-fn locator(field: &Field, syndromes: &[u8], limit: usize) -> Option<(Polynomial, usize)> {
-    let mut locator = Polynomial::default();
-    locator[0] = 1;
-    let mut degree = 0;
-    let mut previous = locator;
+/// The locator of the unknown symbols' places, if there are at most so many.
+fn unknown_places(code: &Code, received: impl Received, most: usize) -> Option<Locator> {
+    let mut locator = Locator { product: Polynomial::default(), degree: 0 };
+    locator.product[0] = 1;
+    for (i, &place) in code.places().iter().enumerate() {
+        if !received.is_unknown(i) {
+            continue;
+        }
+        if locator.degree == most {
+            return None;
+        }
+        let before = locator.product;
+        code.field.add_multiple(&mut locator.product[1..], code.field.negate(place), &before);
+        locator.degree += 1;
+    }
+    Some(locator)
+}
+
+/// The locator of the unknown and the altered places, if within the limit: Massey's shortest
+/// register that makes the syndromes, begun with the unknown places. Of an altered symbol place and
+/// value are to be found, so each takes two syndromes, where an unknown one takes one.
+#[inline(always)]
+fn locator(field: &Field, syndromes: &[u8], unknown: Locator) -> Option<Locator> {
+    let begun = unknown.degree;
+    let limit = (syndromes.len() + begun) / 2;
+    let mut locator = unknown;
+    let mut previous = unknown;
     let mut previous_discrepancy = 1;
     let mut shift = 1;
-    for r in 0..syndromes.len() {
-        let discrepancy = (0..=degree)
-            .fold(0, |sum, i| field.add(sum, field.multiply(locator[i], syndromes[r - i])));
+    for r in begun..syndromes.len() {
+        let discrepancy = (0..=locator.degree)
+            .fold(0, |sum, i| field.add(sum, field.multiply(locator.product[i], syndromes[r - i])));
         if discrepancy == 0 {
             shift += 1;
             continue;
         }
-        let longer = 2 * degree <= r;
-        if longer && r + 1 - degree > limit {
+        let longer = 2 * locator.degree <= r + begun;
+        if longer && r + 1 + begun - locator.degree > limit {
             return None;
         }
         let before = locator;
         let factor = field.negate(field.divide(discrepancy, previous_discrepancy));
-        field.add_multiple(&mut locator[shift..], factor, &previous);
+        let row = &previous.product[..=previous.degree];
+        field.add_multiple(&mut locator.product[shift..], factor, row);
         if longer {
-            degree = r + 1 - degree;
+            locator.degree = r + 1 + begun - locator.degree;
             previous = before;
             previous_discrepancy = discrepancy;
             shift = 0;
         }
         shift += 1;
     }
-    Some((locator, degree))
+    Some(locator)
 }
 
 /// The block with the located symbols corrected and marked, if the locator has all its roots among
 /// the places.
-fn correct(code: &Code, block: &[u8], syndromes: &[u8], locator: &[u8]) -> Option<Repaired> {
+fn correct(
+    code: &Code,
+    block: &[u8],
+    received: impl Received,
+    syndromes: &[u8],
+    locator: &[u8],
+) -> Option<Repaired> {
     let field = &code.field;
     let degree = locator.len() - 1;
     let evaluator = evaluator(field, syndromes, locator);
     let mut repaired = Repaired::unmarked(code, block);
     let symbols = repaired.codeword.iter_mut().zip(&mut repaired.marks);
     let mut found = 0;
-    for ((symbol, mark), &place) in symbols.zip(code.places()) {
+    for (i, ((symbol, mark), &place)) in symbols.zip(code.places()).enumerate() {
         let root = field.divide(1, place);
         if field.value(locator, root) == 0 {
             let error = error_value(field, &evaluator[..degree], locator, root);
             *symbol = field.subtract(*symbol, error);
-            *mark = error != 0;
+            *mark = error != 0 && !received.is_unknown(i);
             found += 1;
         }
     }
     (found == degree).then_some(repaired)
 }
 
-/// Forney's error value at the place 1/root: −Ω(root) / (root Λ'(root)), with locator Λ, evaluator Ω.
+/// Forney's error value at the place 1/root: −Ω(root) / (root Λ'(root)), with locator Λ, evaluator
+/// Ω.
 fn error_value(field: &Field, evaluator: &[u8], locator: &[u8], root: u8) -> u8 {
     let slope = locator.iter().enumerate().rev().fold(0, |value, (i, &coefficient)| {
         let term = field.multiply(field.integer(i), coefficient);
@@ -111,7 +151,9 @@ fn evaluator(field: &Field, syndromes: &[u8], locator: &[u8]) -> Polynomial {
 
 #[cfg(test)]
 mod tests {
+    use super::super::received::{known, Known};
     use super::*;
+    use crate::calls::UNKNOWN;
     use crate::sample::Random;
 
     /// The most codewords of a level that are enumerated.
@@ -157,23 +199,68 @@ mod tests {
         Some(codewords)
     }
 
-    fn distance(a: &Block, b: &Block) -> usize {
-        a.iter().zip(b).filter(|(a, b)| a != b).count()
+    /// Twice the known symbols of a received block that differ from a codeword, plus the unknown
+    /// ones.
+    fn damage(codeword: &Block, block: &Block) -> usize {
+        let pairs = codeword.iter().zip(block);
+        pairs.map(|(a, &b)| if b == UNKNOWN { 1 } else { 2 * usize::from(*a != b) }).sum()
     }
 
-    /// A block repaired to this codeword, with its marks by definition.
+    /// A codeword with so many symbols altered and so many dropped.
+    fn damaged(
+        random: &mut Random,
+        code: &Code,
+        codeword: &Block,
+        altered: usize,
+        unknown: usize,
+    ) -> Block {
+        let mut block = *codeword;
+        let mut places = random.order(code.n).into_iter();
+        for place in places.by_ref().take(altered) {
+            let step = random.between(1, code.field.q() - 1);
+            block[place] = ((block[place] as usize + step) % code.field.q()) as u8;
+        }
+        places.take(unknown).for_each(|place| block[place] = UNKNOWN);
+        block
+    }
+
+    /// So many altered and so many unknown symbols of a block: every mix with damage up to a bound.
+    fn mixes(code: &Code, most: usize) -> impl Iterator<Item = (usize, usize)> + '_ {
+        let unknown = move |altered| (0..=code.n - altered).map(move |unknown| (altered, unknown));
+        let mixes = (0..=code.n).flat_map(unknown);
+        mixes.filter(move |(altered, unknown)| 2 * altered + unknown <= most)
+    }
+
+    /// What repair makes of a received block, whatever stands in the place of its unknown symbols.
+    fn repaired(random: &mut Random, code: &Code, l: usize, block: &Block) -> Option<Repaired> {
+        let received = &block[..code.n];
+        let zeros = Vec::from_iter(received.iter().map(|&symbol| known(symbol)));
+        let repaired = repair(code, l, &zeros, received);
+        if zeros == received {
+            assert_eq!(repair(code, l, received, Known), repaired);
+        }
+        let mut others = zeros;
+        for (symbol, _) in others.iter_mut().zip(received).filter(|pair| *pair.1 == UNKNOWN) {
+            *symbol = random.below(code.field.q()) as u8;
+        }
+        assert_eq!(repair(code, l, &others, received), repaired);
+        repaired
+    }
+
+    /// A received block repaired to this codeword, with its marks by definition.
     fn repaired_to(codeword: &Block, block: &Block) -> Repaired {
-        let marks = std::array::from_fn(|i| codeword[i] != block[i]);
+        let marks = std::array::from_fn(|i| block[i] != UNKNOWN && block[i] != codeword[i]);
         Repaired { codeword: *codeword, marks }
     }
 
-    /// The block repaired to each of the codewords within the repair limit.
+    /// The received block repaired to each of the codewords within the repair limit.
     fn near(code: &Code, l: usize, codewords: &[Block], block: &Block) -> Vec<Repaired> {
-        let is_near = |codeword: &&Block| distance(codeword, block) <= code.repair_limit(l);
+        let is_near = |codeword: &&Block| damage(codeword, block) <= code.syndrome_count(l);
         let near = codewords.iter().filter(is_near);
         near.map(|codeword| repaired_to(codeword, block)).collect()
     }
 
+    /// Every mix of altered and unknown symbols, up to the limit and a little beyond it.
     #[test]
     fn repair_finds_the_one_codeword_within_the_limit() {
         let random = &mut Random::new(10);
@@ -181,15 +268,18 @@ mod tests {
             let Some(codewords) = codewords(code, l) else {
                 continue;
             };
-            for _ in 0..2_000_000 / codewords.len().max(500) {
-                let mut block = codewords[random.below(codewords.len())];
-                for _ in 0..random.below(code.repair_limit(l) + 3) {
-                    let place = random.below(code.n);
-                    block[place] = random.below(code.field.q()) as u8;
+            for (altered, unknown) in mixes(code, code.syndrome_count(l) + 3) {
+                for _ in 0..(100_000 / codewords.len()).clamp(5, 200) {
+                    let codeword = *random.pick(&codewords);
+                    let block = damaged(random, code, &codeword, altered, unknown);
+                    let repaired = repaired(random, code, l, &block);
+                    let near = near(code, l, &codewords, &block);
+                    assert_eq!(
+                        repaired.as_slice(),
+                        near,
+                        "setting {setting}, level {l}: {block:?}"
+                    );
                 }
-                let repaired = repair(code, l, &block[..code.n]);
-                let near = near(code, l, &codewords, &block);
-                assert_eq!(repaired.as_slice(), near, "setting {setting}, level {l}: {block:?}");
             }
         }
     }
@@ -198,40 +288,40 @@ mod tests {
     fn is_right(code: &Code, l: usize, found: &Repaired, block: &Block) -> bool {
         let vanishes = |i| code.syndrome(&found.codeword[..code.n], i) == 0;
         *found == repaired_to(&found.codeword, block)
-            && distance(&found.codeword, block) <= code.repair_limit(l)
+            && damage(&found.codeword, block) <= code.syndrome_count(l)
             && (0..code.syndrome_count(l)).all(vanishes)
     }
 
-    /// Of every level, also of those with too many codewords to enumerate: within the limit the
-    /// codeword comes back, beyond it what comes back is a codeword within the limit. Its marks are
-    /// where the two differ.
+    /// Of every level, also of those with too many codewords to enumerate, with every mix of
+    /// altered and unknown symbols: within the limit the codeword comes back; with just one more no
+    /// codeword is near, since another one differs from this one in d_l symbols; beyond that what
+    /// comes back is a codeword within the limit. Its marks are where a known symbol differs from
+    /// it.
     #[test]
-    fn repair_finds_an_altered_codeword_again() {
+    fn repair_finds_a_damaged_codeword_again() {
         let random = &mut Random::new(11);
         for (setting, code, l) in levels() {
-            for _ in 0..20_000 {
-                let codeword = codeword(random, code, l);
-                let mut block = codeword;
-                let altered = random.below(code.n + 1);
-                for place in random.order(code.n).into_iter().take(altered) {
-                    let step = random.between(1, code.field.q() - 1);
-                    block[place] = ((block[place] as usize + step) % code.field.q()) as u8;
+            let limit = code.syndrome_count(l);
+            for (altered, unknown) in mixes(code, 2 * code.n) {
+                for _ in 0..100 {
+                    let codeword = codeword(random, code, l);
+                    let block = damaged(random, code, &codeword, altered, unknown);
+                    let repaired = repaired(random, code, l, &block);
+                    let damage = 2 * altered + unknown;
+                    let right = match repaired {
+                        _ if damage <= limit => repaired == Some(repaired_to(&codeword, &block)),
+                        _ if damage == limit + 1 => repaired.is_none(),
+                        Some(found) => is_right(code, l, &found, &block),
+                        None => true,
+                    };
+                    assert!(right, "setting {setting}, level {l}: {block:?} from {codeword:?}");
                 }
-                let repaired = repair(code, l, &block[..code.n]);
-                let right = match repaired {
-                    _ if altered <= code.repair_limit(l) => {
-                        repaired == Some(repaired_to(&codeword, &block))
-                    }
-                    Some(found) => is_right(code, l, &found, &block),
-                    None => true,
-                };
-                assert!(right, "setting {setting}, level {l}: {block:?} from {codeword:?}");
             }
         }
     }
 
-    /// The verified block step's test program: its input, a block a line, and its output, the counts
-    /// and then an answer a line.
+    /// The verified block step's test program: its input, a block a line, and its output, the
+    /// counts and then an answer a line.
     const STDIN: &str = include_str!("../../../crates/block_test/stdin");
     const STDOUT: &str = include_str!("../../../crates/block_test/stdout");
 
@@ -268,7 +358,7 @@ mod tests {
                 let near = near(code, l, &codewords, &block);
                 blocks += 1;
                 near_blocks += usize::from(!near.is_empty());
-                agreed += usize::from(repair(code, l, &block[..code.n]).as_slice() == near);
+                agreed += usize::from(repair(code, l, &block[..code.n], Known).as_slice() == near);
             }
             counts.push(format!("{setting} {l} {blocks} {near_blocks} {agreed}"));
         }
@@ -281,8 +371,9 @@ mod tests {
         let [setting, l, block] = words[..] else { panic!("no block: {line}") };
         let code = Code::of(number(setting)).unwrap();
         let symbols = block.as_bytes().chunks(2).map(|digits| std::str::from_utf8(digits).unwrap());
-        let block = Vec::from_iter(symbols.map(|digits| number(digits) as u8));
-        let (codeword, marks) = match repair(code, number(l) as usize, &block) {
+        let received = Vec::from_iter(symbols.map(|digits| number(digits) as u8));
+        let block = Vec::from_iter(received.iter().map(|&symbol| known(symbol)));
+        let (codeword, marks) = match repair(code, number(l) as usize, &block, &received[..]) {
             Some(Repaired { codeword, marks }) => (hexadecimal(&codeword[..code.n]), marks),
             None => ("none".to_string(), [false; MAX_Q]),
         };

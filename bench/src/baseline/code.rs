@@ -29,7 +29,7 @@ pub struct Code {
     pub m: usize,
     /// The distances d_0 to d_m of the levels' block codes.
     distances: [usize; MAX_WINDOW],
-    /// For each level, the most differences over blocks 0 to l of a window.
+    /// For each level, the most damage over blocks 0 to l of a window.
     window_limits: [usize; MAX_WINDOW],
     /// G_0 to G_m, each of k rows.
     generator: [[Block; MAX_K]; MAX_WINDOW],
@@ -96,22 +96,18 @@ impl Code {
         &self.points[1][..self.n]
     }
 
-    /// How many syndromes a block has at level l: d_l − 1.
+    /// How many syndromes a block has at level l: d_l − 1, which is also the most damage that a
+    /// repair undoes.
     pub fn syndrome_count(&self, l: usize) -> usize {
         self.distances[l] - 1
     }
 
-    /// The most symbols that a repair at level l alters.
-    pub fn repair_limit(&self, l: usize) -> usize {
-        (self.distances[l] - 1) / 2
-    }
-
-    /// The most differences in a window: t.
+    /// The most damage in a window: d. Damage is twice the altered symbols plus the unknown ones.
     pub fn limit(&self) -> usize {
         self.window_limits[self.m]
     }
 
-    /// The most differences over blocks 0 to l of a window.
+    /// The most damage over blocks 0 to l of a window: d_0 + .. + d_l − 1.
     pub fn window_limit(&self, l: usize) -> usize {
         self.window_limits[l]
     }
@@ -142,14 +138,14 @@ const fn distances(n: usize, k: usize, m: usize) -> [usize; MAX_WINDOW] {
     distances
 }
 
-/// Half of d_0 + .. + d_l − 1, rounded down.
+/// d_0 + .. + d_l − 1.
 const fn window_limits(distances: &[usize; MAX_WINDOW], m: usize) -> [usize; MAX_WINDOW] {
     let mut limits = [0; MAX_WINDOW];
     let mut sum = 0;
     let mut l = 0;
     while l <= m {
         sum += distances[l];
-        limits[l] = (sum - 1) / 2;
+        limits[l] = sum - 1;
         l += 1;
     }
     limits

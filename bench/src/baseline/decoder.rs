@@ -2,6 +2,14 @@
 
 use super::block::repair;
 use super::code::{Block, Code, Information, MAX_K};
+use super::received::{known, Known, Received};
+use crate::calls::UNKNOWN;
+
+/// What decoding counts: the altered symbols of blocks 0 to T−1, the unknown ones of all blocks.
+pub struct Counts {
+    pub altered: usize,
+    pub unknown: usize,
+}
 
 /// Writes the transmission of a message: sent block s is the sum of information block s−j × G_j.
 pub fn encode(code: &Code, message: &[u8], transmission: &mut [u8]) {
@@ -14,48 +22,79 @@ pub fn encode(code: &Code, message: &[u8], transmission: &mut [u8]) {
     }
 }
 
-/// Writes the message that fits a reception and its transmission, and returns the altered count.
+/// Writes the message that fits a reception and its transmission, and returns what it counted.
 /// Where no message fits, both areas are left half done.
 pub fn decode(
     code: &Code,
     reception: &[u8],
     message: &mut [u8],
     transmission: &mut [u8],
-) -> Option<usize> {
-    // The transmission's area first holds the residual: the reception less the found blocks' part.
+) -> Option<Counts> {
     transmission.copy_from_slice(reception);
+    let counts = if reception.contains(&UNKNOWN) {
+        transmission.iter_mut().for_each(|symbol| *symbol = known(*symbol));
+        find_message(code, reception, message, transmission)
+    } else {
+        find_message(code, Known, message, transmission)
+    }?;
+    for (symbol, &received) in transmission.iter_mut().zip(reception) {
+        *symbol = code.field.subtract(known(received), *symbol);
+    }
+    Some(counts)
+}
+
+/// Writes the message that fits, and what was counted. The residual, at first the reception with 0
+/// for each unknown symbol, becomes what is left of it without the message's transmission.
+fn find_message(
+    code: &Code,
+    received: impl Received,
+    message: &mut [u8],
+    residual: &mut [u8],
+) -> Option<Counts> {
     for (j, found) in message.chunks_exact_mut(code.k).enumerate() {
-        let window = &mut transmission[j * code.n..][..code.window_length()];
-        found.copy_from_slice(&first_information(code, window)?[..code.k]);
+        let window = &mut residual[j * code.n..][..code.window_length()];
+        let received = received.part(j * code.n, window.len());
+        found.copy_from_slice(&first_information(code, window, received)?[..code.k]);
         strip(code, window, found);
     }
-    let mut windows = transmission.windows(code.window_length()).step_by(code.n);
-    if windows.any(|window| weight(window) > code.limit()) {
+    let mut windows = residual.windows(code.window_length()).step_by(code.n).enumerate();
+    let damage = |(j, window): (usize, &[u8])| {
+        let received = received.part(j * code.n, window.len());
+        2 * received.weight(window) + received.unknown()
+    };
+    if windows.any(|window| damage(window) > code.limit()) {
         return None;
     }
     // Closing blocks do not count (02, #102).
-    let altered = weight(&transmission[..message.len() / code.k * code.n]);
-    for (symbol, &received) in transmission.iter_mut().zip(reception) {
-        *symbol = code.field.subtract(received, *symbol);
-    }
-    Some(altered)
+    let altered = received.weight(&residual[..message.len() / code.k * code.n]);
+    Some(Counts { altered, unknown: received.unknown() })
 }
 
 /// The information of the highest level that serves; only its first block is certain.
-fn first_information(code: &Code, window: &[u8]) -> Option<Information> {
-    (0..=code.m).rev().find_map(|l| information_at(code, l, &window[..(l + 1) * code.n]))
+fn first_information(code: &Code, window: &[u8], received: impl Received) -> Option<Information> {
+    (0..=code.m).rev().find_map(|l| {
+        let length = (l + 1) * code.n;
+        information_at(code, l, &window[..length], received.part(0, length))
+    })
 }
 
 /// The information behind the repaired block l, if the blocks rebuilt from it are near enough.
-fn information_at(code: &Code, l: usize, blocks: &[u8]) -> Option<Information> {
+fn information_at(
+    code: &Code,
+    l: usize,
+    blocks: &[u8],
+    received: impl Received,
+) -> Option<Information> {
     let (earlier, last) = blocks.split_at(l * code.n);
-    let repaired = repair(code, l, last)?;
+    let repaired = repair(code, l, last, received.part(l * code.n, code.n))?;
     let information = code.information(l, &repaired.codeword);
     let mut differences = repaired.marks.iter().filter(|&&mark| mark).count();
     for (i, block) in earlier.chunks_exact(code.n).enumerate() {
-        differences += distance(&rebuilt(code, &information, i), block);
+        let received = received.part(i * code.n, code.n);
+        differences += received.distance(&rebuilt(code, &information, i), block);
     }
-    (differences <= code.window_limit(l)).then_some(information)
+    let damage = 2 * differences + received.unknown();
+    (damage <= code.window_limit(l)).then_some(information)
 }
 
 /// Block i of a window that begins with this information.
@@ -83,14 +122,4 @@ fn add_contribution(code: &Code, block: &mut [u8], information: &[u8], j: usize)
     for (r, &symbol) in information.iter().enumerate() {
         code.field.add_multiple(block, symbol, code.row(j, r));
     }
-}
-
-/// The number of nonzero symbols.
-fn weight(symbols: &[u8]) -> usize {
-    symbols.iter().filter(|&&symbol| symbol != 0).count()
-}
-
-/// The number of places where two rows of symbols differ, as far as both reach.
-fn distance(a: &[u8], b: &[u8]) -> usize {
-    a.iter().zip(b).filter(|(a, b)| a != b).count()
 }

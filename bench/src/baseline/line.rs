@@ -2,7 +2,7 @@
 
 use super::code::{Code, MAX_K, MAX_SYMBOLS, MAX_T};
 use super::decode;
-use crate::calls::Answer;
+use crate::calls::{Answer, UNKNOWN};
 
 /// The most characters of a line that is read on.
 const MAX_LINE: usize = HEAD + MAX_SYMBOLS;
@@ -12,6 +12,9 @@ pub const MAX_ANSWER: usize = 6 + HEAD + MAX_T * MAX_K;
 
 const HEAD: usize = 4;
 const DIGITS: &[u8; 16] = b"0123456789abcdef";
+
+/// What stands for an unknown symbol, after the head.
+const UNKNOWN_SYMBOL: u8 = b'-';
 
 /// A line that got "yes" to every question before 4.
 struct Frame<'a> {
@@ -51,7 +54,7 @@ fn read_frame<'a>(
     let mut reception = [0; MAX_SYMBOLS];
     let reception = &mut reception[..frame.symbols.len()];
     for (symbol, &character) in reception.iter_mut().zip(frame.symbols) {
-        *symbol = digit(character).unwrap_or(0);
+        *symbol = digit(character).unwrap_or(UNKNOWN);
     }
     let message = &mut message[..frame.message_length];
     let answer = decode(frame.setting, reception, message, &mut [0; MAX_SYMBOLS]);
@@ -66,7 +69,8 @@ fn frame(line: &[u8]) -> Result<Frame<'_>, Answer> {
     if line.len() > MAX_LINE {
         return Err(Answer::no(11));
     }
-    if let Some(place) = line.iter().position(|&character| digit(character).is_none()) {
+    let mut characters = line.iter().enumerate();
+    if let Some(place) = characters.position(|(place, &character)| !admitted(place, character)) {
         return Err(Answer::no_at(9, place));
     }
     if line.len() < HEAD {
@@ -83,6 +87,11 @@ fn frame(line: &[u8]) -> Result<Frame<'_>, Answer> {
         return Err(Answer::no(10));
     }
     Ok(Frame { setting: setting as u64, message_length: blocks * code.k, symbols })
+}
+
+/// Whether a line may have this character at this place.
+fn admitted(place: usize, character: u8) -> bool {
+    digit(character).is_some() || place >= HEAD && character == UNKNOWN_SYMBOL
 }
 
 /// The value of a lowercase hexadecimal digit.

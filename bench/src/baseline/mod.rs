@@ -5,11 +5,12 @@ mod code;
 mod decoder;
 mod field;
 mod line;
+mod received;
 mod woven;
 
 pub use line::{line, MAX_ANSWER};
 
-use crate::calls::{Answer, Calls, Marks};
+use crate::calls::{Answer, Calls, Marks, UNKNOWN};
 use code::{Code, MAX_T};
 use woven::{decode_woven, unweave, weave};
 
@@ -50,7 +51,9 @@ fn decode_frame(
     transmission: &mut [u8],
 ) -> Answer {
     match decoder::decode(code, reception, message, transmission) {
-        Some(altered) => Answer { altered: altered as u32, ..Answer::YES },
+        Some(counts) => {
+            Answer { altered: counts.altered as u32, unknown: counts.unknown as u32, ..Answer::YES }
+        }
         None => {
             message.fill(0);
             transmission.fill(0);
@@ -72,14 +75,15 @@ pub fn window_answer(setting: u64, reception: &[u8], j: u64) -> Answer {
     window_questions(setting, reception, j).err().unwrap_or(Answer::YES)
 }
 
-/// Marks the differences of a reception and a transmission in window j.
+/// Marks the differences of a reception and a transmission in window j, and the unknown symbols.
 fn marks(setting: u64, reception: &[u8], transmission: &[u8], j: u64) -> Marks {
     match marks_questions(setting, reception, transmission, j) {
         Err(answer) => Marks { answer, marks: 0, set: 0 },
         Ok((code, start)) => {
             let received = &reception[start..][..code.window_length()];
             let pairs = received.iter().zip(&transmission[start..]).enumerate();
-            let marks = pairs.fold(0, |marks, (i, (a, b))| marks | u64::from(a != b) << i);
+            let set = |a: &u8, b: &u8| *a == UNKNOWN || a != b;
+            let marks = pairs.fold(0, |marks, (i, (a, b))| marks | u64::from(set(a, b)) << i);
             Marks { answer: Answer::YES, marks, set: marks.count_ones() }
         }
     }
@@ -95,7 +99,7 @@ fn encode_questions(setting: u64, message: &[u8], area: usize) -> Allowed {
     if blocks > MAX_T {
         return Err(Answer::no(3));
     }
-    check_symbols(code, message)?;
+    check_symbols(message, |symbol| symbol < code.field.q() as u8)?;
     let length = (blocks + code.m) * code.n;
     if area < length {
         return Err(Answer::no(6));
@@ -111,7 +115,7 @@ fn decode_questions(
     transmission_area: usize,
 ) -> Allowed {
     let (code, blocks) = reception_questions(setting, reception)?;
-    check_symbols(code, reception)?;
+    check_received(code, reception)?;
     if message_area < blocks * code.k {
         return Err(Answer::no(5));
     }
@@ -162,13 +166,16 @@ fn length_questions(code: &Code, length: usize) -> Result<usize, Answer> {
     Ok(blocks - code.m)
 }
 
-/// Question 4. The largest byte is found first, since that loop is a fast one.
-fn check_symbols(code: &Code, symbols: &[u8]) -> Result<(), Answer> {
-    let q = code.field.q() as u8;
-    let largest = symbols.iter().fold(0, |largest, &symbol| symbol.max(largest));
-    if largest < q {
+/// Question 4 of what was received, where symbols may be unknown.
+fn check_received(code: &Code, symbols: &[u8]) -> Result<(), Answer> {
+    check_symbols(symbols, |symbol| symbol < code.field.q() as u8 || symbol == UNKNOWN)
+}
+
+/// Question 4. All symbols are looked at first, since that loop is a fast one.
+fn check_symbols(symbols: &[u8], admitted: impl Fn(u8) -> bool) -> Result<(), Answer> {
+    if symbols.iter().fold(true, |all, &symbol| all & admitted(symbol)) {
         return Ok(());
     }
-    let place = symbols.iter().take_while(|&&symbol| symbol < q).count();
+    let place = symbols.iter().take_while(|&&symbol| admitted(symbol)).count();
     Err(Answer::no_at(4, place))
 }

@@ -1,7 +1,7 @@
 //! D frames woven against bursts: symbol i of frame f stands at i × D + f (02, #104).
 
 use super::code::{Code, MAX_SYMBOLS};
-use super::{check_symbols, code_of, decode_frame, length_questions};
+use super::{check_received, code_of, decode_frame, length_questions};
 use crate::calls::{Answer, Woven, MOST_FRAMES};
 
 /// The code, D and one frame's T, which the questions found, or the refusal.
@@ -109,6 +109,6 @@ fn frames_questions(setting: u64, frames: u64, incoming: &[u8]) -> Allowed {
         return Err(Answer::no(15));
     }
     let blocks = length_questions(code, incoming.len() / frames)?;
-    check_symbols(code, incoming)?;
+    check_received(code, incoming)?;
     Ok((code, frames, blocks))
 }

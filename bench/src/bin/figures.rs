@@ -1,5 +1,5 @@
-//! Times encoding, clean decoding, decoding at the limit, weaving and the decoding of woven frames, and
-//! prints the figures as tables.
+//! Times encoding, clean decoding, decoding at the limit with altered, with unknown and with both
+//! symbols, weaving and the decoding of woven frames, and prints the figures as tables.
 
 #[cfg(archive)]
 use orderlink_bench::archive;
@@ -34,14 +34,18 @@ enum Work {
     Encode,
     DecodeClean,
     DecodeAtLimit,
+    DecodeUnknown,
+    DecodeMixed,
     Weave,
     DecodeWoven,
 }
 
-const WORKS: [(Work, &str); 3] = [
+const WORKS: [(Work, &str); 5] = [
     (Work::Encode, "encode"),
     (Work::DecodeClean, "decode, clean"),
     (Work::DecodeAtLimit, "decode, at the limit"),
+    (Work::DecodeUnknown, "decode, at the limit, all unknown"),
+    (Work::DecodeMixed, "decode, at the limit, half unknown"),
 ];
 
 /// The same of D woven frames; a run of D × t symbols is altered.
@@ -161,7 +165,7 @@ impl Row {
             Work::Encode => {
                 (calls.encode)(setting.number, black_box(&orders[i].message), transmission)
             }
-            Work::DecodeClean | Work::DecodeAtLimit => {
+            Work::DecodeClean | Work::DecodeAtLimit | Work::DecodeUnknown | Work::DecodeMixed => {
                 let reception = black_box(&orders[i].reception);
                 (calls.decode)(setting.number, reception, message, transmission)
             }
@@ -190,16 +194,22 @@ impl Row {
 }
 
 impl Order {
-    /// Random messages, received clean, with t altered symbols in every window, or with a run of
-    /// altered symbols.
+    /// Random messages, received clean, with as many altered, unknown or both symbols in every
+    /// window as may be, or with a run of altered symbols.
     fn new(random: &mut Random, setting: &Setting, work: Work, blocks: usize) -> Order {
         let frames = work.frames();
         let message = |_| random.symbols(setting, setting.message_length(blocks));
         let messages: Vec<Vec<u8>> = (0..frames).map(message).collect();
         let sent: Vec<Vec<u8>> = messages.iter().map(|m| transmission(setting, m)).collect();
         let mut reception = woven(&sent);
+        let mut damage = |altered: usize, unknown: usize| {
+            damage_evenly(random, setting, &mut reception, altered, unknown);
+        };
         match work {
-            Work::DecodeAtLimit => damage_evenly(random, setting, &mut reception, setting.t),
+            Work::DecodeAtLimit => damage(setting.t, 0),
+            Work::DecodeUnknown => damage(0, setting.d),
+            // Of d, the altered symbols take about half.
+            Work::DecodeMixed => damage(setting.d / 4, setting.d - 2 * (setting.d / 4)),
             Work::DecodeWoven => {
                 let start = random.below(reception.len() - frames * setting.t + 1);
                 let run = start..start + frames * setting.t;

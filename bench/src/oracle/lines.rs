@@ -8,8 +8,10 @@ pub fn line(text: &[u8]) -> String {
     if text.len() > 7729 {
         return refusal(11, 0);
     }
-    let is_digit = |byte: &u8| b"0123456789abcdef".contains(byte);
-    if let Some(place) = text.iter().position(|byte| !is_digit(byte)) {
+    // "`-` in a line after its first four characters means an unknown symbol."
+    let admitted = |place| if place < 4 { "0123456789abcdef" } else { "0123456789abcdef-" };
+    let is_wrong = |&place: &usize| !admitted(place).as_bytes().contains(&text[place]);
+    if let Some(place) = (0..text.len()).find(is_wrong) {
         return refusal(9, place);
     }
     if text.len() < 4 {
@@ -27,7 +29,7 @@ pub fn line(text: &[u8]) -> String {
     if blocks < 1 || text.len() - 4 != setting.transmission_length(blocks) {
         return refusal(10, 0);
     }
-    let symbol = |c: char| c.to_digit(16).expect("a digit") as u8;
+    let symbol = |c: char| if c == '-' { 255 } else { c.to_digit(16).expect("a digit") as u8 };
     let reception: Vec<u8> = digits[4..].chars().map(symbol).collect();
     let mut message = vec![0; setting.message_length(blocks)];
     let answer = decode(number, &reception, &mut message, &mut vec![0; reception.len()]);

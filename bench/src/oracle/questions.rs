@@ -3,7 +3,7 @@
 use super::definition::Setting;
 use super::search::fitting;
 use super::sending::transmission;
-use crate::calls::{Answer, Marks};
+use crate::calls::{Answer, Marks, UNKNOWN};
 
 /// Questions 1, 8, 3, 4, 6; then fills the area.
 pub fn encode(number: u64, message: &[u8], area: &mut [u8]) -> Answer {
@@ -17,7 +17,7 @@ pub fn encode(number: u64, message: &[u8], area: &mut [u8]) -> Answer {
     if blocks > 512 {
         return Answer::no(3);
     }
-    if let Some(place) = first_wrong_symbol(setting, message) {
+    if let Some(place) = message.iter().position(|&symbol| symbol >= setting.q) {
         return Answer::no_at(4, place);
     }
     let length = setting.transmission_length(blocks);
@@ -60,13 +60,16 @@ pub fn decode(
     };
     message_area.copy_from_slice(message);
     transmission_area.copy_from_slice(&transmission(setting, message));
-    // Closing blocks do not count (02, #102).
-    let places = 0..blocks * setting.n;
-    let altered = places.filter(|&place| transmission_area[place] != reception[place]).count();
-    Answer { altered: altered as u32, ..Answer::YES }
+    // Of altered symbols, which are known ones, those in closing blocks do not count (02, #102,
+    // #106).
+    let differs = |&place: &usize| transmission_area[place] != reception[place];
+    let places = (0..blocks * setting.n).filter(|&place| reception[place] != UNKNOWN);
+    let altered = places.filter(differs).count() as u32;
+    let unknown = reception.iter().filter(|&&symbol| symbol == UNKNOWN).count() as u32;
+    Answer { altered, unknown, ..Answer::YES }
 }
 
-/// Questions 1, 2, 3, 12, 13; then a mark for each difference in window j.
+/// Questions 1, 2, 3, 12, 13; then a mark for each difference and each unknown symbol in window j.
 pub fn marks(number: u64, reception: &[u8], transmission: &[u8], j: u64) -> Marks {
     let refused = |answer| Marks { answer, marks: 0, set: 0 };
     let (setting, blocks) = match reception_questions(number, reception.len()) {
@@ -82,7 +85,7 @@ pub fn marks(number: u64, reception: &[u8], transmission: &[u8], j: u64) -> Mark
     let mut marks = Marks::default();
     for bit in 0..setting.window_length() {
         let place = j as usize * setting.n + bit;
-        if reception[place] != transmission[place] {
+        if reception[place] == UNKNOWN || reception[place] != transmission[place] {
             marks.marks += 1 << bit;
             marks.set += 1;
         }
@@ -106,7 +109,7 @@ pub fn reception_questions(
     Ok((setting, blocks))
 }
 
-/// Question 4's place.
-pub fn first_wrong_symbol(setting: &Setting, symbols: &[u8]) -> Option<usize> {
-    symbols.iter().position(|&symbol| symbol >= setting.q)
+/// Question 4's place in what was received, where symbols may be unknown.
+pub fn first_wrong_symbol(setting: &Setting, received: &[u8]) -> Option<usize> {
+    received.iter().position(|&symbol| symbol >= setting.q && symbol != UNKNOWN)
 }

@@ -1,7 +1,7 @@
 //! The messages that fit a reception, found by trying all of them where they are not too many.
 
 use super::definition::{Setting, SETTINGS};
-use super::sending::{add_contribution, fits};
+use super::sending::{add_contribution, damage, fits};
 use crate::baseline;
 use std::sync::OnceLock;
 
@@ -22,7 +22,7 @@ struct Search<'a> {
     contributions: &'a Contributions,
     reception: Vec<&'a [u8]>,
     chosen: Vec<usize>,
-    distances: Vec<usize>,
+    damage: Vec<usize>,
     found: Vec<Vec<u8>>,
 }
 
@@ -35,8 +35,8 @@ pub fn fitting(setting: &Setting, reception: &[u8]) -> Vec<Vec<u8>> {
     }
 }
 
-/// The message that the plain Rust returns, if it fits. That none does is here the plain Rust's word;
-/// orders with one altered symbol too many need no such word (tests/calls/orders.rs).
+/// The message that the plain Rust returns, if it fits. That none does is here the plain Rust's
+/// word; orders with too much damage need no such word (tests/calls/orders.rs).
 fn returned(setting: &Setting, reception: &[u8]) -> Option<Vec<u8>> {
     let blocks = reception.len() / setting.n - setting.m;
     let mut message = vec![0; setting.message_length(blocks)];
@@ -52,7 +52,7 @@ fn searched(setting: &Setting, reception: &[u8]) -> Vec<Vec<u8>> {
         contributions: contributions(setting),
         reception: reception.chunks(setting.n).collect(),
         chosen: Vec::new(),
-        distances: Vec::new(),
+        damage: Vec::new(),
         found: Vec::new(),
     };
     search.extend();
@@ -60,7 +60,7 @@ fn searched(setting: &Setting, reception: &[u8]) -> Vec<Vec<u8>> {
 }
 
 impl Search<'_> {
-    /// Tries every next information block, as long as the blocks of a window are within t.
+    /// Tries every next information block, as long as the blocks of a window are within d.
     fn extend(&mut self) {
         let s = self.chosen.len();
         if s == self.reception.len() {
@@ -72,26 +72,26 @@ impl Search<'_> {
         let earlier = earlier_part(self.setting, self.contributions, &self.chosen);
         for candidate in 0..candidates {
             self.chosen.push(candidate);
-            self.distances.push(self.distance(&earlier, candidate));
-            if self.last_window() <= self.setting.t {
+            self.damage.push(self.block_damage(&earlier, candidate));
+            if self.last_window() <= self.setting.d {
                 self.extend();
             }
-            self.distances.pop();
+            self.damage.pop();
             self.chosen.pop();
         }
     }
 
-    /// The differences of the next received block from the one sent with this candidate.
-    fn distance(&self, earlier: &[u8], candidate: usize) -> usize {
-        let received = self.reception[self.distances.len()];
+    /// The damage of the next received block where this candidate was sent.
+    fn block_damage(&self, earlier: &[u8], candidate: usize) -> usize {
+        let received = self.reception[self.damage.len()];
         let own = &self.contributions.blocks[0][candidate];
         let sent = earlier.iter().zip(own).map(|(&a, &b)| self.setting.add(a, b));
-        sent.zip(received).filter(|(sent, received)| sent != *received).count()
+        sent.zip(received).map(|(sent, &received)| damage(sent, received)).sum()
     }
 
-    /// The differences over the last m+1 blocks, or over all while there are fewer.
+    /// The damage over the last m+1 blocks, or over all while there are fewer.
     fn last_window(&self) -> usize {
-        self.distances.iter().rev().take(self.setting.m + 1).sum()
+        self.damage.iter().rev().take(self.setting.m + 1).sum()
     }
 
     fn message(&self) -> Vec<u8> {

@@ -1,6 +1,7 @@
 //! What is sent for a message, and whether a message fits what was received.
 
 use super::definition::{Setting, SETTINGS};
+use crate::calls::UNKNOWN;
 use std::sync::OnceLock;
 
 /// By j, r and factor: the factor times row r of G_j.
@@ -21,12 +22,25 @@ pub fn transmission(setting: &Setting, message: &[u8]) -> Vec<u8> {
     transmission
 }
 
-/// Whether a message's transmission differs from a reception in at most t symbols of every window.
+/// Whether in every window of a reception twice the known symbols that differ from a message's
+/// transmission plus the unknown ones is at most d.
 pub fn fits(setting: &Setting, message: &[u8], reception: &[u8]) -> bool {
-    let sent = transmission(setting, message);
-    let pairs: Vec<_> = sent.iter().zip(reception).collect();
-    let mut windows = pairs.windows(setting.window_length()).step_by(setting.n);
-    windows.all(|window| window.iter().filter(|(a, b)| a != b).count() <= setting.t)
+    let damage: Vec<usize> = transmission(setting, message)
+        .iter()
+        .zip(reception)
+        .map(|(&sent, &received)| damage(sent, received))
+        .collect();
+    let mut windows = damage.windows(setting.window_length()).step_by(setting.n);
+    windows.all(|window| window.iter().sum::<usize>() <= setting.d)
+}
+
+/// What a received symbol adds to that sum.
+pub fn damage(sent: u8, received: u8) -> usize {
+    match received {
+        UNKNOWN => 1,
+        _ if received != sent => 2,
+        _ => 0,
+    }
 }
 
 /// Adds information block × G_j to a block.

@@ -2,10 +2,11 @@
 //! and 02.
 
 use crate::call::{Call, Way};
-use orderlink_bench::calls::MOST_FRAMES;
+use crate::orders::mixes;
+use orderlink_bench::calls::{MOST_FRAMES, UNKNOWN};
 use orderlink_bench::oracle::{transmission, Setting, SETTINGS};
 use orderlink_bench::sample::{
-    alter, damage_closing, damage_evenly, damage_run, damage_up_to, woven, Random,
+    alter, damage_closing, damage_evenly, damage_mixed, damage_run, damage_up_to, woven, Random,
 };
 
 /// Numbers that are no setting, some of which are one in their lowest 8, 16 or 32 bits.
@@ -91,7 +92,7 @@ pub fn marks(random: &mut Random, longest: usize) -> Call {
     }
     for _ in 0..random.below(20) {
         let place = random.below(transmission.len());
-        transmission[place] = random.number() as u8;
+        transmission[place] = if random.once_in(4) { UNKNOWN } else { random.number() as u8 };
     }
     let mut j = random.below(blocks) as u64;
     for rule in broken(random, 5) {
@@ -113,6 +114,7 @@ pub fn weave(random: &mut Random, longest: usize) -> Call {
     let mut frames = count as u64;
     let length = count * setting.transmission_length(blocks);
     let mut incoming = random.symbols(setting, length);
+    drop_some(random, setting, &mut incoming);
     let mut out = area(random, length);
     for rule in broken(random, 6) {
         match rule {
@@ -170,10 +172,11 @@ fn message(random: &mut Random, setting: &Setting, blocks: usize) -> Vec<u8> {
     message
 }
 
-/// A well-formed reception: a transmission clean or damaged below, at or above the limit, or noise.
+/// A well-formed reception: a transmission clean or damaged below, at or above the limit, or noise;
+/// often some more symbols are dropped.
 fn reception(random: &mut Random, setting: &Setting, blocks: usize) -> Vec<u8> {
     let mut reception = transmission(setting, &message(random, setting, blocks));
-    match random.below(10) {
+    match random.below(12) {
         0 => {}
         1 => reception = random.symbols(setting, reception.len()),
         2 => mix(random, setting, blocks, &mut reception),
@@ -181,22 +184,59 @@ fn reception(random: &mut Random, setting: &Setting, blocks: usize) -> Vec<u8> {
         4 => scatter(random, setting, &mut reception),
         5 => damage_up_to(random, setting, &mut reception, setting.t - 1),
         6 => damage_up_to(random, setting, &mut reception, setting.t),
-        7 => damage_evenly(random, setting, &mut reception, setting.t),
-        8 => {
-            let count = setting.t + random.below(2);
-            damage_closing(random, setting, &mut reception, count);
+        7 => {
+            let (altered, unknown) = some_mix(random, setting.d);
+            damage_evenly(random, setting, &mut reception, altered, unknown);
         }
-        _ => {
+        8 => {
+            let damage = setting.d + random.below(2);
+            let (altered, unknown) = some_mix(random, damage);
+            let room = setting.m * setting.n - altered;
+            damage_closing(random, setting, &mut reception, altered, unknown.min(room));
+        }
+        9 => {
             damage_up_to(random, setting, &mut reception, setting.t);
             let place = random.below(reception.len());
             alter(random, setting, &mut reception[place]);
         }
+        _ => {
+            let limit = setting.d - 1 + random.below(3);
+            let times = random.between(1, 8);
+            damage_mixed(random, setting, &mut reception, limit, times);
+        }
+    }
+    if random.once_in(3) {
+        drop_some(random, setting, &mut reception);
     }
     reception
 }
 
-/// Woven frames: each received on its own, or sent clean and then struck by one run of about as many
-/// altered symbols as can be.
+/// Some number of altered symbols, with as many unknown ones as bring twice the altered ones plus
+/// the unknown ones to `damage`; or of altered ones alone one in three times, as many as there may
+/// be.
+fn some_mix(random: &mut Random, damage: usize) -> (usize, usize) {
+    if random.once_in(3) {
+        return (damage / 2, 0);
+    }
+    *random.pick(&Vec::from_iter(mixes(damage)))
+}
+
+/// Drops a few symbols anywhere, or a block.
+fn drop_some(random: &mut Random, setting: &Setting, symbols: &mut [u8]) {
+    if random.once_in(4) {
+        let start = random.below(symbols.len() / setting.n) * setting.n;
+        symbols[start..][..setting.n].fill(UNKNOWN);
+        return;
+    }
+    let most = *random.pick(&[2, 5, symbols.len() / 4]);
+    for _ in 0..random.below(most + 1) {
+        let place = random.below(symbols.len());
+        symbols[place] = UNKNOWN;
+    }
+}
+
+/// Woven frames: each received on its own, or sent clean and then struck by one run of about as
+/// many altered or dropped symbols as can be.
 fn woven_reception(random: &mut Random, setting: &Setting, blocks: usize, count: usize) -> Vec<u8> {
     if random.once_in(2) {
         let frame = |_| reception(random, setting, blocks);
@@ -204,9 +244,14 @@ fn woven_reception(random: &mut Random, setting: &Setting, blocks: usize, count:
     }
     let frame = |_| transmission(setting, &message(random, setting, blocks));
     let mut symbols = woven(&(0..count).map(frame).collect::<Vec<_>>());
-    let run = count * setting.t + random.below(count + 1);
+    let dropped = random.once_in(2);
+    let run = count * if dropped { setting.d } else { setting.t } + random.below(count + 1);
     let start = random.below(symbols.len() - run + 1);
-    damage_run(random, setting, &mut symbols, start..start + run);
+    if dropped {
+        symbols[start..start + run].fill(UNKNOWN);
+    } else {
+        damage_run(random, setting, &mut symbols, start..start + run);
+    }
     symbols
 }
 
@@ -246,7 +291,8 @@ fn shorten(random: &mut Random, area: &mut Vec<u8>, length: usize) {
     area.truncate(if random.once_in(2) { length - 1 } else { random.below(length) });
 }
 
-/// Takes bytes away, or adds a few zeros, or leaves as many as a short order has; so many at a time.
+/// Takes bytes away, or adds a few zeros, or leaves as many as a short order has; so many at a
+/// time.
 fn change_length(random: &mut Random, bytes: &mut Vec<u8>, step: usize) {
     let steps = bytes.len() / step;
     let steps = match random.below(3) {
@@ -257,13 +303,14 @@ fn change_length(random: &mut Random, bytes: &mut Vec<u8>, step: usize) {
     bytes.resize(step * steps, 0);
 }
 
-/// Puts one to three bytes not below q somewhere.
+/// Puts one to three bytes not below q somewhere; the greatest stands for an unknown symbol.
 fn spoil(random: &mut Random, setting: &Setting, bytes: &mut [u8]) {
     for _ in 0..random.between(1, 3) {
         if bytes.is_empty() {
             return;
         }
         let place = random.below(bytes.len());
-        bytes[place] = random.between(setting.q as usize, 255) as u8;
+        let any = random.between(setting.q as usize, 255) as u8;
+        bytes[place] = *random.pick(&[any, setting.q, 254, UNKNOWN]);
     }
 }

@@ -1,19 +1,39 @@
-//! Calls whose outcome needs no search: the orders worked through in document 01, orders damaged
-//! up to the limit and beyond it, the longest orders and those too long, every symbol and byte that
-//! is none, every mark, and numbers that are no setting.
+//! Calls whose outcome needs no search: the orders worked through in documents 01 and 02, orders
+//! damaged up to the limit and just beyond it by every mix of altered and unknown symbols, the
+//! longest orders and those too long, every symbol and byte that is none, every mark, and numbers
+//! that are no setting.
 
 use crate::call::{Call, Outcome};
-use orderlink_bench::calls::{Answer, Marks};
+use orderlink_bench::calls::{Answer, Marks, UNKNOWN};
 use orderlink_bench::oracle::{transmission, Setting, SETTINGS};
-use orderlink_bench::sample::{alter, damage_closing, damage_evenly, damage_up_to, Random};
+use orderlink_bench::sample::{
+    alter, damage_closing, damage_evenly, damage_mixed, damage_up_to, Random,
+};
 
 pub type Known = (Call, Outcome);
 
 /// What the areas that a call may write hold before it.
 pub const UNUSED: u8 = 0xee;
 
+/// The ten starred orders, and those of 02's request 106, among them every choice of nine unknown
+/// symbols.
+pub fn worked() -> Vec<Known> {
+    let mut known = starred();
+    known.push(decoded("2431 ---- ----", "1", 0));
+    for mask in 0..1 << 12 {
+        let text = |symbols: &str| {
+            let dropped = |(i, symbol)| if mask >> i & 1 == 1 { '-' } else { symbol };
+            String::from_iter(symbols.chars().enumerate().map(dropped))
+        };
+        if u32::count_ones(mask) == 9 {
+            known.extend(["000000000000", "243123232134"].map(|symbols| refused(&text(symbols))));
+        }
+    }
+    known
+}
+
 /// The ten starred orders.
-pub fn starred() -> Vec<Known> {
+fn starred() -> Vec<Known> {
     vec![
         encoded(1, "1", "2431 2323 2134"),
         encoded(1, "12214334", "2431 1130 0032 0230 4100 1004 0023 0320 4024 3421"),
@@ -28,97 +48,128 @@ pub fn starred() -> Vec<Known> {
     ]
 }
 
-/// A random order with just t altered symbols in every window comes back, and so does one with as
-/// many anywhere as leave at most t in a window.
+/// Every number of altered symbols that a window may have, each with as many unknown ones as bring
+/// twice the altered ones plus the unknown ones to `damage`.
+pub fn mixes(damage: usize) -> impl Iterator<Item = (usize, usize)> {
+    (0..=damage / 2).map(move |altered| (altered, damage - 2 * altered))
+}
+
+/// Random orders that come back: with every mix of altered and unknown symbols that is just d, in
+/// every window or in closing blocks alone, and with as many anywhere as leave at most that in a
+/// window; with at most t altered ones and none unknown.
 pub fn at_the_limit(random: &mut Random, setting: &Setting) -> Vec<Known> {
-    let mut order = |damage: fn(&mut Random, &Setting, &mut [u8], usize)| {
+    let mut known = Vec::new();
+    let mut order = |damage: &dyn Fn(&mut Random, &mut [u8])| {
         let (message, sent) = random_order(random, setting);
         let mut reception = sent.clone();
-        damage(random, setting, &mut reception, setting.t);
-        let altered = altered(setting, &sent, &reception);
-        decoding(setting.number, reception, yes(altered), message, sent)
+        damage(random, &mut reception);
+        let answer = counted(setting, &sent, &reception);
+        known.push(decoding(setting.number, reception, answer, message, sent));
     };
-    vec![order(damage_evenly), order(damage_up_to), order(damage_closing)]
-}
-
-/// Random orders with one altered symbol more than can be within t, the second with all of them in
-/// closing blocks. Where d = 2t + 1, no message fits: of the window where two messages first differ,
-/// d + 1 symbols are sent differently, so another message is t + 1 or more from such a reception, as
-/// the sent one is.
-pub fn beyond_the_limit(random: &mut Random, setting: &Setting) -> Vec<Known> {
-    if setting.d != 2 * setting.t + 1 {
-        return Vec::new();
+    order(&|random, symbols| damage_up_to(random, setting, symbols, setting.t));
+    for (altered, unknown) in mixes(setting.d).chain([(setting.t, 0)]) {
+        order(&|random, symbols| damage_evenly(random, setting, symbols, altered, unknown));
+        order(&|random, symbols| damage_mixed(random, setting, symbols, setting.d, altered + 1));
+        order(&|random, symbols| damage_closing(random, setting, symbols, altered, unknown));
     }
-    let mut order = |damage: fn(&mut Random, &Setting, &mut [u8])| {
-        let (message, mut reception) = random_order(random, setting);
-        damage(random, setting, &mut reception);
-        let zeros = (vec![0; message.len()], vec![0; reception.len()]);
-        decoding(setting.number, reception, Answer::no(7), zeros.0, zeros.1)
-    };
-    let anywhere = order(|random, setting, symbols| {
-        let sent = symbols.to_vec();
-        damage_up_to(random, setting, symbols, setting.t);
-        let mut places = random.order(sent.len()).into_iter();
-        let place = places.find(|&place| symbols[place] == sent[place]).expect("one left as sent");
-        alter(random, setting, &mut symbols[place]);
-    });
-    let closing = order(|random, setting, symbols| {
-        damage_closing(random, setting, symbols, setting.t + 1);
-    });
-    vec![anywhere, closing]
+    known
 }
 
-/// Every byte in the place of a symbol: those below q are symbols, the others get 4 and the place.
+/// Random orders with every mix that is d + 1 in a window, and never more. No message fits: of the
+/// window where two messages first differ, d + 1 symbols or more are sent differently, each of
+/// which is unknown or altered for one of the two; so for both together twice the altered ones plus
+/// the unknown ones are at least 2 (d + 1), and another message has as many of them there as the
+/// sent one, or more.
+pub fn beyond_the_limit(random: &mut Random, setting: &Setting) -> Vec<Known> {
+    let mut known = Vec::new();
+    let mut order = |damage: &dyn Fn(&mut Random, &mut [u8])| {
+        let (message, mut reception) = random_order(random, setting);
+        damage(random, &mut reception);
+        let zeros = (vec![0; message.len()], vec![0; reception.len()]);
+        known.push(decoding(setting.number, reception, Answer::no(7), zeros.0, zeros.1));
+    };
+    let limit = setting.d + 1;
+    for (altered, unknown) in mixes(limit) {
+        order(&|random, symbols| damage_evenly(random, setting, symbols, altered, unknown));
+        order(&|random, symbols| damage_mixed(random, setting, symbols, limit, altered + 1));
+        if altered + unknown <= setting.m * setting.n {
+            order(&|random, symbols| damage_closing(random, setting, symbols, altered, unknown));
+        }
+    }
+    known
+}
+
+/// Every byte in the place of a symbol: those below q are symbols, the last is an unknown one but
+/// in encoding, the others get 4 and the place.
 pub fn bytes(random: &mut Random, setting: &Setting) -> Vec<Known> {
     let calls = |byte| {
-        let mut message = random.symbols(setting, setting.message_length(3));
+        let message = random.symbols(setting, setting.message_length(3));
+        let sent = transmission(setting, &message);
+        let unused = (vec![UNUSED; message.len()], vec![UNUSED; sent.len()]);
+        let with = |symbols: &[u8], place: usize| {
+            let mut symbols = symbols.to_vec();
+            symbols[place] = byte;
+            symbols
+        };
         let place = random.below(message.len());
-        message[place] = byte;
-        if byte < setting.q {
-            let sent = transmission(setting, &message);
-            let mut reception = sent.clone();
-            let place = random.below(sent.len());
-            reception[place] = byte;
-            let altered = altered(setting, &sent, &reception);
-            return [
-                encoding(setting.number, message.clone(), yes(0), sent.clone()),
-                decoding(setting.number, reception, yes(altered), message, sent),
-            ];
-        }
-        let mut reception = random.symbols(setting, setting.transmission_length(3));
-        let unused = (vec![UNUSED; message.len()], vec![UNUSED; reception.len()]);
-        let refused = encoding(setting.number, message, Answer::no_at(4, place), unused.1.clone());
-        let place = random.below(reception.len());
-        reception[place] = byte;
-        [refused, decoding(setting.number, reception, Answer::no_at(4, place), unused.0, unused.1)]
+        let encoded = with(&message, place);
+        let encoding = if byte < setting.q {
+            let sent = transmission(setting, &encoded);
+            encoding(setting.number, encoded, Answer::YES, sent)
+        } else {
+            encoding(setting.number, encoded, Answer::no_at(4, place), unused.1.clone())
+        };
+        let place = random.below(sent.len());
+        let reception = with(&sent, place);
+        let decoding = if byte < setting.q || byte == UNKNOWN {
+            let answer = counted(setting, &sent, &reception);
+            decoding(setting.number, reception, answer, message, sent)
+        } else {
+            decoding(setting.number, reception, Answer::no_at(4, place), unused.0, unused.1)
+        };
+        [encoding, decoding]
     };
     (0..=255).flat_map(calls).collect()
 }
 
-/// Every difference alone, and all symbols differing, marked in every window.
+/// Every difference alone, all symbols differing, and every unknown symbol alone, whatever was
+/// sent, marked in every window.
 pub fn marked(random: &mut Random, setting: &Setting) -> Vec<Known> {
     let blocks = setting.m + 3;
-    let reception = random.bytes(setting.transmission_length(blocks));
+    // No byte is the mark of an unknown symbol, and none becomes it below.
+    let bytes = random.bytes(setting.transmission_length(blocks));
+    let bytes = Vec::from_iter(bytes.iter().map(|byte| byte % 254));
     let mut known = Vec::new();
     for j in 0..blocks {
         let window = j * setting.n..j * setting.n + setting.window_length();
-        let mut mark = |differs: &dyn Fn(usize) -> bool, marks: u64| {
-            let other = |(place, &symbol): (usize, &u8)| symbol ^ u8::from(differs(place));
-            let sent = reception.iter().enumerate().map(other).collect();
-            let marks = Marks { answer: yes(0), marks, set: marks.count_ones() };
-            known.push(marking(setting.number, reception.clone(), sent, j as u64, marks));
+        let mut mark = |received: &[u8], sent: &[u8], marks: u64| {
+            let marks = Marks { answer: Answer::YES, marks, set: marks.count_ones() };
+            let (received, sent) = (received.to_vec(), sent.to_vec());
+            known.push(marking(setting.number, received, sent, j as u64, marks));
         };
-        for place in 0..reception.len() {
-            let marks = if window.contains(&place) { 1 << (place - window.start) } else { 0 };
-            mark(&|other| other == place, marks);
+        for place in 0..bytes.len() {
+            let set = if window.contains(&place) { 1 << (place - window.start) } else { 0 };
+            let with = |byte| {
+                let mut bytes = bytes.clone();
+                bytes[place] = byte;
+                bytes
+            };
+            let (other, unknown) = (with(bytes[place] ^ 1), with(UNKNOWN));
+            mark(&bytes, &other, set);
+            mark(&bytes, &unknown, set);
+            mark(&unknown, &bytes, set);
+            mark(&unknown, &unknown, set);
         }
-        mark(&|_| true, (1 << setting.window_length()) - 1);
+        let all = (1 << setting.window_length()) - 1;
+        mark(&bytes, &Vec::from_iter(bytes.iter().map(|byte| byte ^ 1)), all);
+        let unknown = vec![UNKNOWN; bytes.len()];
+        mark(&unknown, &unknown, all);
     }
     known
 }
 
 /// Orders of 512 blocks: encoded; decoded with the last symbol that counts and the last of all
-/// altered; and these marked.
+/// altered, the first and the one before the last unknown; and these marked in the last window.
 pub fn longest() -> Vec<Known> {
     let random = &mut Random::new(512);
     let calls = |setting: &Setting| {
@@ -127,12 +178,15 @@ pub fn longest() -> Vec<Known> {
         let mut reception = sent.clone();
         alter(random, setting, &mut reception[512 * setting.n - 1]);
         alter(random, setting, &mut reception[sent.len() - 1]);
-        let marks = 1 << (setting.n - 1) | 1 << (setting.window_length() - 1);
-        let marks = Marks { answer: yes(0), marks, set: 2 };
+        reception[0] = UNKNOWN;
+        reception[sent.len() - 2] = UNKNOWN;
+        let marks = 1 << (setting.n - 1) | 0b11 << (setting.window_length() - 2);
+        let marks = Marks { answer: Answer::YES, marks, set: 3 };
+        let answer = Answer { altered: 1, unknown: 2, ..Answer::YES };
         [
-            encoding(setting.number, message.clone(), yes(0), sent.clone()),
+            encoding(setting.number, message.clone(), Answer::YES, sent.clone()),
             marking(setting.number, reception.clone(), sent.clone(), 511, marks),
-            decoding(setting.number, reception, yes(1), message, sent),
+            decoding(setting.number, reception, answer, message, sent),
         ]
     };
     SETTINGS.iter().flat_map(calls).collect()
@@ -176,22 +230,29 @@ fn random_order(random: &mut Random, setting: &Setting) -> (Vec<u8>, Vec<u8>) {
     (message, sent)
 }
 
-/// The altered count: closing blocks do not count.
-pub fn altered(setting: &Setting, sent: &[u8], reception: &[u8]) -> usize {
+/// The answer where what was sent comes back: of the altered symbols those in closing blocks do not
+/// count.
+pub fn counted(setting: &Setting, sent: &[u8], reception: &[u8]) -> Answer {
+    let is_unknown = |&place: &usize| reception[place] == UNKNOWN;
     let closing = sent.len() - setting.m * setting.n;
-    (0..closing).filter(|&place| sent[place] != reception[place]).count()
+    let known = (0..closing).filter(|place| !is_unknown(place));
+    let altered = known.filter(|&place| sent[place] != reception[place]).count();
+    let unknown = (0..sent.len()).filter(is_unknown).count();
+    Answer { altered: altered as u32, unknown: unknown as u32, ..Answer::YES }
 }
 
 /// A message with its transmission.
 fn encoded(setting: u64, message: &str, sent: &str) -> Known {
-    encoding(setting, symbols(message), yes(0), symbols(sent))
+    encoding(setting, symbols(message), Answer::YES, symbols(sent))
 }
 
 /// A reception in setting 1 with the message that fits and the altered count.
-fn decoded(reception: &str, message: &str, altered: usize) -> Known {
-    let message = symbols(message);
+fn decoded(reception: &str, message: &str, altered: u32) -> Known {
+    let (reception, message) = (symbols(reception), symbols(message));
     let sent = transmission(&SETTINGS[0], &message);
-    decoding(1, symbols(reception), yes(altered), message, sent)
+    let answer = counted(&SETTINGS[0], &sent, &reception);
+    assert_eq!(answer.altered, altered);
+    decoding(1, reception, answer, message, sent)
 }
 
 /// A reception in setting 1 that no message fits.
@@ -223,11 +284,8 @@ fn marking(setting: u64, reception: Vec<u8>, sent: Vec<u8>, j: u64, marks: Marks
     (call, Outcome::Marked(marks))
 }
 
-pub fn yes(altered: usize) -> Answer {
-    Answer { altered: altered as u32, ..Answer::YES }
-}
-
-/// The digits of a text as symbols.
+/// The digits of a text as symbols, `-` as an unknown one.
 fn symbols(text: &str) -> Vec<u8> {
-    text.chars().filter_map(|c| c.to_digit(10)).map(|digit| digit as u8).collect()
+    let symbols = text.bytes().filter(|&byte| byte != b' ');
+    symbols.map(|byte| if byte == b'-' { UNKNOWN } else { byte - b'0' }).collect()
 }

@@ -100,5 +100,6 @@ fn answer_of(answer: &Value) -> Answer {
         number: answer.number("number") as u32,
         altered: answer.number("count") as u32,
         place: answer.number("place"),
+        unknown: answer.number("unknown") as u32,
     }
 }

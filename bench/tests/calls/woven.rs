@@ -1,13 +1,38 @@
 //! Calls on woven frames whose outcome is known: frames woven, unwoven and decoded after a run of
-//! altered symbols, as long as it can be and one longer; the longest frames; every refusal.
+//! altered or of unknown symbols, as long as it can be and one longer; the longest frames; every
+//! refusal.
 
 use crate::call::{Call, Outcome, Way};
-use crate::orders::{altered, yes, Known, UNUSED};
-use orderlink_bench::calls::{Answer, Woven, MOST_FRAMES};
+use crate::orders::{counted, Known, UNUSED};
+use orderlink_bench::calls::{Answer, Woven, MOST_FRAMES, UNKNOWN};
 use orderlink_bench::oracle::{self, transmission, Setting, SETTINGS};
 use orderlink_bench::sample::{damage_run, woven, Random};
 use std::collections::BTreeSet;
 use std::ops::Range;
+
+/// What a run does to its symbols.
+#[derive(Clone, Copy)]
+pub enum Damage {
+    Alter,
+    Drop,
+}
+
+impl Damage {
+    /// The most of its symbols that a window may have.
+    fn most(self, setting: &Setting) -> usize {
+        match self {
+            Damage::Alter => setting.t,
+            Damage::Drop => setting.d,
+        }
+    }
+
+    fn strike(self, random: &mut Random, setting: &Setting, symbols: &mut [u8], run: Range<usize>) {
+        match self {
+            Damage::Alter => damage_run(random, setting, symbols, run),
+            Damage::Drop => symbols[run].fill(UNKNOWN),
+        }
+    }
+}
 
 /// Random orders of one length, with what is sent for each.
 struct Frames<'a> {
@@ -40,22 +65,21 @@ impl Frames<'_> {
         ]
     }
 
-    /// The woven frames decoded after a run of altered symbols: a frame with at most t of them comes
-    /// back.
-    fn struck(&self, random: &mut Random, run: Range<usize>) -> Known {
+    /// The woven frames decoded after a run of damage: a frame with no more of it than a window may
+    /// have comes back.
+    fn struck(&self, random: &mut Random, damage: Damage, run: Range<usize>) -> Known {
         let count = self.sent.len();
         let mut reception = woven(&self.sent);
-        damage_run(random, self.setting, &mut reception, run.clone());
+        damage.strike(random, self.setting, &mut reception, run.clone());
         let mut answers = Woven::default();
         let (mut messages, mut transmissions) = (Vec::new(), Vec::new());
         for (f, (message, sent)) in self.messages.iter().zip(&self.sent).enumerate() {
             let received: Vec<u8> = reception[f..].iter().step_by(count).copied().collect();
             let hit = run.clone().filter(|place| place % count == f).count();
-            let (answer, message, transmission) = if hit <= self.setting.t {
-                let altered = altered(self.setting, sent, &received);
-                (yes(altered), message.clone(), sent.clone())
+            let (answer, message, transmission) = if hit <= damage.most(self.setting) {
+                (counted(self.setting, sent, &received), message.clone(), sent.clone())
             } else {
-                not_as_sent(self.setting, &received, message.len(), sent)
+                not_as_sent(self.setting, damage, &received, message.len(), sent)
             };
             answers.frame[f] = answer;
             messages.extend(message);
@@ -64,8 +88,9 @@ impl Frames<'_> {
         decoding(self.setting.number, count as u64, reception, answers, messages, transmissions)
     }
 
-    /// Where runs of a length begin, at every place modulo D: with the first symbol, across the border
-    /// of a block, of a window and of the closing blocks, and so that they end with the last symbol.
+    /// Where runs of a length begin, at every place modulo D: with the first symbol, across the
+    /// border of a block, of a window and of the closing blocks, and so that they end with the last
+    /// symbol.
     fn starts(&self, run: usize) -> BTreeSet<usize> {
         let (setting, count) = (self.setting, self.sent.len());
         let last = count * self.sent[0].len() - run;
@@ -76,45 +101,58 @@ impl Frames<'_> {
     }
 }
 
-/// What comes of a frame with t + 1 neighbouring symbols altered. One window holds them all, so what
-/// was sent does not fit. Where d = 2t + 1 no message does (orders.rs); else the search says.
+/// What comes of a frame with one neighbouring symbol more than a window may have altered, or
+/// dropped. One window holds them all, so what was sent does not fit. Where twice the altered ones
+/// plus the dropped ones are d + 1 no message does (orders.rs); else the search says.
 fn not_as_sent(
     setting: &Setting,
+    damage: Damage,
     received: &[u8],
     message_length: usize,
     sent: &[u8],
 ) -> (Answer, Vec<u8>, Vec<u8>) {
-    assert!(setting.n + setting.t <= setting.window_length());
+    assert!(setting.n + damage.most(setting) <= setting.window_length());
+    let none_fits = matches!(damage, Damage::Drop) || 2 * (setting.t + 1) == setting.d + 1;
     let (mut message, mut transmission) = (vec![UNUSED; message_length], vec![UNUSED; sent.len()]);
     let decode = oracle::CALLS.decode;
     let answer = decode(setting.number, received, &mut message, &mut transmission);
-    assert!(answer == Answer::no(7) || setting.d != 2 * setting.t + 1 && transmission != sent);
+    assert!(answer == Answer::no(7) || !none_fits && transmission != sent);
     (answer, message, transmission)
 }
 
-/// A run of D × t altered symbols leaves every order whole; with `more` symbols in it, one order fails
-/// for each.
-pub fn struck(random: &mut Random, setting: &Setting, count: usize, more: usize) -> Vec<Known> {
-    let run = count * setting.t + more;
+/// A run of D × t altered or D × d unknown symbols leaves every order whole; with `more` symbols in
+/// it, one order fails for each.
+pub fn struck(
+    random: &mut Random,
+    setting: &Setting,
+    damage: Damage,
+    count: usize,
+    more: usize,
+) -> Vec<Known> {
+    let run = count * damage.most(setting) + more;
     let mut known = Vec::new();
     for blocks in [1, random.between(2, setting.m + 4)] {
         let frames = Frames::new(random, setting, count, blocks);
         known.extend(frames.woven_and_back());
         for start in frames.starts(run) {
-            known.push(frames.struck(random, start..start + run));
+            known.push(frames.struck(random, damage, start..start + run));
         }
     }
     known
 }
 
-/// As many frames as can be, each of 512 blocks, with the end of the woven area altered.
+/// As many frames as can be, each of 512 blocks, with the end of the woven area altered, or
+/// dropped.
 pub fn longest() -> Vec<Known> {
     let random = &mut Random::new(104);
     let calls = |setting: &Setting| {
         let frames = Frames::new(random, setting, MOST_FRAMES, 512);
         let length = MOST_FRAMES * setting.transmission_length(512);
-        let run = length - MOST_FRAMES * setting.t..length;
-        frames.woven_and_back().into_iter().chain([frames.struck(random, run)])
+        let struck = [Damage::Alter, Damage::Drop].map(|damage| {
+            let run = length - MOST_FRAMES * damage.most(setting)..length;
+            frames.struck(random, damage, run)
+        });
+        frames.woven_and_back().into_iter().chain(struck)
     };
     SETTINGS.iter().flat_map(calls).collect()
 }
@@ -128,10 +166,12 @@ pub fn refused(
 ) -> Vec<Known> {
     let (number, frames) = (setting.number, count as u64);
     let (message, sent) = (setting.message_length(2), setting.transmission_length(2));
-    // The last symbol of the woven area is wrong, and the one before it.
+    // The last symbol of the woven area is wrong, and the one before it; before these one is
+    // unknown.
     let wrong = |length: usize| {
         let mut symbols = vec![0; length];
-        symbols.iter_mut().rev().take(2).for_each(|symbol| *symbol = setting.q);
+        let last = symbols.iter_mut().rev().zip([254, setting.q, UNKNOWN]);
+        last.for_each(|(symbol, byte)| *symbol = byte);
         symbols
     };
     let mut known = Vec::new();

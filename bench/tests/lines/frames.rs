@@ -1,7 +1,8 @@
 //! Random lines for the desk: frames with damage about the limit, some with one thing wrong.
 
+use orderlink_bench::calls::UNKNOWN;
 use orderlink_bench::oracle::{transmission, SETTINGS};
-use orderlink_bench::sample::{damage_up_to, Random};
+use orderlink_bench::sample::{damage_mixed, damage_up_to, Random};
 
 /// A number of lines as one input; half of the inputs lack the last newline.
 pub fn random_input(random: &mut Random, count: usize) -> Vec<u8> {
@@ -17,13 +18,15 @@ pub fn random_input(random: &mut Random, count: usize) -> Vec<u8> {
 fn random_line(random: &mut Random) -> Vec<u8> {
     let mut text = frame(random);
     let place = random.below(text.len());
-    match random.below(12) {
+    match random.below(14) {
         0 => text.truncate(random.below(6)),
         1 => text.truncate(place),
         2 => text.resize(random.between(7_720, 7_740), b'0'),
         3 => text.push(b'0'),
         4 => text[place] = *random.pick(b"0123456789abcdef"),
         5 => text[place] = random.number() as u8,
+        6 => text[place] = b'-',
+        7 => text[place % 6] = b'-',
         _ => {}
     }
     text.iter().map(|&byte| if byte == b'\n' { b' ' } else { byte }).collect()
@@ -36,9 +39,21 @@ fn frame(random: &mut Random) -> Vec<u8> {
     let blocks = random.between(1, longest);
     let message = random.symbols(setting, setting.message_length(blocks));
     let mut symbols = transmission(setting, &message);
-    let limit = setting.t + usize::from(random.once_in(3));
-    damage_up_to(random, setting, &mut symbols, limit);
+    let more = usize::from(random.once_in(3));
+    if random.once_in(2) {
+        damage_up_to(random, setting, &mut symbols, setting.t + more);
+    } else {
+        let times = random.between(1, 8);
+        damage_mixed(random, setting, &mut symbols, setting.d + more, times);
+    }
     let head = format!("{}{blocks:03x}", setting.number).into_bytes();
-    let digits = symbols.iter().map(|&symbol| b"0123456789abcdef"[symbol as usize]);
-    head.into_iter().chain(digits).collect()
+    head.into_iter().chain(symbols.into_iter().map(character)).collect()
+}
+
+/// What stands for a symbol in a line.
+fn character(symbol: u8) -> u8 {
+    match symbol {
+        UNKNOWN => b'-',
+        _ => b"0123456789abcdef"[symbol as usize],
+    }
 }

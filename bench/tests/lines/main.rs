@@ -104,6 +104,34 @@ fn wrong_characters() {
     assert_line(b"1001243123230000\r", "090010");
 }
 
+/// Unknown symbols stand after the head, and count as digits.
+#[test]
+fn unknown_symbols() {
+    assert_line(b"10012431--------", "00000010011");
+    assert_line(b"1001243-232---3-", "00000010011");
+    assert_line(b"10011431------34", "00000110011");
+    assert_line(b"10011431-------4", "070000");
+    assert_line(b"1001243---------", "070000");
+    assert_line(b"1001------------", "070000");
+    assert_line(b"10012431-------", "0a0000");
+    assert_line(b"10012431---------", "0a0000");
+    assert_line(b"10012431-----5--", "040009");
+    assert_line(b"10012431----g---", "09000c");
+    for (place, answer) in ["090000", "090001", "090002", "090003"].into_iter().enumerate() {
+        let mut line = *b"10012431--------";
+        line[place] = b'-';
+        assert_line(&line, answer);
+        assert_line(&line[..place + 1], answer);
+    }
+    assert_line(b"1001-", "0a0000");
+    assert_line(b"1000-", "0a0000");
+    assert_line(b"f000-", "010000");
+    assert_line(b"0001-", "010000");
+    assert_line(b"1201-", "030000");
+    assert_line(&[b'-'; 7_729], "090000");
+    assert_line(&[b'-'; 7_730], "0b0000");
+}
+
 #[test]
 fn no_blocks() {
     assert_line(b"1000", "0a0000");
