@@ -54,7 +54,7 @@
  *    2  Is the reception's length a multiple of n and at least (m + 1) * n?
  *    3  Is T at most 512?
  *    4  Is every symbol below q or, but in encoding, unknown?
- *       Place: the first byte that is neither, counted from 0.
+ *       Place: the first byte that is not, counted from 0.
  *    5  Does the message area have T * k bytes or more?
  *    6  Does the transmission area have (T + m) * n bytes or more?
  *    7  Does some message fit? There is never more than one.

@@ -11,7 +11,7 @@ mod locator;
 mod marks;
 mod received;
 mod spectrum;
-mod unknown;
+pub mod unknown;
 
 ghost use Rattle.std.specs.Prelude.{◌≡◌, ◌*◌, ◌≤◌, length};
 ghost use Rattle.area.specs.parts.Weights.{weight_of};
@@ -52,7 +52,7 @@ pub fn repair(tables: &Tables, block: &[u8], l: usize, marks: &mut [u8]) -> Opti
         unknown,
         l,
     };
-    received.repair(distance, marks)
+    received.repair_within(distance, marks)
 }
 
 // What the known symbols of a repaired block cost, by its marks: two for each. Each unknown one costs one besides.

@@ -94,8 +94,8 @@ impl Received<'_> {
         super::information::read(self.tables, blocks, &values)
     }
 
-    // What `repair` promises, d_l given.
-    pub fn repair(&self, distance: usize, marks: &mut [u8]) -> Option<Information>
+    // What `block::repair` promises, d_l given.
+    pub fn repair_within(&self, distance: usize, marks: &mut [u8]) -> Option<Information>
         requires { (distance ≡ level_distance self.now.tables.now.setting.n self.now.tables.now.setting.k self.now.l) × (length marks.old ≡ self.now.tables.now.setting.n) }
         ensures { Step self.now.tables.now.setting self.now.l self.now.block.now marks.new result }
     {

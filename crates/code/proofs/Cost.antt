@@ -2,7 +2,7 @@
 -- Holds: `unknown_byte`, `known_byte`, `less_unknown`, `less_known`; `cost_unknown`, `cost_known`, `cost_same`, `cost_differ`, `cost_most`; `cost_apart`,
 -- `cost_shift`, the two laws; `sub_below`; `cost_parts`, `cost_count`, `cost_zeros`, `known_nonzero` (costs and counts of symbols); `none_unknown`, `all_known`;
 -- `byte_cost`, `bytes_apart`, the cost of a byte for an element of the field; `message_cost_lem`; `fits_cost` (at most d is less than d_0 + .. + d_m),
--- `fits_near`; `at_most_limit` (01's words for it).
+-- `fits_near`; `within_limit`, `known_counts`, `at_most_limit` (01's words for it).
 use mathlib.Core.Path.{◌≡◌, sym, ap, ap₂, ◌∙◌}
 use mathlib.Core.Bool.{Bool, true, false, not, ◌&&◌}
 use mathlib.Core.List.{List}
@@ -16,19 +16,20 @@ use borrow.Author.Tests.{le-leb, lt-leb, eq-eqb, ne_eqb}
 use Rattle.algebra.specs.Ops.{sub, pick}
 use Rattle.algebra.specs.Weight.{total, count_of}
 use Rattle.algebra.proofs.Laws.{add_cancel, add_comm}
-use Rattle.algebra.proofs.Weights.{total_ext, total_most, total_add, total_scale, total_blocks, count_of_ext, count_of_without}
+use Rattle.algebra.proofs.Weights.{total_ext, total_mono, total_most, total_add, total_scale, total_blocks, count_of_ext, count_of_without}
 use Rattle.algebra.proofs.Below.{Element, number, number_injective}
 use Rattle.area.specs.Lists.{view}
 use Rattle.field.specs.Fields.{ops_of}
 use Rattle.field.specs.Symbols.{is_unknown}
 use Rattle.code.specs.declared.Setting.{Setting}
-use Rattle.code.specs.Code.{distances_to}
+use Rattle.code.specs.Code.{distances_to, limit}
+use Rattle.field.proofs.Symbols.{symbol_below}
 use Rattle.code.specs.Transmission.{sent_symbol}
 use Rattle.code.specs.parts.Cost.{symbol_cost, cost_to, message_cost, NearWindow}
 use Rattle.code.specs.parts.Residual.{less}
 use Rattle.code.specs.parts.Sound.{Sound}
-use Rattle.code.specs.Windows.{transmission, window_length, window_symbol, unknown_symbols, known_distance, window_sum, Message, WithinLimit, Fits, AtMostLimit}
-use Rattle.code.proofs.CodeBelow.{laws, field_of, over_field, lifted, number_sub, sent_number, message_below, transmission_view}
+use Rattle.code.specs.Windows.{transmission, window_length, window_symbol, window_distance, unknown_symbols, known_distance, window_sum, Message, WithinLimit, Fits, AtMostLimit, KnownCounts}
+use Rattle.code.proofs.CodeBelow.{laws, field_of, over_field, lifted, number_sub, sent_number, message_below, transmission_view, transmission_symbols, positive}
 
 -- Bytes from q up are unknown, others are not.
 pub unknown_byte : {q v : ℕ} → q ≤ v → is_unknown q v ≡ true
@@ -203,21 +204,44 @@ module _ (p : Setting) (S : Sound p) where
         within : (a c d : ℕ) → 1 ≤ d → a ≡ c → (a ≤ d - 1 → c < d) × (c < d → a ≤ d - 1)
         within a c d h e = (λ u. omega arith, λ u. omega arith)
 
+    -- At most t symbols that differ cost at most d, whatever was received.
+    pub within_limit : window_distance p w (transmission p x) j ≤ limit p.n p.k p.m → WithinLimit p w x j
+    within_limit h =
+        let v = window_symbol p w j in
+        let a = window_symbol p (transmission p x) j in
+        omega (
+          arith,
+          h,
+          cost_count p.q (window_length p) v a,
+          total_mono (window_length p) (λ i. symbol_cost p.q (v i) (a i)) (λ i. 2 * pick (not (eqb (v i) (a i))) 1 0)
+              (λ i l. twice (v i) (a i) (symbol_below p.q (transmission p x) (transmission_symbols p S T x M) (positive p S) (j * p.n + i))),
+          total_scale (window_length p) 2 (λ i. pick (not (eqb (v i) (a i))) 1 0),
+        )
+      where
+        twice : (v a : ℕ) → a < p.q → symbol_cost p.q v a ≤ 2 * pick (not (eqb v a)) 1 0
+        twice v a la = at (dec_lt v p.q) (ℕ_discrete v a)
+          where
+            at : Dec (v < p.q) → Dec (v ≡ a) → symbol_cost p.q v a ≤ 2 * pick (not (eqb v a)) 1 0
+            at (no u) e =
+                let past : p.q ≤ v = omega arith in
+                omega (arith, cost_unknown p.q v a past, ap {B = ℕ} (λ (t : Bool). pick (not t) 1 0) (ne_eqb v a (λ z. omega arith)))
+            at (yes k) (yes e) = omega (arith, cost_same p.q v a k e)
+            at (yes k) (no d) = omega (arith, cost_differ p.q v a k d, ap {B = ℕ} (λ (t : Bool). pick (not t) 1 0) (ne_eqb v a d))
+
   pub fits_near : (T : ℕ) (w x : List ℕ) → Fits p T w x → (j : ℕ) → j < T → NearWindow p w x j
   fits_near T w x F j l = (fits_cost T w x F.message_of j l).0 (F.near j l)
+
+-- Where all are symbols, those that differ are all counted.
+pub known_counts : KnownCounts
+known_counts q n v a known =
+    (count_of_ext n _ _ (λ i l. ap (λ (u : Bool). not u && not (eqb (v i) (a i))) (known_byte (known i l))), none_unknown q n v known)
 
 -- Where no symbol of the window is unknown, at most d is at most t symbols that differ.
 pub at_most_limit : AtMostLimit
 at_most_limit p reception message j known =
-    halved _ _ _ _ (count_of_ext (window_length p) _ _ (λ i l. ap (λ (u : Bool). not u && not (eqb (received i) (sent i))) (known_byte (known i l))))
-    (none_unknown p.q (window_length p) received known)
+    let counts = known_counts p.q (window_length p) (window_symbol p reception j) (window_symbol p (transmission p message) j) known in
+    halved _ _ _ _ counts.0 counts.1
   where
-    received : ℕ → ℕ
-    received = window_symbol p reception j
-
-    sent : ℕ → ℕ
-    sent = window_symbol p (transmission p message) j
-
     halved : (differing distance unknown d : ℕ) → differing ≡ distance → unknown ≡ 0
         → (2 * differing + unknown ≤ d → distance ≤ d / 2) × (distance ≤ d / 2 → 2 * differing + unknown ≤ d)
     halved differing distance unknown d e f = (λ u. omega arith, λ u. omega arith)

@@ -1,5 +1,5 @@
 -- Demand 3 on lists of bytes, as specs/Demand3 states it.
--- Holds: `first_differing_block`, `independent_of_later_blocks`, `at_most_one_fits`, of a sound setting; `demand_3`, of every setting by its number.
+-- Holds: `first_differing_block`, `independent_of_later_blocks`, `at_most_one_fits`, of a sound setting; `demand_3`, of every setting by its number; `limit_enough`.
 use mathlib.Core.Path.{◌≡◌, sym, subst, ◌∙◌}
 use Prim.Native.Nat.{ℕ, ◌+◌, ◌*◌, ◌≤◌, ◌<◌}
 use native.Mathlib.Nat.{mul-le-mul_right}
@@ -11,8 +11,9 @@ use Rattle.code.specs.declared.Setting.{Setting}
 use Rattle.code.specs.Code.{distances_to}
 use Rattle.code.specs.Settings.{setting_of}
 use Rattle.code.specs.parts.Sound.{Sound}
+use Rattle.code.specs.Windows.{LimitEnough}
 use Rattle.code.specs.Demand3.{FirstDifferingBlock, AtMostOneFits, IndependentOfLaterBlocks, Demand3}
-use Rattle.code.proofs.Cost.{fits_cost, fits_near}
+use Rattle.code.proofs.Cost.{fits_cost, fits_near, within_limit}
 use Rattle.code.proofs.Messages.{block_determined, messages_agree, alike_window}
 use Rattle.code.proofs.Settings.{sound_of}
 
@@ -49,3 +50,7 @@ module _ (p : Setting) (S : Sound p) where
 -- All three, by the setting's number.
 pub demand_3 : Demand3
 demand_3 s t = let S = sound_of s t in (first_differing_block (setting_of s) S, at_most_one_fits (setting_of s) S, independent_of_later_blocks (setting_of s) S)
+
+-- 01's limit is enough for 02's, whatever was received.
+pub limit_enough : LimitEnough
+limit_enough s T reception message j t M = within_limit (setting_of s) (sound_of s t) T reception message M j

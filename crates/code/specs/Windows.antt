@@ -1,15 +1,15 @@
 -- Transmissions, windows and fits on lists of bytes, as the demands, 01 and 02 (#102, #106) word them.
 -- Holds: `transmission`, `window_length`, `window_symbol`; `unknown_symbols`, `known_distance`, `window_sum`; `altered`, `unknown_in`; `Message`, `WithinLimit`,
--- `Fits`; `window_distance` and `AtMostLimit`, 01's words for it; what the counts can be at most: `windows_for`, `most_altered`, `most_damage`, `most_unknown`,
--- computed in `most_altered_samples`.
-use Rattle.std.specs.Prelude.{◌≡◌, refl, not, ◌&&◌, List, ℕ, ◌+◌, ◌*◌, ◌/◌, ◌%◌, ◌≤◌, ◌<◌, eqb, length, get_or}
+-- `Fits`; `window_distance`, `LimitEnough`, `AtMostLimit` and `KnownCounts`, 01's words for it; what the counts can be at most: `windows_for`, `most_altered`,
+-- `most_damage`, `most_unknown`, computed in `most_altered_samples` and `most_unknown_samples`.
+use Rattle.std.specs.Prelude.{◌≡◌, refl, not, ◌&&◌, List, ℕ, ◌+◌, ◌*◌, ◌/◌, ◌%◌, ◌≤◌, ◌<◌, T as Passes, eqb, length, get_or}
 use Rattle.algebra.specs.Weight.{count_of, distance}
 use Rattle.area.specs.Lists.{view, tabulate}
 use Rattle.field.specs.Symbols.{Symbols, is_unknown}
 use Rattle.code.specs.declared.Setting.{Setting}
 use Rattle.code.specs.Code.{distances_to, design_distance, limit}
 use Rattle.code.specs.Transmission.{sent_symbol}
-use Rattle.code.specs.Settings.{setting_of, code_of}
+use Rattle.code.specs.Settings.{is_setting, setting_of, code_of}
 
 -- The transmission (the codeword) of a message (the information word): T+m blocks, "the m closing blocks" (the tail that returns the encoder to
 -- zero) among them, one after the other.
@@ -58,7 +58,7 @@ abbrev pub WithinLimit : Setting → List ℕ → List ℕ → ℕ → Type 0
 WithinLimit p reception message j = window_sum p reception (transmission p message) j ≤ design_distance p.n p.k p.m
 
 -- "A message now fits when in each window twice the known differing symbols plus the unknown ones is at most d" (02, #106): a message (the information word)
--- and a reception (the received word) "of its setting and length". Any bytes may stand in a reception.
+-- and a reception (the received word) "of its setting and length". Any bytes may stand in a reception (`is_unknown`, crate `field`, says which are unknown).
 pub record Fits (p : Setting) (T : ℕ) (reception message : List ℕ) : Type 0 where
   pub message_of : Message p T message
   pub long : length reception ≡ (T + p.m) * p.n
@@ -68,11 +68,22 @@ pub record Fits (p : Setting) (T : ℕ) (reception message : List ℕ) : Type 0 
 abbrev pub window_distance : Setting → List ℕ → List ℕ → ℕ → ℕ
 window_distance p a b j = distance (window_length p) (window_symbol p a j) (window_symbol p b j)
 
--- Of a window without unknown symbols 01's words hold: the transmission "differs from the reception in at most t symbols" (`at_most_limit`, proofs/Cost).
+-- 01's words for the limit, the transmission "differs from the reception in at most t symbols". Whatever was received, that is enough (`limit_enough`,
+-- proofs/Demand3) ..
+abbrev pub LimitEnough : Type 0
+LimitEnough = (s T : ℕ) (reception message : List ℕ) (j : ℕ) → Passes (is_setting s) → Message (setting_of s) T message
+    → window_distance (setting_of s) reception (transmission (setting_of s) message) j ≤ limit (setting_of s).n (setting_of s).k (setting_of s).m
+    → WithinLimit (setting_of s) reception message j
+
+-- .. and of a window without unknown symbols it is the same (`at_most_limit`, proofs/Cost).
 abbrev pub AtMostLimit : Type 0
 AtMostLimit = (p : Setting) (reception message : List ℕ) (j : ℕ) → ((i : ℕ) → i < window_length p → window_symbol p reception j i < p.q)
     → (WithinLimit p reception message j → window_distance p reception (transmission p message) j ≤ limit p.n p.k p.m)
     × (window_distance p reception (transmission p message) j ≤ limit p.n p.k p.m → WithinLimit p reception message j)
+
+-- Where no symbol is unknown, all that differ are counted (`known_counts`, proofs/Cost).
+abbrev pub KnownCounts : Type 0
+KnownCounts = (q n : ℕ) (v a : ℕ → ℕ) → ((i : ℕ) → i < n → v i < q) → (known_distance q n v a ≡ distance n v a) × (unknown_symbols q n v ≡ 0)
 
 -- How many windows cover so many blocks: their number divided by m+1, rounded up.
 abbrev pub windows_for : Setting → ℕ → ℕ
@@ -89,7 +100,13 @@ most_damage p T = design_distance p.n p.k p.m * windows_for p T
 abbrev pub most_unknown : Setting → ℕ → ℕ
 most_unknown p T = design_distance p.n p.k p.m * windows_for p (T + p.m)
 
--- Examples, computed: one block of setting 1; the eight of the worked order with count 12, which has as many as can be; 512 of setting 4.
+-- Examples, computed. The altered count: one block of setting 1; the eight of the worked order with count 12, which has as many as can be; 512 of setting 4.
 pub most_altered_samples : (most_altered (setting_of 1) 1 ≡ 4) × (most_altered (setting_of 1) 8 ≡ 12) × (most_altered (setting_of 4) 512 ≡ 2048)
 unfolding distances_to
 most_altered_samples = (refl, refl, refl)
+
+-- Of eight blocks of setting 1 the altered symbols twice and the unknown ones; of one block, with its closing blocks, the unknown ones, as many as 02's order has;
+-- of 512 of setting 4.
+pub most_unknown_samples : (most_damage (setting_of 1) 8 ≡ 24) × (most_unknown (setting_of 1) 1 ≡ 8) × (most_unknown (setting_of 4) 512 ≡ 4257)
+unfolding distances_to
+most_unknown_samples = (refl, refl, refl)

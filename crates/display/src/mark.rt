@@ -1,4 +1,4 @@
-// Marks: where a reception and a transmission differ in a window.
+// Marks: where a reception and a transmission differ in a window, and where the reception has unknown symbols.
 ghost use Rattle.std.specs.Prelude.{◌≡◌, ◌≤◌, length, get_or};
 ghost use Rattle.display.specs.Marks.{bits, is_marked, marks_answer, Marked};
 
@@ -6,7 +6,7 @@ use super::window_part;
 use question::UNKNOWN_MARK;
 use question::refusal::Refusal;
 
-// The differences in a window, one bit a symbol, the earliest lowest, and how many are set.
+// The differences in a window, unknown symbols among them, one bit a symbol, the earliest lowest, and how many are set.
 #[derive(Clone, Copy, Default)]
 pub struct Differences {
     pub marks: u64,

@@ -12,7 +12,8 @@ abbrev pub unknown_mark : ℕ
 unknown_mark = 255
 
 -- Whether a received byte stands for an unknown symbol: it is no symbol of the field. Of such bytes question 4 admits the mark alone (`UnknownIsMark`, crate
--- `question`), so that theorems about any bytes have one meaning more, and what was received has just these two.
+-- `question`), so of what a call decodes this says what 02 says. Theorems about any bytes take every byte that is no symbol for an unknown one: it then costs
+-- less than a known symbol that differs, so they say no less.
 abbrev pub is_unknown : ℕ → ℕ → Bool
 is_unknown q v = leb q v
 

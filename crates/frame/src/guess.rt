@@ -127,8 +127,8 @@ impl Frame<'_> {
         }
     }
 
-    // Whether the residual of block i costs little against zeros: at most d_0, or less where symbols are unknown.
-    fn is_light(&self, i: usize, residual: &[u8]) -> bool
+    // Whether the guess of block i may stay, by its residual: it costs at most d_0 against zeros, or less than that in a frame with unknown symbols. Any answer will do.
+    fn may_stay(&self, i: usize, residual: &[u8]) -> bool
         requires { i * self.now.tables.now.setting.n + self.now.tables.now.setting.n ≤ length residual.now }
     {
         let p = self.tables.setting;
@@ -148,11 +148,11 @@ impl Frame<'_> {
         if self.blocks <= i {
             return;
         }
-        if self.is_light(i, residual) {
+        if self.may_stay(i, residual) {
             return;
         }
         self.guess_from(End::First, i, message, residual);
-        if self.is_light(i, residual) {
+        if self.may_stay(i, residual) {
             return;
         }
         self.guess_from(End::Last, i, message, residual);

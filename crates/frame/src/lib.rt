@@ -9,8 +9,8 @@ ghost use Rattle.std.specs.Prelude.{◌≤◌};
 
 use tables::Tables;
 
-// A frame of T information blocks, T+m blocks in all, by the tables of its setting: `blocks` is T. So many symbols of its reception are unknown, and they are in
-// its residual; where none is, nobody looks for them.
+// A frame of T information blocks, T+m blocks in all, by the tables of its setting: `blocks` is T. So many symbols of its reception are unknown, and stay so in its
+// residual; where none is, rows are added without a look at what they are added to.
 #[derive(Clone, Copy)]
 pub struct Frame<'a> {
     pub tables: &'a Tables,

@@ -91,7 +91,7 @@ impl Window<'_> {
         let marks = &mut room[..p.n];
         let information = block::repair(self.tables, block, l, marks)?;
         let bound = code::distances_to(p, l);
-        let cost = block::marked_cost(marks) + code::unknown_symbols(p.q, block);
+        let cost = block::marked_cost(marks) + block::unknown::count(p.q, block);
         let left = bound - cost;
         self.is_near_before(&information, l, left)
             .then_some(information)

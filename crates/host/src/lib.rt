@@ -39,7 +39,7 @@ pub extern "C" fn orderlink_decode(
 
 // struct orderlink_marks orderlink_marks(uint64_t setting, const uint8_t *reception, size_t reception_len,
 //                                        const uint8_t *transmission, size_t transmission_len, uint64_t j);
-// Marks the differences of a reception and a transmission in window j.
+// Marks the differences of a reception and a transmission in window j, and the unknown symbols.
 #[unsafe(no_mangle)]
 pub extern "C" fn orderlink_marks(
     setting: u64,

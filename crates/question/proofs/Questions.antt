@@ -3,7 +3,7 @@
 -- says that every answer was "yes"), `true_of`, `number_of`; what is asked of woven frames after the questions that need no setting, `weaving_later`,
 -- `woven_decoding_later`; of a share of the room `share`, `shares`; of bytes before one that is not admitted `passing_whole`,
 -- `whole_passing`, `position_found`; of question 4 `largest_symbols`, `four_yes`, `four_asked`, `four_refused`, `symbols_admitted`, `admitted_symbols`,
--- `symbols_received`, `unknown_is_mark`; what a call knows, `FrameShape`, `DecodingYes`, `EncodingYes`, `WovenYes`, `WovenDecodingYes`,
+-- `symbols_received`, `unknown_is_mark`, `unknown_are_marks`; what a call knows, `FrameShape`, `DecodingYes`, `EncodingYes`, `WovenYes`, `WovenDecodingYes`,
 -- `decoding_yes`, `encoding_yes`, `weaving_yes`, `woven_decoding_yes`; from that the answer "yes", `decoding_all_yes`, `encoding_all_yes`, `weaving_again`; the
 -- areas' sizes, `message_most`, `transmission_most`, `transmission_small`.
 use mathlib.Core.Path.{◌≡◌, refl, sym, ap, subst, ◌∙◌}
@@ -24,6 +24,7 @@ use borrow.Author.Tests.{eq-eqb, ne_eqb, lt-ltb, lt-leb, le-leb, leb-true, ltb-t
 use Rattle.algebra.specs.Ops.{pick}
 use Rattle.algebra.proofs.Tests.{and_left, and_right}
 use Rattle.field.specs.Symbols.{Symbols, unknown_mark, is_unknown}
+use Rattle.algebra.proofs.Weights.{count_of_ext}
 use Rattle.code.specs.parts.Residual.{frame_length}
 use Rattle.code.specs.declared.Setting.{Setting}
 use Rattle.code.specs.Settings.{is_setting, setting_of}
@@ -32,7 +33,7 @@ use Rattle.code.proofs.CodeBelow.{message_blocks}
 use Rattle.code.proofs.Settings.{largest_of, Sizes, sizes_of, sound_of}
 use Rattle.question.specs.declared.answer.Answer.{Answer}
 use Rattle.question.specs.Questions.{Question, ask, answer, symbol_question, transmission_question, first_no, most_blocks, most_frames}
-use Rattle.question.specs.Questions.{most_symbols, most_information, blocks_of, passing_to, is_symbol, is_received, UnknownIsMark, area_questions}
+use Rattle.question.specs.Questions.{most_symbols, most_information, blocks_of, passing_to, is_symbol, is_received, UnknownIsMark, UnknownAreMarks, area_questions}
 use Rattle.question.specs.Questions.{decoding_questions, encoding_questions, woven_questions, weaving_questions, woven_decoding_questions}
 
 pub true_of : (t : Bool) → Passes t → t ≡ true
@@ -194,6 +195,9 @@ unknown_is_mark q v few e = at (ltb v q) refl e
     at : (t : Bool) → ltb v q ≡ t → (t || eqb v unknown_mark) ≡ true → is_unknown q v ≡ eqb v unknown_mark
     at true s e = let h = ltb-true v q s in simp (lt-leb q v h, ne_eqb v unknown_mark (λ z. omega arith))
     at false s e = let h = ltb-false v q s in simp (le-leb q v h, e)
+
+pub unknown_are_marks : UnknownAreMarks
+unknown_are_marks q n v few received = count_of_ext n _ _ (λ i l. unknown_is_mark q (v i) few (received i l))
 
 -- What questions 1 to 3 say of a frame of this length, over its setting.
 pub record FrameShape (p : Setting) (long : ℕ) : Type 0 where

@@ -1,15 +1,16 @@
 -- The questions of each call (01, "Questions, asked in this order"; 02, #104, #106): a call's answer is the first "no".
 -- Holds: `Question`, `ask`, `ask_at`, `answer`, `counted`, `first_no`; `most_blocks`, `most_frames`, `most_symbols`, `most_information`; `blocks_of` (T),
--- `passing_to`; `is_symbol`, `is_received`, what question 4 admits, and `UnknownIsMark`; `length_questions`, `frame_questions`, `symbol_question`,
+-- `passing_to`; `is_symbol`, `is_received`, what question 4 admits, `UnknownIsMark`, `UnknownAreMarks`; `length_questions`, `frame_questions`, `symbol_question`,
 -- `transmission_question`, `area_questions`, and from them the questions of decoding, encoding, display and marks; `woven_questions`, and from them those of
 -- weaving, unweaving and decoding of woven frames; `encoding_samples`, `decoding_samples`, `marks_samples`, `weaving_samples`, `woven_decoding_samples`.
-use Rattle.std.specs.Prelude.{◌≡◌, refl, Bool, true, ◌&&◌, ◌||◌, List, [], ◌∷◌, ◌++◌, ℕ, ◌+◌, ◌-◌, ◌*◌, ◌/◌, ◌%◌, ◌≤◌, eqb, leb, ltb, length, replicate}
+use Rattle.std.specs.Prelude.{◌≡◌, ◌<◌, refl, Bool, true, ◌&&◌, ◌||◌, List, [], ◌∷◌, ◌++◌, ℕ, ◌+◌, ◌-◌, ◌*◌, ◌/◌, ◌%◌, ◌≤◌, eqb, leb, ltb, length, replicate}
 use Rattle.std.specs.List.{prefix_len}
 use Rattle.algebra.specs.Ops.{pick}
+use Rattle.algebra.specs.Weight.{count_of}
 use Rattle.field.specs.Symbols.{unknown_mark, is_unknown}
 use Rattle.code.specs.declared.Setting.{Setting}
 use Rattle.code.specs.Settings.{settings, is_setting, setting_of, largest}
-use Rattle.code.specs.Windows.{window_length}
+use Rattle.code.specs.Windows.{window_length, unknown_symbols}
 use Rattle.question.specs.declared.answer.Answer.{Answer}
 
 -- A question: its number, its place if the answer is "no", and whether the answer is "yes".
@@ -73,6 +74,11 @@ is_received q x = is_symbol q x || eqb x unknown_mark
 -- Of the bytes that question 4 admits in a reception the mark alone stands for an unknown symbol (`unknown_is_mark`, proofs/Questions).
 abbrev pub UnknownIsMark : Type 0
 UnknownIsMark = (q v : ℕ) → q ≤ unknown_mark → is_received q v ≡ true → is_unknown q v ≡ eqb v unknown_mark
+
+-- So of n symbols that it admits as many are unknown as are the mark (`unknown_are_marks`, proofs/Questions).
+abbrev pub UnknownAreMarks : Type 0
+UnknownAreMarks = (q n : ℕ) (v : ℕ → ℕ) → q ≤ unknown_mark → ((i : ℕ) → i < n → is_received q (v i) ≡ true)
+    → unknown_symbols q n v ≡ count_of n (λ i. eqb (v i) unknown_mark)
 
 -- Of a frame of this length, 2: "Is the length a multiple of n and at least (m+1) × n?" 3: "Is T at most 512?"
 abbrev pub length_questions : Setting → ℕ → List Question

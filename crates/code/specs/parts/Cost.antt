@@ -1,4 +1,5 @@
--- What receiving something costs where something else was sent: two a known symbol that differs, one an unknown one. The sums are over any received symbols R, any field F and any cost of a symbol; on bytes the cost is `symbol_cost`.
+-- What receiving something costs where something else was sent: two a known symbol that differs, one an unknown one. The sums are over any received symbols R,
+-- any field F and any cost of a symbol; on bytes the cost is `symbol_cost`.
 -- Holds: `symbol_cost`; `cost_to` (blocks of a frame), `block_cost` (a block against a combination), `rebuilt_cost` (a window against rebuilt blocks);
 -- of a setting, on bytes: `level_cost`, `window_cost`, `zero_cost`, `message_cost`, `NearWindow`.
 use Rattle.std.specs.Prelude.{List, ℕ, ◌+◌, ◌<◌, suc, length, get_or, eqb}

@@ -1,5 +1,5 @@
--- The residual: what is left of a reception once a message's transmission is taken out (01, "Reading a reception"). Holds: `less`, `plus`; `IsResidual`; of frames `frame_length`,
--- `window_at`.
+-- The residual: what is left of a reception once a message's transmission is taken out (01, "Reading a reception").
+-- Holds: `less`, `plus`; `IsResidual`; of frames `frame_length`, `window_at`.
 use Rattle.std.specs.Prelude.{◌≡◌, List, ℕ, ◌+◌, ◌*◌, ◌<◌, take, drop}
 use Rattle.algebra.specs.Ops.{sub, pick}
 use Rattle.area.specs.Lists.{view}

@@ -9,7 +9,7 @@ use Rattle.code.specs.Windows.{Fits}
 use Rattle.code.specs.parts.Cost.{zero_cost}
 use Rattle.code.specs.parts.Residual.{IsResidual, frame_length, window_at}
 
--- The areas of a frame: a guessed message of T blocks, and the residual of a reception with so many unknown symbols for it.
+-- The areas of a frame: a guessed message of T blocks, and the residual, for it, of a reception with so many unknown symbols; it matters whether there are any.
 pub record FrameAreas (p : Setting) (T unknown : ℕ) (message residual : List ℕ) : Type 0 where
   pub message_long : length message ≡ T * p.k
   pub message_symbols : Symbols p.q message

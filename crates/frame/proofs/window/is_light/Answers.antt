@@ -32,6 +32,5 @@ pub returns : goal.returns
 returns c =
     let a = c.args in
     let symbols = a.symbols.now in
-    let left : 2 * c.weight-most.result - c.unknown_symbols.result ≡ zero_cost a.q symbols =
-    omega (arith, c.weight-most.ensures, c.unknown_symbols.ensures, cost_zeros a.q c.requires (length symbols) (at symbols)) in
-    ap (λ (t : ℕ). ltb t a.bound) left
+    ap (λ (t : ℕ). ltb t a.bound)
+    (omega (arith, c.weight-most.ensures, c.unknown_symbols.ensures, cost_zeros a.q c.requires (length symbols) (at symbols)))

@@ -32,7 +32,7 @@ overflow_add-cost c =
     omega (
       arith,
       some_left w.tables.now.ready.sound w.symbols.now c.requires (rw block.part at c.in_ok-information.ensures)
-          (counted w.tables.now.setting c.args.l w.symbols.now _ block.part block.long c.marked_cost.ensures c.unknown_symbols.ensures) c.distances_to-bound.ensures,
+          (counted w.tables.now.setting c.args.l w.symbols.now _ block.part block.long c.marked_cost.ensures c.count.ensures) c.distances_to-bound.ensures,
     )
 
 pub overflow_sub-left : goal.overflow_sub-left
@@ -42,7 +42,7 @@ overflow_sub-left c =
     omega (
       arith,
       some_left w.tables.now.ready.sound w.symbols.now c.requires (rw block.part at c.in_ok-information.ensures)
-          (counted w.tables.now.setting c.args.l w.symbols.now _ block.part block.long c.marked_cost.ensures c.unknown_symbols.ensures) c.distances_to-bound.ensures,
+          (counted w.tables.now.setting c.args.l w.symbols.now _ block.part block.long c.marked_cost.ensures c.count.ensures) c.distances_to-bound.ensures,
     )
 
 pub is_near_before-requires : goal.is_near_before-requires
@@ -52,7 +52,7 @@ is_near_before-requires c =
     let block = c.part-block.ensures in
     let fits = level_fits t.setting t.ready.sound c.args.l c.requires in
     let some = some_left t.ready.sound w.symbols.now c.requires (rw block.part at c.in_ok-information.ensures)
-    (counted t.setting c.args.l w.symbols.now _ block.part block.long c.marked_cost.ensures c.unknown_symbols.ensures) c.distances_to-bound.ensures in
+    (counted t.setting c.args.l w.symbols.now _ block.part block.long c.marked_cost.ensures c.count.ensures) c.distances_to-bound.ensures in
     (step_below c.in_ok-information.ensures, omega (arith, fits, t.narrow.block), c.requires, omega (arith, some))
 
 pub returns : goal.returns
@@ -61,5 +61,5 @@ returns c =
     let block = c.part-block.ensures in
     rw c.then_some.ensures
     (tried_near w.tables.now.ready.sound w.symbols.now c.requires (rw block.part at c.in_ok-information.ensures)
-    (counted w.tables.now.setting c.args.l w.symbols.now _ block.part block.long c.marked_cost.ensures c.unknown_symbols.ensures)
+    (omega (arith, counted w.tables.now.setting c.args.l w.symbols.now _ block.part block.long c.marked_cost.ensures c.count.ensures))
     c.distances_to-bound.ensures c.is_near_before.result c.is_near_before.ensures)

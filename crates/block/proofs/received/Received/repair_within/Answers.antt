@@ -1,11 +1,11 @@
--- `block::received::Received::repair` meets its contract: what its parts promise gives the answers.
+-- `block::received::Received::repair_within` meets its contract: what its parts promise gives the answers.
 use mathlib.Core.Path.{ap, ◌∙◌}
 use Prim.Native.Nat.{ℕ}
 use native.Mathlib.Omega.{arith}
 use lib.ListN.{replicate}
 use Rattle.block.proofs.Factors.{length_places}
 use Rattle.block.proofs.Step.{step_long, step_clean, step_marked}
-use Rattle.block.proofs.received.Received.repair.Goals as goal
+use Rattle.block.proofs.received.Received.repair_within.Goals as goal
 
 pub returns-then-distance-self : goal.returns-then-distance-self
 returns-then-distance-self c =
