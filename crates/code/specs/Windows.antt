@@ -1,7 +1,7 @@
 -- Transmissions, windows and fits on lists of bytes, as the demands, 01 and 02 (#102, #106) word them.
--- Holds: `transmission`, `window_length`, `window_symbol`; `unknown_symbols`, `known_distance`, `window_sum`; `altered`, `unknown_in`; `Message`, `WithinLimit`,
--- `Fits`; `window_distance`, `LimitEnough`, `AtMostLimit` and `KnownCounts`, 01's words for it; what the counts can be at most: `windows_for`, `most_altered`,
--- `most_damage`, `most_unknown`, computed in `most_altered_samples` and `most_unknown_samples`.
+-- Holds: `transmission`, `window_length`, `window_symbol`; `unknown_symbols`, `known_distance`, `window_sum`; `altered`, `unknown_in`; `Message`,
+-- `WithinLimit`, `Fits`; `window_distance`, `LimitEnough`, `AtMostLimit` and `KnownCounts`, 01's words for it; what the counts can be at most: `windows_for`,
+-- `most_altered`, `most_damage`, `most_unknown`, computed in `most_altered_samples` and `most_unknown_samples`.
 use Rattle.std.specs.Prelude.{◌≡◌, refl, not, ◌&&◌, List, ℕ, ◌+◌, ◌*◌, ◌/◌, ◌%◌, ◌≤◌, ◌<◌, T as Passes, eqb, length, get_or}
 use Rattle.algebra.specs.Weight.{count_of, distance}
 use Rattle.area.specs.Lists.{view, tabulate}
@@ -100,13 +100,13 @@ most_damage p T = design_distance p.n p.k p.m * windows_for p T
 abbrev pub most_unknown : Setting → ℕ → ℕ
 most_unknown p T = design_distance p.n p.k p.m * windows_for p (T + p.m)
 
--- Examples, computed. The altered count: one block of setting 1; the eight of the worked order with count 12, which has as many as can be; 512 of setting 4.
-pub most_altered_samples : (most_altered (setting_of 1) 1 ≡ 4) × (most_altered (setting_of 1) 8 ≡ 12) × (most_altered (setting_of 4) 512 ≡ 2048)
+-- Examples, computed. The altered count: one block of setting 1; the eight of the worked order with count 12, which has as many as can be; 4,096 of setting 4.
+pub most_altered_samples : (most_altered (setting_of 1) 1 ≡ 4) × (most_altered (setting_of 1) 8 ≡ 12) × (most_altered (setting_of 4) 4096 ≡ 16384)
 unfolding distances_to
 most_altered_samples = (refl, refl, refl)
 
--- Of eight blocks of setting 1 the altered symbols twice and the unknown ones; of one block, with its closing blocks, the unknown ones, as many as 02's order has;
--- of 512 of setting 4.
-pub most_unknown_samples : (most_damage (setting_of 1) 8 ≡ 24) × (most_unknown (setting_of 1) 1 ≡ 8) × (most_unknown (setting_of 4) 512 ≡ 4257)
+-- Of eight blocks of setting 1 the altered symbols twice and the unknown ones; of one block, with its closing blocks, the unknown ones, as many as 02's order
+-- has; of 4,096 of setting 4.
+pub most_unknown_samples : (most_damage (setting_of 1) 8 ≡ 24) × (most_unknown (setting_of 1) 1 ≡ 8) × (most_unknown (setting_of 4) 4096 ≡ 33825)
 unfolding distances_to
 most_unknown_samples = (refl, refl, refl)

@@ -4,7 +4,7 @@ ghost use Rattle.field.specs.Symbols.{Symbols};
 ghost use Rattle.code.specs.parts.SettingNumbers.{parameters_of};
 ghost use Rattle.code.specs.parts.Residual.{frame_length};
 ghost use Rattle.code.specs.Windows.{transmission, known_distance, unknown_in};
-ghost use Rattle.question.specs.Questions.{most_blocks};
+ghost use Rattle.question.specs.Questions.{most_symbols};
 ghost use Rattle.question.specs.Refusals.{answered};
 ghost use Rattle.weave.specs.parts.Columns.{symbols_of};
 ghost use Rattle.link.specs.parts.Restoring.{Restored, ReadFrom, FrameAnswered};
@@ -55,7 +55,7 @@ fn altered_count(frame: &Frame, residual: &[u8]) -> usize
 
 // Question 7 of the reception that stands in the transmission area: the message and, in place of the reception, its residual; or zeros in both.
 fn read_frame(frame: &Frame, message: &mut [u8], transmission: &mut [u8]) -> Result<Counts, Refusal>
-    requires { (frame.now.blocks ≤ most_blocks) × (length message.old ≡ frame.now.blocks * frame.now.tables.now.setting.k) × (length transmission.old ≡ frame_length frame.now.tables.now.setting frame.now.blocks) × (frame.now.unknown ≡ unknown_in frame.now.tables.now.setting frame.now.blocks transmission.old) }
+    requires { (length transmission.old ≤ most_symbols) × (length message.old ≡ frame.now.blocks * frame.now.tables.now.setting.k) × (length transmission.old ≡ frame_length frame.now.tables.now.setting frame.now.blocks) × (frame.now.unknown ≡ unknown_in frame.now.tables.now.setting frame.now.blocks transmission.old) }
     ensures { FrameAnswered frame.now.tables.now.setting frame.now.blocks transmission.old (answered result) message.new transmission.new }
 {
     if frame.read(message, transmission).is_none() {

@@ -5,12 +5,12 @@
 -- `whole_passing`, `position_found`; of question 4 `largest_symbols`, `four_yes`, `four_asked`, `four_refused`, `symbols_admitted`, `admitted_symbols`,
 -- `symbols_received`, `unknown_is_mark`, `unknown_are_marks`; what a call knows, `FrameShape`, `DecodingYes`, `EncodingYes`, `WovenYes`, `WovenDecodingYes`,
 -- `decoding_yes`, `encoding_yes`, `weaving_yes`, `woven_decoding_yes`; from that the answer "yes", `decoding_all_yes`, `encoding_all_yes`, `weaving_again`; the
--- areas' sizes, `message_most`, `transmission_most`, `transmission_small`.
+-- areas' sizes, `message_most`, `transmission_most`.
 use mathlib.Core.Path.{◌≡◌, refl, sym, ap, subst, ◌∙◌}
 use mathlib.Core.Bool.{Bool, true, false, cond, not, ◌&&◌, ◌||◌}
 use mathlib.Core.List.{List, [], ◌∷◌, ◌++◌}
 use Prim.Native.Nat.{ℕ, zero, suc, max, ◌+◌, ◌-◌, ◌*◌, ◌/◌, ◌%◌, ◌≤◌, ◌<◌}
-use native.Mathlib.Nat.{not-suc-le-zero, le_of_suc-le-suc, div-add-mod, div-add-mod', le-div_iff_mul-le, le_trans, mul_comm, mul-le-mul, mul-le-mul_right, mul-mod_left}
+use native.Mathlib.Nat.{not-suc-le-zero, le_of_suc-le-suc, div-add-mod, div-add-mod', le-div_iff_mul-le, le_trans, mul_comm, mul-le-mul_right, mul-mod_left}
 use native.Mathlib.Omega.{arith}
 use lib.Dec.{T as Passes, eqb, leb, ltb, leb→le, le→leb, eqb→eq}
 use Rattle.std.specs.List.{fold, position, position_or_len, prefix_len, AllPass}
@@ -221,23 +221,14 @@ frame_of p long sizes shape few =
     let found = blocks_of_length p.n p.m long sizes.symbols whole room in
     record { sizes = sizes; blocks = found.0; most = leb→le (blocks_of p long) most_blocks few; long_is = found.1 }
 
--- The areas that a frame of any setting needs, over the setting p in hand.
-pub message_most : (number : ℕ) (p : Setting) (blocks : ℕ) → Passes (is_setting number) → p ≡ setting_of number → blocks ≤ most_blocks
-    → blocks * p.k ≤ most_information
-message_most number p blocks known e h =
-    subst (λ (s : Setting). blocks * s.k ≤ most_information) (sym e)
-    (le_trans (mul-le-mul_right (setting_of number).k h) (largest_of (λ p. most_blocks * p.k) number known))
+-- The areas that a frame of any setting needs.
+pub message_most : (number blocks : ℕ) → Passes (is_setting number) → blocks ≤ most_blocks → blocks * (setting_of number).k ≤ most_information
+message_most number blocks known h = le_trans (mul-le-mul_right (setting_of number).k h) (largest_of (λ p. most_blocks * p.k) number known)
 
-pub transmission_most : (number : ℕ) (p : Setting) (blocks : ℕ) → Passes (is_setting number) → p ≡ setting_of number → blocks ≤ most_blocks
-    → frame_length p blocks ≤ most_symbols
-transmission_most number p blocks known e h =
+pub transmission_most : (number blocks : ℕ) → Passes (is_setting number) → blocks ≤ most_blocks → frame_length (setting_of number) blocks ≤ most_symbols
+transmission_most number blocks known h =
     let top : blocks + (setting_of number).m ≤ most_blocks + (setting_of number).m = omega arith in
-    subst (λ (s : Setting). frame_length s blocks ≤ most_symbols) (sym e)
-    (le_trans (mul-le-mul_right (setting_of number).n top) (largest_of (λ p. frame_length p most_blocks) number known))
-
--- Bounds of every setting there can be.
-pub transmission_small : (p : Setting) (T : ℕ) → Sizes p → T ≤ most_blocks → frame_length p T ≤ (most_blocks + 255) * 255
-transmission_small p T s h = let top : T + p.m ≤ most_blocks + 255 = omega (arith, s.memory_most) in mul-le-mul top s.symbols_most
+    le_trans (mul-le-mul_right (setting_of number).n top) (largest_of (λ p. frame_length p most_blocks) number known)
 
 -- What decoding knows when questions 1 to 6 got "yes".
 pub record DecodingYes (number : ℕ) (reception : List ℕ) (message_room transmission_room : ℕ) : Type 0 where

@@ -1,8 +1,9 @@
--- The questions of each call (01, "Questions, asked in this order"; 02, #104, #106): a call's answer is the first "no".
+-- The questions of each call (01, "Questions, asked in this order"; 02, #104, #106, #107): a call's answer is the first "no".
 -- Holds: `Question`, `ask`, `ask_at`, `answer`, `counted`, `first_no`; `most_blocks`, `most_frames`, `most_symbols`, `most_information`; `blocks_of` (T),
--- `passing_to`; `is_symbol`, `is_received`, what question 4 admits, `UnknownIsMark`, `UnknownAreMarks`; `length_questions`, `frame_questions`, `symbol_question`,
--- `transmission_question`, `area_questions`, and from them the questions of decoding, encoding, display and marks; `woven_questions`, and from them those of
--- weaving, unweaving and decoding of woven frames; `encoding_samples`, `decoding_samples`, `marks_samples`, `weaving_samples`, `woven_decoding_samples`.
+-- `passing_to`; `is_symbol`, `is_received`, what question 4 admits, `UnknownIsMark`, `UnknownAreMarks`; `length_questions`, `frame_questions`,
+-- `symbol_question`, `transmission_question`, `area_questions`, and from them the questions of decoding, encoding, display and marks; `woven_questions`, and
+-- from them those of weaving, unweaving and decoding of woven frames; `encoding_samples`, `decoding_samples`, `marks_samples`, `weaving_samples`,
+-- `woven_decoding_samples`, `limit_samples`, `longest_samples`.
 use Rattle.std.specs.Prelude.{◌≡◌, ◌<◌, refl, Bool, true, ◌&&◌, ◌||◌, List, [], ◌∷◌, ◌++◌, ℕ, ◌+◌, ◌-◌, ◌*◌, ◌/◌, ◌%◌, ◌≤◌, eqb, leb, ltb, length, replicate}
 use Rattle.std.specs.List.{prefix_len}
 use Rattle.algebra.specs.Ops.{pick}
@@ -40,9 +41,9 @@ abbrev pub first_no : List Question → Answer
 first_no [] = answer 0 0
 first_no (x ∷ rest) = pick x.holds (first_no rest) (answer x.number x.place)
 
--- "T at most 512"
+-- "The library's limit for T becomes 4,096" (02, #107).
 abbrev pub most_blocks : ℕ
-most_blocks = 512
+most_blocks = 4096
 
 -- "14 when D isn't 2 to 8" (02, #104)
 abbrev pub most_frames : ℕ
@@ -80,7 +81,7 @@ abbrev pub UnknownAreMarks : Type 0
 UnknownAreMarks = (q n : ℕ) (v : ℕ → ℕ) → q ≤ unknown_mark → ((i : ℕ) → i < n → is_received q (v i) ≡ true)
     → unknown_symbols q n v ≡ count_of n (λ i. eqb (v i) unknown_mark)
 
--- Of a frame of this length, 2: "Is the length a multiple of n and at least (m+1) × n?" 3: "Is T at most 512?"
+-- Of a frame of this length, 2: "Is the length a multiple of n and at least (m+1) × n?" 3: "Is T at most" the library's limit?
 abbrev pub length_questions : Setting → ℕ → List Question
 length_questions p long =
     ask 2 (eqb (long % p.n) 0 && leb (window_length p) long)
@@ -159,51 +160,48 @@ woven_decoding_questions number D reception message_room transmission_room =
     ∷ []
 
 -- Examples, computed: which question comes first where several would be answered "no".
--- No setting 257, though its last byte is 1; 8 before 3; 3 before 4; 4 with its place before 6; 6; yes. A message has no unknown symbols: the mark gets 4.
+-- No setting 257, though its last byte is 1; 8; 4 with its place before 6; 6; yes. A message has no unknown symbols: the mark gets 4.
 pub encoding_samples : first_no (encoding_questions 257 [] 0)
-    ∷ first_no (encoding_questions 2 (replicate 1027 9) 0)
-    ∷ first_no (encoding_questions 2 (replicate 1026 9) 0)
-    ∷ first_no (encoding_questions 2 (replicate 1023 7 ++ 8 ∷ []) 0)
-    ∷ first_no (encoding_questions 2 (replicate 1024 7) 3597)
-    ∷ first_no (encoding_questions 2 (replicate 1024 7) 3598)
+    ∷ first_no (encoding_questions 2 (9 ∷ []) 0)
+    ∷ first_no (encoding_questions 2 (replicate 3 7 ++ 8 ∷ []) 0)
+    ∷ first_no (encoding_questions 2 (replicate 4 7) 27)
+    ∷ first_no (encoding_questions 2 (replicate 4 7) 28)
     ∷ first_no (encoding_questions 2 (7 ∷ 255 ∷ []) 0)
     ∷ []
-    ≡ answer 1 0 ∷ answer 8 0 ∷ answer 3 0 ∷ answer 4 1023 ∷ answer 6 0 ∷ answer 0 0 ∷ answer 4 1 ∷ []
+    ≡ answer 1 0 ∷ answer 8 0 ∷ answer 4 3 ∷ answer 6 0 ∷ answer 0 0 ∷ answer 4 1 ∷ []
 unfolding passing_to
 encoding_samples = refl
 
--- 1, below the settings and past them; 2 for a length that is no multiple of n, and for one below (m+1) × n; 3 before 4; 4 with its place before 5; 5 before 6;
--- 6; yes. With sixteen elements 15 is a symbol, and 16 is none. Unknown symbols pass, with the mark 255 alone.
+-- 1, below the settings and past them; 2 for a length that is no multiple of n, and for one below (m+1) × n; 4 with its place before 5; 5 before 6; 6; yes. With
+-- sixteen elements 15 is a symbol, and 16 is none. Unknown symbols pass, with the mark 255 alone.
 pub decoding_samples : first_no (decoding_questions 0 [] 0 0)
     ∷ first_no (decoding_questions 6 [] 0 0)
-    ∷ first_no (decoding_questions 3 (replicate 3592 9) 0 0)
+    ∷ first_no (decoding_questions 3 (replicate 15 9) 0 0)
     ∷ first_no (decoding_questions 3 (replicate 7 9) 0 0)
-    ∷ first_no (decoding_questions 3 (replicate 3598 9) 0 0)
-    ∷ first_no (decoding_questions 3 (replicate 3590 7 ++ 8 ∷ []) 0 0)
-    ∷ first_no (decoding_questions 3 (replicate 3591 7) 1535 0)
-    ∷ first_no (decoding_questions 3 (replicate 3591 7) 1536 3590)
-    ∷ first_no (decoding_questions 3 (replicate 3591 7) 1536 3591)
+    ∷ first_no (decoding_questions 3 (replicate 13 7 ++ 8 ∷ []) 0 0)
+    ∷ first_no (decoding_questions 3 (replicate 14 7) 2 0)
+    ∷ first_no (decoding_questions 3 (replicate 14 7) 3 13)
+    ∷ first_no (decoding_questions 3 (replicate 14 7) 3 14)
     ∷ first_no (decoding_questions 4 (replicate 59 15 ++ 16 ∷ []) 0 0)
     ∷ first_no (decoding_questions 1 (replicate 4 3 ++ replicate 8 255) 1 12)
     ∷ first_no (decoding_questions 1 (replicate 11 255 ++ 254 ∷ []) 1 12)
     ∷ []
-    ≡ answer 1 0 ∷ answer 1 0 ∷ answer 2 0 ∷ answer 2 0 ∷ answer 3 0 ∷ answer 4 3590 ∷ answer 5 0 ∷ answer 6 0 ∷ answer 0 0
+    ≡ answer 1 0 ∷ answer 1 0 ∷ answer 2 0 ∷ answer 2 0 ∷ answer 4 13 ∷ answer 5 0 ∷ answer 6 0 ∷ answer 0 0
     ∷ answer 4 59 ∷ answer 0 0 ∷ answer 4 11 ∷ []
 unfolding passing_to
 decoding_samples = refl
 
--- 3 before 12; 12, for any j, before 13; 13; yes.
-pub marks_samples : first_no (marks_questions 1 2060 0 513)
-    ∷ first_no (marks_questions 1 2056 0 512)
-    ∷ first_no (marks_questions 1 2056 0 18446744073709551615)
-    ∷ first_no (marks_questions 1 2056 2055 511)
-    ∷ first_no (marks_questions 1 2056 2056 511)
+-- 12, for any j, before 13; 13; yes.
+pub marks_samples : first_no (marks_questions 1 12 0 1)
+    ∷ first_no (marks_questions 1 12 0 18446744073709551615)
+    ∷ first_no (marks_questions 1 12 11 0)
+    ∷ first_no (marks_questions 1 12 12 0)
     ∷ []
-    ≡ answer 3 0 ∷ answer 12 0 ∷ answer 12 0 ∷ answer 13 0 ∷ answer 0 0 ∷ []
+    ≡ answer 12 0 ∷ answer 12 0 ∷ answer 13 0 ∷ answer 0 0 ∷ []
 marks_samples = refl
 
 -- 1 before 14; 14 for no frame, one, nine and 2^64 − 1 frames, before 15; 15 before 2; an empty area passes 15 and gets 2; 2 of one frame's length, though both
--- frames' together would do; 3; 4 with its place before 6; 6; yes. Unknown symbols pass.
+-- frames' together would do; 4 with its place before 6; 6; yes. Unknown symbols pass.
 pub weaving_samples : first_no (weaving_questions 6 0 [] 0)
     ∷ first_no (weaving_questions 1 0 (replicate 23 9) 0)
     ∷ first_no (weaving_questions 1 1 (replicate 23 9) 0)
@@ -212,15 +210,14 @@ pub weaving_samples : first_no (weaving_questions 6 0 [] 0)
     ∷ first_no (weaving_questions 1 2 (replicate 23 9) 0)
     ∷ first_no (weaving_questions 1 2 [] 0)
     ∷ first_no (weaving_questions 1 2 (replicate 12 9) 0)
-    ∷ first_no (weaving_questions 1 2 (replicate 4120 9) 0)
     ∷ first_no (weaving_questions 1 2 (replicate 23 4 ++ 5 ∷ []) 0)
     ∷ first_no (weaving_questions 1 2 (replicate 24 4) 23)
     ∷ first_no (weaving_questions 1 8 (replicate 96 4) 96)
     ∷ first_no (weaving_questions 1 2 (replicate 24 255) 24)
     ∷ first_no (weaving_questions 1 2 (replicate 23 255 ++ 254 ∷ []) 24)
     ∷ []
-    ≡ answer 1 0 ∷ answer 14 0 ∷ answer 14 0 ∷ answer 14 0 ∷ answer 14 0 ∷ answer 15 0 ∷ answer 2 0 ∷ answer 2 0 ∷ answer 3 0
-    ∷ answer 4 23 ∷ answer 6 0 ∷ answer 0 0 ∷ answer 0 0 ∷ answer 4 23 ∷ []
+    ≡ answer 1 0 ∷ answer 14 0 ∷ answer 14 0 ∷ answer 14 0 ∷ answer 14 0 ∷ answer 15 0 ∷ answer 2 0 ∷ answer 2 0 ∷ answer 4 23
+    ∷ answer 6 0 ∷ answer 0 0 ∷ answer 0 0 ∷ answer 4 23 ∷ []
 unfolding passing_to
 weaving_samples = refl
 
@@ -237,3 +234,25 @@ pub woven_decoding_samples : first_no (woven_decoding_questions 3 9 (replicate 1
     ≡ answer 14 0 ∷ answer 15 0 ∷ answer 4 111 ∷ answer 5 0 ∷ answer 6 0 ∷ answer 0 0 ∷ answer 0 0 ∷ []
 unfolding passing_to
 woven_decoding_samples = refl
+
+-- 4,097 blocks get 3 from every call: after 8 and 2, and before 4 and 12.
+pub limit_samples : (first_no (encoding_questions 2 (replicate 8195 9) 0) ≡ answer 8 0)
+    × (first_no (encoding_questions 2 (replicate 8194 9) 0) ≡ answer 3 0)
+    × (first_no (decoding_questions 1 (replicate 16397 9) 0 0) ≡ answer 2 0)
+    × (first_no (decoding_questions 1 (replicate 16396 9) 0 0) ≡ answer 3 0)
+    × (first_no (display_questions 1 16396 4097) ≡ answer 3 0)
+    × (first_no (marks_questions 1 16396 0 4097) ≡ answer 3 0)
+    × (first_no (weaving_questions 1 2 (replicate 32792 9) 0) ≡ answer 3 0)
+    × (first_no (woven_decoding_questions 1 2 (replicate 32792 9) 0 0) ≡ answer 3 0)
+unfolding passing_to
+limit_samples = (refl, refl, refl, refl, refl, refl, refl, refl)
+
+-- 4,096 blocks get "yes" from every call, in areas with just the room that they need, and of the last window.
+pub longest_samples : (first_no (encoding_questions 2 (replicate 8192 7) 28686) ≡ answer 0 0)
+    × (first_no (decoding_questions 1 (replicate 16392 4) 4096 16392) ≡ answer 0 0)
+    × (first_no (display_questions 1 16392 4095) ≡ answer 0 0)
+    × (first_no (marks_questions 1 16392 16392 4095) ≡ answer 0 0)
+    × (first_no (weaving_questions 1 2 (replicate 32784 4) 32784) ≡ answer 0 0)
+    × (first_no (woven_decoding_questions 1 2 (replicate 32784 4) 8192 32784) ≡ answer 0 0)
+unfolding passing_to
+longest_samples = (refl, refl, refl, refl, refl, refl)

@@ -6,8 +6,8 @@ ghost use Rattle.question.specs.Questions.{most_blocks, most_frames};
 
 use code::{Setting, SettingNumber};
 
-// "T at most 512"
-pub const MOST_BLOCKS: usize = 512;
+// "The library's limit for T becomes 4,096" (02, #107).
+pub const MOST_BLOCKS: usize = 4096;
 
 // "14 when D isn't 2 to 8"
 pub const MOST_FRAMES: usize = 8;

@@ -1,6 +1,6 @@
 -- `frame::window::is_light`: two for each symbol that is not zero, and one less for each unknown one.
-use mathlib.Core.Path.{◌≡◌, sym, ap}
-use Prim.Native.Nat.{ℕ, ◌-◌, ◌*◌}
+use mathlib.Core.Path.{sym, ap}
+use Prim.Native.Nat.{ℕ}
 use native.Mathlib.Omega.{arith}
 use lib.Dec.{ltb}
 use lib.ListN.{length}

@@ -1,14 +1,17 @@
 -- `link::decode::decode_frame`: the tables are the setting's, the working areas have room for its blocks, and the frame is read where its transmission goes.
 use mathlib.Core.Path.{◌≡◌, refl, sym, ap, subst, ◌∙◌}
 use mathlib.Core.List.{List}
-use Prim.Native.Nat.{ℕ, ◌*◌}
+use Prim.Native.Nat.{ℕ, ◌*◌, ◌≤◌}
 use lib.ListN.{length, get_or}
 use Rattle.std.proofs.Common.{rules}
 use Rattle.code.specs.parts.Residual.{frame_length}
 use Rattle.code.specs.declared.Setting.{Setting}
 use Rattle.code.specs.Windows.{transmission, unknown_symbols, unknown_in}
-use Rattle.code.specs.parts.SettingNumbers.{parameters_of}
+use Rattle.code.specs.parts.SettingNumbers.{number_of, parameters_of}
+use Rattle.code.proofs.Settings.{number_known}
 use Rattle.question.specs.declared.answer.Answer.{Answer}
+use Rattle.question.specs.Questions.{most_symbols}
+use Rattle.question.proofs.Questions.{transmission_most}
 use Rattle.question.proofs.Shapes.{refusal_numbered}
 use Rattle.weave.specs.parts.Columns.{symbols_of}
 use Rattle.link.specs.parts.Restoring.{FrameAnswered, ReadFrom}
@@ -38,7 +41,7 @@ read_frame-requires c =
     let e : p ≡ parameters_of s.setting = c.new-tables.ensures in
     let copy = c.take.new.out in
     let long : length copy ≡ frame_length p s.blocks = c.take.auto.out ∙ (c.requires.2 ∙ ap (λ (p : Setting). frame_length p s.blocks) (sym e)) in (
-      s.few,
+      subst (λ (t : ℕ). t ≤ most_symbols) (sym (c.take.auto.out ∙ c.requires.2)) (transmission_most (number_of s.setting) s.blocks (number_known s.setting) s.few),
       c.requires.1 ∙ ap (λ (p : Setting). s.blocks * p.k) (sym e),
       long,
       unknown_of p s.blocks copy c.unknown_symbols.ensures long,

@@ -12,8 +12,6 @@ use Rattle.code.specs.declared.Setting.{Setting}
 use Rattle.code.specs.parts.Residual.{frame_length}
 use Rattle.code.specs.Windows.{unknown_symbols}
 use Rattle.code.proofs.Cost.{all_known}
-use Rattle.code.proofs.Settings.{sizes}
-use Rattle.question.proofs.Questions.{transmission_small}
 use Rattle.link.proofs.Decoding.{answered_none, answered_read}
 use Rattle.link.proofs.decode.read_frame.Goals as goal
 
@@ -45,7 +43,7 @@ overflow_cast-result c =
       c.altered_count-altered.ensures,
       count_of_le count (λ i. not (is_unknown p.q (at c.read.new.residual i)) && not (eqb (at c.read.new.residual i) 0)),
       c.requires.0,
-      transmission_small p a.frame.now.blocks (sizes p a.frame.now.tables.now.ready.sound) c.requires.0,
+      c.requires.2,
     )
 
 pub overflow_cast-result-2 : goal.overflow_cast-result-2
@@ -56,7 +54,8 @@ overflow_cast-result-2 c =
       arith,
       c.requires.3,
       count_of_le (frame_length p a.frame.now.blocks) (λ i. is_unknown p.q (at a.transmission.now i)),
-      transmission_small p a.frame.now.blocks (sizes p a.frame.now.tables.now.ready.sound) c.requires.0,
+      c.requires.0,
+      c.requires.2,
     )
 
 pub returns : goal.returns
