@@ -13,7 +13,8 @@ use Rattle.code.proofs.Settings.{sound_of}
 use Rattle.question.specs.declared.answer.Answer.{Answer}
 use Rattle.question.proofs.Questions.{all_yes}
 use Rattle.link.proofs.Determined.{frame_determined, decoded_determined}
-use Rattle.line.specs.Questions.{setting_in, blocks_in, symbols_in, line_questions}
+use Rattle.line.specs.Heads.{setting_in, blocks_in, symbols_in}
+use Rattle.line.specs.Questions.{line_questions}
 use Rattle.line.specs.Answering.{output_line, Answers, refused, well_formed, AnswerShown, LineAreas, line_areas, FrameLeft}
 use Rattle.line.specs.Answering.{no_frame, no_room, decoded, LineDetermined}
 

@@ -1,8 +1,7 @@
 -- The frame of a line that holds one (questions 11, 9, 1, 3 and 10 got "yes"), from decoding to the line's answer.
 -- Holds: `symbols_count`, `symbols_read`, `symbols_long`, `blocks_is` (the reception and T); `decoding_asked` (decoding's questions ask what is left, 4);
--- `refusal_line`; `frame_answered` (what decoding gives); `any_room`, `room_is` (the working areas); `shape_message`, `shape_most`;
--- `frame_left`, `frame_said`;
--- `most_answer` with its number, `answers_most`, `answers_sevenfold` (an output line's length); `answered_shown` (with room for every frame);
+-- `refusal_line`; `frame_answered` (what decoding gives); `any_room`, `room_is` (the working areas); `shape_message`, `shape_most`; `frame_left`, `frame_said`;
+-- `most_answer_lem`, `answers_most`, `answers_room` (an output line's length); `answered_shown` (with room for every frame);
 -- `answers_kept` (a line too long is answered by its beginning).
 use mathlib.Core.Path.{◌≡◌, refl, sym, ap, ap₂, subst, ◌∙◌}
 use mathlib.Core.Bool.{Bool, true, false, ◌&&◌}
@@ -12,7 +11,7 @@ use native.Mathlib.Nat.{mul-le-mul, mul-le-mul_right, le_trans, lt_of_lt_of_le}
 use native.Mathlib.Omega.{arith}
 use native.Mathlib.Decide.{dec_le}
 use lib.Arith.{digits_div, digits_mod}
-use lib.Dec.{T as Passes, eqb, leb, lit≤, leb→le, eqb→eq}
+use lib.Dec.{T as Passes, eqb, leb, lit≤, leb→le}
 use lib.ListN.{length, take, drop, length-map, length-drop}
 use lib.Seq.{length-take-le, take_at, take_all}
 use borrow.Author.Tests.{eq-eqb, ne_eqb, le-leb, lt-leb}
@@ -25,18 +24,21 @@ use Rattle.code.specs.Windows.{window_length}
 use Rattle.code.specs.parts.SettingNumbers.{number_of, parameters_of}
 use Rattle.code.proofs.Settings.{sound_of, number_known, information_fits, Sizes, sizes_of, largest_of}
 use Rattle.question.specs.declared.answer.Answer.{Answer}
-use Rattle.question.specs.declared.shape.Shape.{Shape}
 use Rattle.question.specs.Questions.{Question, ask, answer, first_no, most_blocks, most_symbols, most_information, blocks_of, is_received}
 use Rattle.question.specs.Questions.{symbol_question, transmission_question, frame_questions, decoding_questions}
-use Rattle.question.proofs.Questions.{true_of, first_no_lem, all_yes, append_yes, message_most, transmission_most}
+use Rattle.question.proofs.Questions.{true_of, first_no_lem, append_yes, message_most, transmission_most}
 use Rattle.link.specs.Decoding.{FrameDecoded, found, none_fits, DecodedIn, Decoded, refused as decoding_refused, well_formed as decoding_well_formed}
 use Rattle.link.proofs.Determined.{parts_long, message_front}
 use Rattle.line.specs.Characters.{digit_of}
-use Rattle.line.specs.Questions.{most_characters, setting_in, blocks_in, symbols_in, right_to, HoldsFrame, line_questions}
+use Rattle.line.specs.Heads.{form_in, head_length, Head, head_in, setting_in, blocks_in, symbols_in}
+use Rattle.line.specs.Questions.{most_characters, HoldsFrame, line_questions}
 use Rattle.line.specs.Answering.{refusal, success, output_line, message_length, message_in, Answers, refused, well_formed, AnswerShown, LineAreas}
 use Rattle.line.specs.Answering.{line_areas, has_room, room_in, RoomForAll, FrameLeft, Answered, no_frame, no_room, decoded}
-use Rattle.line.specs.parts.Heads.{FrameOf}
-use Rattle.line.proofs.Asked.{HeadYes, head_yes, after_head}
+use Rattle.line.specs.declared.TheConstants.{MOST_ANSWER}
+use Rattle.line.specs.declared.head.LineShape.{LineShape}
+use Rattle.line.specs.parts.Frames.{FrameOf}
+use Rattle.line.proofs.Forms.{form_known, length_most}
+use Rattle.line.proofs.Asked.{HeadYes, blocks_few, head_yes, frame_first, after_head}
 use Rattle.line.proofs.Placed.{refusal_long, success_long}
 
 -- A frame of T+m blocks of n symbols.
@@ -45,12 +47,13 @@ whole_frame T m n positive =
     let none : (T + m) * n ≡ (T + m) * n + 0 = omega arith in
     (ap (λ (t : ℕ). t % n) none ∙ digits_mod (T + m) positive, ap (λ (t : ℕ). t / n) none ∙ digits_div (T + m) positive)
 
--- The characters that are read as symbols.
-pub symbols_count : (line : List ℕ) → length (symbols_in line) ≡ length line - 4
-symbols_count line = length-map (drop 4 line) digit_of ∙ length-drop 4 line
+-- The characters that are read as symbols: those behind the head.
+pub symbols_count : (line : List ℕ) → length (symbols_in line) ≡ length line - head_length (form_in line)
+symbols_count line = let head = head_length (form_in line) in length-map (drop head line) digit_of ∙ length-drop head line
 
-pub symbols_read : (line : List ℕ) → map digit_of (take (length line - 4) (drop 4 line)) ≡ symbols_in line
-symbols_read line = ap (map digit_of) (take_all (length line - 4) (drop 4 line) (omega (arith, length-drop 4 line)))
+pub symbols_read : (line : List ℕ) {head : ℕ} → head ≡ head_length (form_in line) → map digit_of (take (length line - head) (drop head line)) ≡ symbols_in line
+symbols_read line {head} e =
+    ap (map digit_of) (take_all (length line - head) (drop head line) (omega (arith, length-drop head line)) ∙ ap (λ (t : ℕ). drop t line) e)
 
 module _ (line : List ℕ) (yes : HeadYes line) where
   abbrev p : Setting
@@ -59,7 +62,7 @@ module _ (line : List ℕ) (yes : HeadYes line) where
   pub symbols_long : length (symbols_in line) ≡ (blocks_in line + p.m) * p.n
   symbols_long = symbols_count line ∙ yes.long
 
-  pub sizes : Sizes p
+  sizes : Sizes p
   sizes = sizes_of (setting_in line) yes.setting
 
   pub blocks_is : blocks_of p (length (symbols_in line)) ≡ blocks_in line
@@ -75,7 +78,7 @@ module _ (line : List ℕ) (yes : HeadYes line) where
       let whole : long % p.n ≡ 0 = ap (λ (t : ℕ). t % p.n) symbols_long ∙ (whole_frame (blocks_in line) p.m p.n sizes.symbols).0 in
       let least : p.m + 1 ≤ blocks_in line + p.m = omega (arith, yes.blocks) in
       let room : window_length p ≤ long = omega (arith, symbols_long, mul-le-mul_right p.n least) in
-      let few : blocks_of p long ≤ most_blocks = omega (arith, blocks_is, yes.most) in
+      let few : blocks_of p long ≤ most_blocks = omega (arith, blocks_is, blocks_few yes) in
       three (is_setting (setting_in line)) (eqb (long % p.n) 0) (leb (window_length p) long) (leb (blocks_of p long) most_blocks)
       (true_of (is_setting (setting_in line)) yes.setting) (eq-eqb (long % p.n) 0 whole) (le-leb (window_length p) long room)
       (le-leb (blocks_of p long) most_blocks few)
@@ -104,7 +107,7 @@ module _ (line : List ℕ) (yes : HeadYes line) where
 
 -- The output line of a refusal.
 pub refusal_line : (line : List ℕ) (r : Answer) (x : List ℕ) → (r.number ≡ 0 → ⊥) → output_line line r x ≡ refusal r
-refusal_line line r x h = ap (λ (b : Bool). pick b (success r.altered (setting_in line) (blocks_in line) x) (refusal r)) (ne_eqb r.number 0 h)
+refusal_line line r x h = ap (λ (b : Bool). pick b (success r.altered (head_in line) x) (refusal r)) (ne_eqb r.number 0 h)
 
 -- Decoding's answer to the line's symbols is the line's, and its message is what is written.
 module _ (line : List ℕ) (holds : HoldsFrame line) where
@@ -156,8 +159,8 @@ module _ (line : List ℕ) (holds : HoldsFrame line) where
   any_room w R =
       let symbols : length (symbols_in line) ≤ most_symbols =
       subst (λ (t : ℕ). t ≤ most_symbols) (sym (symbols_long line yes_of))
-      (transmission_most (setting_in line) setting (blocks_in line) yes_of.setting refl yes_of.most) in
-      let message : message_length line ≤ most_information = message_most (setting_in line) setting (blocks_in line) yes_of.setting refl yes_of.most in
+      (transmission_most (setting_in line) (blocks_in line) yes_of.setting (blocks_few yes_of)) in
+      let message : message_length line ≤ most_information = message_most (setting_in line) (blocks_in line) yes_of.setting (blocks_few yes_of) in
       let a : length (symbols_in line) ≤ length w.reception = omega (arith, R.reception) in
       let b : length (symbols_in line) ≤ length w.transmission = omega (arith, R.transmission) in
       let c : message_length line ≤ length w.message = omega (arith, R.message) in
@@ -178,32 +181,29 @@ room_is line reception message transmission e =
     )
 
 -- The shape of a line's frame says how long its message is, and that of its setting is no longer than any.
-module _ {line : List ℕ} {s : Shape} (frame : FrameOf line s) where
-  pub shape_message : s.blocks * (parameters_of s.setting).k ≡ message_length line
-  shape_message = ap₂ (λ (T number : ℕ). T * (setting_of number).k) frame.head.blocks frame.head.setting
+module _ {line : List ℕ} {s : LineShape} (frame : FrameOf line s) where
+  pub shape_message : s.frame.blocks * (parameters_of s.frame.setting).k ≡ message_length line
+  shape_message = ap (λ (h : Head). h.blocks * (setting_of h.setting).k) frame.head
 
   pub shape_most : message_length line ≤ most_information
   shape_most =
       subst (λ (t : ℕ). t ≤ most_information) shape_message
-      (message_most (number_of s.setting) (parameters_of s.setting) s.blocks (number_known s.setting) refl s.few)
+      (message_most (number_of s.frame.setting) s.frame.blocks (number_known s.frame.setting) s.frame.few)
 
--- The symbols were read into the front of the reception ..
-front_long : (line front : List ℕ) → front ≡ map digit_of (take (length line - 4) (drop 4 line)) → length front ≡ length line - 4
-front_long line front e = ap length (e ∙ symbols_read line) ∙ symbols_count line
-
--- .. and decoded there.
-pub frame_left : (line : List ℕ) (number : ℕ) (front : List ℕ) (w : LineAreas) (r : Answer) (message' transmitted' : List ℕ)
-    → number ≡ setting_in line → front ≡ map digit_of (take (length line - 4) (drop 4 line))
-    → Decoded number (take (length line - 4) (front ++ drop (length line - 4) w.reception)) w.message w.transmission r message' transmitted'
-    → FrameLeft line w r (line_areas (front ++ drop (length line - 4) w.reception) message' transmitted')
-frame_left line number front w r message' transmitted' n e D =
-    let is : front ≡ symbols_in line = e ∙ symbols_read line in
+-- The symbols behind the head were read into the front of the reception, and decoded there.
+pub frame_left : (line : List ℕ) (number head : ℕ) (front : List ℕ) (w : LineAreas) (r : Answer) (message' transmitted' : List ℕ)
+    → number ≡ setting_in line → head ≡ head_length (form_in line) → front ≡ map digit_of (take (length line - head) (drop head line))
+    → Decoded number (take (length line - head) (front ++ drop (length line - head) w.reception)) w.message w.transmission r message' transmitted'
+    → FrameLeft line w r (line_areas (front ++ drop (length line - head) w.reception) message' transmitted')
+frame_left line number head front w r message' transmitted' n h e D =
+    let is : front ≡ symbols_in line = e ∙ symbols_read line h in
+    let long : length front ≡ length line - head = ap length is ∙ (symbols_count line ∙ ap (λ (t : ℕ). length line - t) (sym h)) in
     record {
-      symbols = ap₂ (λ (x : List ℕ) (t : ℕ). x ++ drop t w.reception) is (sym (symbols_count line));
+      symbols = ap₂ (λ (x : List ℕ) (t : ℕ). x ++ drop t w.reception) is (sym long ∙ ap length is);
       decoded =
           subst (λ (y : List ℕ). Decoded (setting_in line) y w.message w.transmission r message' transmitted')
-          (take_at front (drop (length line - 4) w.reception) (length line - 4) (front_long line front e) ∙ is)
-          (subst (λ (x : ℕ). Decoded x (take (length line - 4) (front ++ drop (length line - 4) w.reception)) w.message
+          (take_at front (drop (length line - head) w.reception) (length line - head) long ∙ is)
+          (subst (λ (x : ℕ). Decoded x (take (length line - head) (front ++ drop (length line - head) w.reception)) w.message
           w.transmission r message' transmitted') n D);
     }
 
@@ -217,46 +217,48 @@ frame_said {line} {w} {w'} {r} holds room left same =
     let said = frame_answered line holds w.message w.transmission r w'.message w'.transmission enough.2 enough.1 left.decoded in
     (said.0, omega (arith, enough.2, same), said.1)
 
--- An output line is an opening of ten characters and a message, or six characters.
-output_most : (line : List ℕ) (r : Answer) (x : List ℕ) → length (output_line line r x) ≤ 10 + length x
-output_most line r x = at (eqb r.number 0)
+-- An output line has six characters, or six before a head and a message: then the line holds a frame.
+output_long : (line : List ℕ) (r : Answer) (x : List ℕ) → length (output_line line r x) ≤ 6 + head_length (form_in line) + length x
+output_long line r x = at (eqb r.number 0)
   where
-    at : (b : Bool) → length (pick b (success r.altered (setting_in line) (blocks_in line) x) (refusal r)) ≤ 10 + length x
-    at true = omega (arith, success_long r.altered (setting_in line) (blocks_in line) x)
+    at : (b : Bool) → length (pick b (success r.altered (head_in line) x) (refusal r)) ≤ 6 + head_length (form_in line) + length x
+    at true = omega (arith, success_long r.altered (head_in line) x)
     at false = omega (arith, refusal_long r.number r.place)
 
--- The longest output line: an opening, and the longest message.
-abbrev pub most_answer : ℕ
-most_answer = 10 + most_information
+answers_within : (line text : List ℕ) (most : ℕ) → Answers line text → 6 ≤ most
+    → (HeadYes line → 6 + head_length (form_in line) + message_length line ≤ most) → length text ≤ most
+answers_within line text most (refused h e) six held =
+    omega (arith, ap length e, refusal_long (first_no (line_questions line)).number (first_no (line_questions line)).place)
+answers_within line text most (well_formed h r x y f e) six held =
+    let asked = head_yes line (frame_first line h) in
+    let p = setting_of (setting_in line) in
+    let message : length x ≡ message_length line = (parts_long p (sound_of (setting_in line) asked.setting) (blocks_in line) (symbols_in line) f).0 in
+    omega (arith, ap length e, output_long line r x, held asked)
 
-pub most_answer_lem : most_answer ≡ 2570
+-- The longest output line: six characters, the longest head, and the longest message.
+pub most_answer_lem : MOST_ANSWER ≡ 20491
 most_answer_lem = refl
 
--- So it is no longer than the longest success line ..
-pub answers_most : (line text : List ℕ) → Answers line text → length text ≤ most_answer
-answers_most line text (refused h e) = omega (arith, ap length e, refusal_long (first_no (line_questions line)).number (first_no (line_questions line)).place)
-answers_most line text (well_formed h r x y f e) =
-    let all = all_yes (line_questions line) tt h in
-    let p = setting_of (setting_in line) in
-    let few : blocks_in line ≤ most_blocks = leb→le (blocks_in line) most_blocks all.1.1.1.0 in
-    let long : length x ≡ blocks_in line * p.k = (parts_long p (sound_of (setting_in line) all.1.1.0) (blocks_in line) (symbols_in line) f).0 in
-    omega (arith, ap length e, output_most line r x, message_most (setting_in line) p (blocks_in line) all.1.1.0 refl few)
+-- None is longer than that ..
+pub answers_most : (line text : List ℕ) → Answers line text → length text ≤ MOST_ANSWER
+answers_most line text a = answers_within line text MOST_ANSWER a (lit≤ tt) most
+  where
+    most : HeadYes line → 6 + head_length (form_in line) + message_length line ≤ MOST_ANSWER
+    most asked =
+        let message : message_length line ≤ most_information =
+        message_most (setting_in line) (blocks_in line) asked.setting (blocks_few asked) in
+        omega (arith, length_most (form_known line))
 
--- .. and, each with its newline, at most seven times as long as the line: no message is longer than its frame.
-pub answers_sevenfold : (line text : List ℕ) → Answers line text → length text + 1 ≤ 7 * (length line + 1)
-answers_sevenfold line text (refused h e) =
-    omega (arith, ap length e, refusal_long (first_no (line_questions line)).number (first_no (line_questions line)).place)
-answers_sevenfold line text (well_formed h r x y f e) =
-    let all = all_yes (line_questions line) tt h in
-    let p = setting_of (setting_in line) in
-    let T = blocks_in line in
-    let sound = sound_of (setting_in line) all.1.1.0 in
-    let least : 4 ≤ length line = leb→le 4 (length line) (and_left (leb 4 (length line)) (eqb (right_to line) (length line)) all.1.0) in
-    let frame : length line - 4 ≡ (T + p.m) * p.n =
-    eqb→eq (length line - 4) ((T + p.m) * p.n) (and_right (leb 1 T) (eqb (length line - 4) ((T + p.m) * p.n)) all.1.1.1.1.0) in
-    let message : length x ≡ T * p.k = (parts_long p sound T (symbols_in line) f).0 in
-    let blocks : T ≤ T + p.m = omega arith in
-    omega (arith, ap length e, output_most line r x, mul-le-mul blocks (information_fits p sound))
+-- .. and at most six characters longer than the line: no message is longer than its frame.
+pub answers_room : (line text : List ℕ) → Answers line text → length text ≤ length line + 6
+answers_room line text a = answers_within line text (length line + 6) a (omega arith) room
+  where
+    room : HeadYes line → 6 + head_length (form_in line) + message_length line ≤ length line + 6
+    room asked =
+        let p = setting_of (setting_in line) in
+        let blocks : blocks_in line ≤ blocks_in line + p.m = omega arith in
+        let message : message_length line ≤ (blocks_in line + p.m) * p.n = mul-le-mul blocks (information_fits p (sound_of (setting_in line) asked.setting)) in
+        omega (arith, asked.least, asked.long)
 
 -- With room for every frame each line is answered.
 pub answered_shown : (line : List ℕ) (w : LineAreas) (output : List ℕ) (r : ℕ) (w' : LineAreas) (output' : List ℕ) → RoomForAll w

@@ -1,5 +1,5 @@
 -- A text that is written part by part at the front of a lent area.
--- Holds: `placed_none`, `placed_part`; `shown_whole`, `shown_none`, `shown_success`; `number_long`, `refusal_long`,
+-- Holds: `placed_none`, `placed_part`, `behind_both`; `shown_whole`, `shown_none`, `shown_success`; `number_long`, `refusal_long`,
 -- `head_long`, `opening_long`, `success_long` (lengths of what is written).
 use mathlib.Core.Path.{◌≡◌, refl, sym, ap, ap₂, subst, ◌∙◌}
 use mathlib.Core.Bool.{Bool, true, false}
@@ -13,8 +13,9 @@ use borrow.Author.Tests.{le-leb, lt-leb}
 use borrow.Rule.Slice.PartMut.{put_mid, Post-is}
 use Rattle.algebra.specs.Ops.{pick}
 use Rattle.line.specs.Characters.{character_of, hex}
+use Rattle.line.specs.Heads.{head_length, Head, head_text}
 use Rattle.line.specs.Answering.{opening, success, Shown}
-use Rattle.line.specs.parts.Writing.{Placed}
+use Rattle.line.specs.parts.Writing.{Placed, WrittenBehind}
 use Rattle.line.proofs.Hex.{length_hex}
 
 pub placed_none : (before : List ℕ) → Placed [] before before
@@ -46,6 +47,17 @@ placed_part done part before area from to start long order room w =
         ap₂ (λ (a b : List ℕ). a ++ (part ++ b)) front (Post-is from to area order ∙ rest)
         ∙ sym (append_assoc done part (drop (length (done ++ part)) before))
 
+-- Two parts, one behind the other, are one.
+pub behind_both : {from to : ℕ} {a b x y z : List ℕ} → WrittenBehind from a x y → WrittenBehind to b y z → to ≡ from + length a
+    → WrittenBehind from (a ++ b) x z
+behind_both {from} {to} {a} {b} {x} {y} {z} A B e =
+    record {
+      long = B.long ∙ A.long;
+      behind =
+          λ {done} {start} f w. subst (λ (t : List ℕ). Placed t start z) (append_assoc done a b)
+          (B.behind (length-append done a ∙ (ap (λ (t : ℕ). t + length a) f ∙ sym e)) (A.behind f w));
+    }
+
 -- The lengths of output lines, part by part.
 number_next : (done : List ℕ) (count number from : ℕ) → length done ≡ from → length (done ++ hex count number) ≡ from + count
 number_next done count number from e = omega (arith, length-append done (hex count number), length_hex count number)
@@ -56,11 +68,11 @@ number_long a = length_hex 2 a
 pub refusal_long : (a b : ℕ) → length (hex 2 a ++ hex 4 b) ≡ 6
 refusal_long a b = number_next (hex 2 a) 4 b 2 (number_long a)
 
-pub head_long : (a b c : ℕ) → length ((hex 2 a ++ hex 4 b) ++ hex 1 c) ≡ 7
-head_long a b c = number_next (hex 2 a ++ hex 4 b) 1 c 6 (refusal_long a b)
+pub head_long : (head : Head) → length (head_text head) ≡ head_length head.form
+head_long head = number_next (hex 1 (head.form.above + head.setting)) head.form.digits head.blocks 1 (length_hex 1 (head.form.above + head.setting))
 
-pub opening_long : (count number blocks : ℕ) → length (opening count number blocks) ≡ 10
-opening_long count number blocks = number_next ((hex 2 0 ++ hex 4 count) ++ hex 1 number) 3 blocks 7 (head_long 0 count number)
+pub opening_long : (count : ℕ) (head : Head) → length (opening count head) ≡ 6 + head_length head.form
+opening_long count head = omega (arith, length-append (hex 2 0 ++ hex 4 count) (head_text head), refusal_long 0 count, head_long head)
 
 -- The whole text is there, or there was no room for it.
 pub shown_whole : (text before area : List ℕ) (r : ℕ) → length text ≡ r → Placed text before area → Shown text before r area
@@ -80,17 +92,17 @@ shown_none text before h =
     }
 
 -- A success line: its length, and its message written behind the opening.
-module _ (count number blocks : ℕ) (message : List ℕ) where
-  pub success_long : length (success count number blocks message) ≡ 10 + length message
+module _ (count : ℕ) (head : Head) (message : List ℕ) where
+  pub success_long : length (success count head message) ≡ 6 + head_length head.form + length message
   success_long =
-      omega (arith, length-append (opening count number blocks) (map character_of message), opening_long count number blocks, length-map message character_of)
+      omega (arith, length-append (opening count head) (map character_of message), opening_long count head, length-map message character_of)
 
-  pub shown_success : (before area : List ℕ) {part : List ℕ} → 10 + length message ≤ length before → part ≡ map character_of message
-      → Placed (opening count number blocks) before area
-      → Shown (success count number blocks message) before (10 + length message) (put_mid 10 (10 + length message - 10) area part)
-  shown_success before area {part} room e w =
-      let symbols : length part ≡ 10 + length message - 10 = omega (arith, ap length e, length-map message character_of) in
-      let least : 10 ≤ 10 + length message = omega arith in
-      shown_whole (success count number blocks message) before _ (10 + length message) success_long
-      (subst (λ (t : List ℕ). Placed (opening count number blocks ++ t) before (put_mid 10 (10 + length message - 10) area part)) e
-      (placed_part (opening count number blocks) part before area 10 (10 + length message) (opening_long count number blocks) symbols least room w))
+  pub shown_success : (before area : List ℕ) {part : List ℕ} (start : ℕ) → start ≡ 6 + head_length head.form → start + length message ≤ length before
+      → part ≡ map character_of message → Placed (opening count head) before area
+      → Shown (success count head message) before (start + length message) (put_mid start (start + length message - start) area part)
+  shown_success before area {part} start s room p w =
+      let symbols : length part ≡ start + length message - start = omega (arith, ap length p, length-map message character_of) in
+      let whole : length (success count head message) ≡ start + length message = omega (arith, success_long) in
+      shown_whole (success count head message) before _ (start + length message) whole
+      (subst (λ (t : List ℕ). Placed (opening count head ++ t) before (put_mid start (start + length message - start) area part)) p
+      (placed_part (opening count head) part before area start (start + length message) (opening_long count head ∙ sym s) symbols (omega arith) room w))

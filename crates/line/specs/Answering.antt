@@ -1,6 +1,6 @@
--- What answering a line promises (01, "Lines at the planning desk"). Holds: `refusal`, `opening` and `success`, the two kinds of output line;
--- `message_length`, `message_in`; `output_line`, `Answers`, which of them a line gets; `Shown`, a text in a lent area; `AnswerShown`; `LineAreas`, `line_areas`,
--- the working areas, `has_room`, `room_in`, `RoomForAll`, `FrameLeft`; `Answered`, a whole call; that it leaves nothing open, `LineDetermined`.
+-- What answering a line promises (01, "Lines at the planning desk"; 02, #107). Holds: `refusal`, `opening` and `success`, the two kinds of output line;
+-- `message_length`, `message_in`; `output_line`, `Answers`, which of them a line gets; `DigitsEnough`; `Shown`, a text in a lent area; `AnswerShown`; `LineAreas`,
+-- `line_areas`, the working areas, `has_room`, `room_in`, `RoomForAll`, `FrameLeft`; `Answered`, a whole call; that it leaves nothing open, `LineDetermined`.
 use Rattle.std.specs.Prelude.{◌≡◌, Bool, true, false, ◌&&◌, List, ◌++◌, map, ℕ, ◌*◌, ◌≤◌, eqb, leb, length, take}
 use Rattle.algebra.specs.Ops.{pick}
 use Rattle.area.specs.Lists.{overwritten}
@@ -9,18 +9,19 @@ use Rattle.question.specs.declared.answer.Answer.{Answer}
 use Rattle.question.specs.Questions.{first_no, most_symbols, most_information}
 use Rattle.link.specs.Decoding.{FrameDecoded, Decoded}
 use Rattle.line.specs.Characters.{character_of, hex}
-use Rattle.line.specs.Questions.{setting_in, blocks_in, symbols_in, HoldsFrame, line_questions}
+use Rattle.line.specs.Heads.{Head, head_in, setting_in, blocks_in, symbols_in, head_text}
+use Rattle.line.specs.Questions.{HoldsFrame, line_questions}
 
 -- "else two digits of the question's number and four of the place"
 abbrev pub refusal : Answer → List ℕ
 refusal a = hex 2 a.number ++ hex 4 a.place
 
--- "on success `00`, four digits of altered count, the setting digit, three of T, and the message symbols"
-abbrev pub opening : ℕ → ℕ → ℕ → List ℕ
-opening count number T = hex 2 0 ++ hex 4 count ++ hex 1 number ++ hex 3 T
+-- "on success `00`, four digits of altered count, the setting digit, three of T, and the message symbols"; a long head has four digits of T.
+abbrev pub opening : ℕ → Head → List ℕ
+opening count head = hex 2 0 ++ hex 4 count ++ head_text head
 
-abbrev pub success : ℕ → ℕ → ℕ → List ℕ → List ℕ
-success count number T message = opening count number T ++ map character_of message
+abbrev pub success : ℕ → Head → List ℕ → List ℕ
+success count head message = opening count head ++ map character_of message
 
 -- T × k, and the part of a message area that the line's message takes.
 abbrev pub message_length : List ℕ → ℕ
@@ -31,7 +32,7 @@ message_in line area = take (message_length line) area
 
 -- The output line of an answer to a line, and the message where a message fits.
 abbrev pub output_line : List ℕ → Answer → List ℕ → List ℕ
-output_line line r message = pick (eqb r.number 0) (success r.altered (setting_in line) (blocks_in line) message) (refusal r)
+output_line line r message = pick (eqb r.number 0) (success r.altered (head_in line) message) (refusal r)
 
 -- The output line for a line.
 pub data Answers (line text : List ℕ) : Type 0 where
@@ -40,6 +41,12 @@ pub data Answers (line text : List ℕ) : Type 0 where
   -- Question 7 is asked of the line's frame: a message that fits, or number 7.
   well_formed : (first_no (line_questions line)).number ≡ 0 → (r : Answer) (message sent : List ℕ)
       → FrameDecoded (setting_of (setting_in line)) (blocks_in line) (symbols_in line) r message sent → text ≡ output_line line r message → Answers line text
+
+-- No digit of a place or a count is lost: four say every place that a line's questions give, and every altered count (`digits_enough`, proofs/Enough).
+abbrev pub DigitsEnough : Type 0
+DigitsEnough = (line : List ℕ) → ((first_no (line_questions line)).place ≤ 61489)
+    × ((first_no (line_questions line)).number ≡ 0 → (r : Answer) (message sent : List ℕ)
+    → FrameDecoded (setting_of (setting_in line)) (blocks_in line) (symbols_in line) r message sent → r.altered ≤ 16384)
 
 -- A text at the front of a lent area, r its length. An area too small for it is left as it was, and r is 0.
 pub record Shown (text before : List ℕ) (r : ℕ) (after : List ℕ) : Type 0 where

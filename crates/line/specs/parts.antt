@@ -1,3 +1,3 @@
 -- What functions promise one another.
-pub mod Heads
+pub mod Frames
 pub mod Writing

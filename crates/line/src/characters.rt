@@ -1,14 +1,14 @@
 // Characters and digits, one by one and in runs.
-ghost use Rattle.std.specs.Prelude.{◌≡◌, not, map, ◌<◌, All, length, position};
+ghost use Rattle.std.specs.Prelude.{◌≡◌, not, map, ◌≤◌, ◌<◌, All, length, position};
 ghost use Rattle.std.specs.List.{AllZip};
 ghost use Rattle.field.specs.Symbols.{Symbols};
-ghost use Rattle.line.specs.Characters.{digit_of, character_of};
+ghost use Rattle.line.specs.Characters.{digit_of, character_of, number_in};
 ghost use Rattle.line.specs.Questions.{is_digit, is_digit_or_mark};
 
 use question::UNKNOWN_MARK;
 
 // What a character stands for: one of 0-9 and a-f for its value, `-` for an unknown symbol; any other has 16. By hand: std's `to_digit` takes A-F too.
-#[tactic(auto, using(crate::proofs::Digits::digits))]
+#[tactic(auto, using(std::proofs::lemmas::Bool::Decides::nat_tests), unfolding(crate::specs::Characters::digit_of, crate::specs::Characters::character_of))]
 pub fn value(character: u8) -> u8
     ensures { result ≡ digit_of character }
 {
@@ -21,7 +21,7 @@ pub fn value(character: u8) -> u8
 }
 
 // The character of a value.
-#[tactic(auto, using(crate::proofs::Digits::digits))]
+#[tactic(auto, using(std::proofs::lemmas::Bool::Decides::nat_tests), unfolding(crate::specs::Characters::digit_of, crate::specs::Characters::character_of))]
 pub fn character(digit: u8) -> u8
     requires { digit < 16 }
     ensures { result ≡ character_of digit }
@@ -48,6 +48,18 @@ pub fn first_wrong_in_frame(frame: &[u8]) -> Option<usize>
     frame
         .iter()
         .position(|character| !question::is_received(16, value(*character)))
+}
+
+// The number that at most four digits say; a character that is none counts with its value.
+pub fn read_number(digits: &[u8]) -> usize
+    requires { length digits.now ≤ 4 }
+    ensures { result ≡ number_in digits.now }
+{
+    let mut number = 0;
+    for character in digits {
+        number = number * 16 + usize::from(value(*character));
+    }
+    number
 }
 
 // Writes what the closure gives for each byte, in an area of just their length.

@@ -4,40 +4,42 @@
 ghost use Rattle.std.specs.Prelude.{◌≡◌, List, ℕ, true};
 ghost use Rattle.question.specs.Refusals.{answered};
 ghost use Rattle.line.specs.Answering.{line_areas, has_room, room_in, FrameLeft, Answered};
-ghost use Rattle.line.specs.parts.Heads.{FrameOf};
+ghost use Rattle.line.specs.parts.Frames.{FrameOf};
 
 mod characters;
+mod head;
 mod questions;
 mod writing;
 
+use head::LineShape;
 use question::answer::Counts;
 use question::refusal::Refusal;
-use question::shape::Shape;
+use question::shape::MOST_BLOCKS;
 
-// The most symbols of a frame, and of its message, in any setting.
-pub const MOST_SYMBOLS: usize = 7725;
+// The most symbols of a frame, setting 4's, and of a message, setting 5's.
+pub const MOST_SYMBOLS: usize = (MOST_BLOCKS + 3) * 15;
 
-pub const MOST_INFORMATION: usize = 2560;
+pub const MOST_INFORMATION: usize = MOST_BLOCKS * 5;
 
-// The longest line, four characters before a frame; and the longest answer, ten before a message.
-pub const MOST_CHARACTERS: usize = 4 + MOST_SYMBOLS;
+// The longest line: a head, and a frame. The longest answer: six characters, the head again, and a message.
+pub const MOST_CHARACTERS: usize = head::LONGEST + MOST_SYMBOLS;
 
-pub const MOST_ANSWER: usize = 10 + MOST_INFORMATION;
+pub const MOST_ANSWER: usize = 6 + head::LONGEST + MOST_INFORMATION;
 
 // The working areas are parts of any size that the caller lends, by 01: they stay three slices, which no struct of arrays can be.
 
 // Whether working areas of these sizes have room for a line's frame of this shape.
-fn has_room(shape: Shape, reception: usize, message: usize, transmission: usize) -> bool
+fn has_room(shape: LineShape, reception: usize, message: usize, transmission: usize) -> bool
     ensures { (line : List ℕ) → FrameOf line shape → result ≡ has_room line reception message transmission }
 {
-    let long = shape.transmission_length();
-    long <= reception && long <= transmission && shape.message_length() <= message
+    let long = shape.frame.transmission_length();
+    long <= reception && long <= transmission && shape.frame.message_length() <= message
 }
 
 // Questions 4 and 7 of a line that holds a frame of this shape: its symbols are read into the reception and decoded.
 fn decode_line(
     line: &[u8],
-    shape: Shape,
+    shape: LineShape,
     reception: &mut [u8],
     message: &mut [u8],
     transmission: &mut [u8],
@@ -45,9 +47,10 @@ fn decode_line(
     requires { FrameOf line.now shape × (room_in line.now (line_areas reception.old message.old transmission.old) ≡ true) }
     ensures { FrameLeft line.now (line_areas reception.old message.old transmission.old) (answered result) (line_areas reception.new message.new transmission.new) }
 {
-    let number = u64::from(shape.setting);
-    let long = line.len() - 4;
-    characters::read_digits(&line[4..], &mut reception[..long]);
+    let number = u64::from(shape.frame.setting);
+    let head = shape.form.length();
+    let long = line.len() - head;
+    characters::read_digits(&line[head..], &mut reception[..long]);
     link::decode::decode(number, &reception[..long], message, transmission)
 }
 
@@ -74,7 +77,7 @@ pub fn answer_line(
         Ok(counts) => writing::write_success(
             counts.altered,
             shape,
-            &message[..shape.message_length()],
+            &message[..shape.frame.message_length()],
             output,
         ),
         Err(refusal) => writing::write_refusal(refusal, output),

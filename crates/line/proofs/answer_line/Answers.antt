@@ -1,5 +1,5 @@
 -- `line::answer_line`: a line that holds no frame, no room for its frame, or what decoding the frame says.
-use mathlib.Core.Path.{◌≡◌, refl, sym, ap, ap₂, subst, ◌∙◌}
+use mathlib.Core.Path.{◌≡◌, refl, sym, ap₂, subst, ◌∙◌}
 use mathlib.Core.List.{List}
 use Prim.Native.Nat.{ℕ, ◌≤◌}
 use native.Mathlib.Omega.{arith}
@@ -8,7 +8,7 @@ use Rattle.std.specs.Prelude.{Err}
 use Rattle.field.specs.Symbols.{Symbols}
 use Rattle.question.specs.Refusals.{answered}
 use Rattle.question.proofs.Shapes.{refusal_numbered}
-use Rattle.line.specs.Questions.{setting_in, blocks_in}
+use Rattle.line.specs.Heads.{Head, head_in}
 use Rattle.line.specs.Answering.{Answers, success, Shown, message_length, message_in, decoded}
 use Rattle.line.proofs.Frames.{refusal_line, shape_message, shape_most, frame_said}
 use Rattle.line.proofs.answer_line.Goals as goal
@@ -20,7 +20,7 @@ message_long c = c.message_length.ensures ∙ shape_message c.in-Ok.ensures.shap
 
 message_said : (c : After-message_length)
     → Answers c.args.line.now
-    (success c.in-Ok-decode_line.counts.altered (setting_in c.args.line.now) (blocks_in c.args.line.now) (message_in c.args.line.now c.decode_line.new.message))
+    (success c.in-Ok-decode_line.counts.altered (head_in c.args.line.now) (message_in c.args.line.now c.decode_line.new.message))
     × (message_length c.args.line.now ≤ length c.decode_line.new.message)
     × (◌≡◌ {A = ℕ} 0 0 → Symbols 16 (message_in c.args.line.now c.decode_line.new.message))
 message_said c =
@@ -34,10 +34,11 @@ returns-in-Err-decode_line c =
     let frame = c.in-Ok.ensures.shape in
     let room = sym (c.has_room.ensures line frame) ∙ c.if-not-has_room.false in
     let found = frame_said frame.holds room c.in-Err-decode_line.ensures c.decode_line.auto.message in
+    let refusal = c.in-Err-decode_line.refusal in
     decoded frame.holds room _ c.in-Err-decode_line.ensures
     (record {
       text = _;
-      answers = subst (Answers line) (refusal_line line (answered (Err c.in-Err-decode_line.refusal)) _ (refusal_numbered c.in-Err-decode_line.refusal)) found.0;
+      answers = subst (Answers line) (refusal_line line (answered (Err refusal)) _ (refusal_numbered refusal)) found.0;
       shown = c.write_refusal-in-Err-decode_line.ensures;
     })
 
@@ -65,8 +66,7 @@ returns-in-Ok-decode_line c =
     let frame = c.in-Ok.ensures.shape in
     let room = sym (c.has_room.ensures line frame) ∙ c.if-not-has_room.false in
     let text =
-    ap₂ (λ (number T : ℕ). success altered number T (take c.message_length.result message)) frame.head.setting frame.head.blocks
-    ∙ ap (λ (t : ℕ). success altered (setting_in line) (blocks_in line) (take t message)) (message_long found) in
+    ap₂ (λ (head : Head) (t : ℕ). success altered head (take t message)) frame.head (message_long found) in
     decoded frame.holds room _ c.in-Ok-decode_line.ensures
     (record {
       text = _;

@@ -1,25 +1,16 @@
 -- `line::writing::write_success`: the opening, then the message.
-use Prim.Native.Nat.{◌+◌, ◌≤◌, ◌<◌}
+use mathlib.Core.Path.{ap}
+use Prim.Native.Nat.{ℕ, ◌+◌}
 use native.Mathlib.Omega.{arith}
-use lib.ListN.{length}
-use Rattle.code.specs.parts.SettingNumbers.{number_of}
-use Rattle.line.specs.Answering.{success}
+use Rattle.line.specs.parts.Frames.{head_of}
 use Rattle.line.proofs.Placed.{shown_success, shown_none, success_long}
 use Rattle.line.proofs.writing.write_success.Goals as goal
 
-pub returns-then-output-long : goal.returns-then-output-long
-returns-then-output-long c =
-    let args = c.args in
-    let number = number_of args.shape.setting in
-    let message = args.message.now in
-    let before = args.output.now in
-    let small : length before < length (success args.altered number args.shape.blocks message) =
-    omega (arith, c.if-output-long.true, success_long args.altered number args.shape.blocks message) in
-    shown_none (success args.altered number args.shape.blocks message) before small
+pub returns-then-output-end : goal.returns-then-output-end
+returns-then-output-end c = let a = c.args in shown_none _ _ (omega (arith, success_long a.altered (head_of a.shape) a.message.now))
 
 pub returns : goal.returns
 returns c =
-    let args = c.args in
-    let room : 10 + length args.message.now ≤ length args.output.now = omega (arith, c.if-output-long.false) in
-    shown_success args.altered (number_of args.shape.setting) args.shape.blocks args.message.now args.output.now _ room
+    let a = c.args in
+    shown_success a.altered (head_of a.shape) a.message.now a.output.now _ _ (ap (λ (t : ℕ). 6 + t) c.length-start.ensures) c.if-output-end.false
     c.write_symbols.ensures c.write_opening.ensures
