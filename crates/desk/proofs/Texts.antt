@@ -21,9 +21,9 @@ use Rattle.std.proofs.lemmas.Slice.{take-put_mid}
 use Rattle.algebra.specs.Ops.{pick}
 use Rattle.line.specs.Questions.{most_characters}
 use Rattle.line.specs.Answering.{Answers, AnswerShown}
-use Rattle.line.proofs.Frames.{answers_sevenfold, answers_kept}
+use Rattle.line.proofs.Frames.{answers_room, answers_kept}
 use Rattle.desk.specs.Texts.{newline, is_newline, lines_of, rest_of, last_of, Output, none, next}
-use Rattle.desk.specs.Turns.{KeptLine, kept_line, Kept, answers_room, TextAnswered, Turned, came}
+use Rattle.desk.specs.Turns.{KeptLine, kept_line, Kept, output_room, TextAnswered, Turned, came}
 use Rattle.desk.specs.parts.Lines.{Behind}
 
 -- A text in two parts.
@@ -138,8 +138,8 @@ appended bytes part source filled from room k long inside behind e n =
     front = length-take-le filled bytes (omega arith)
 
 -- An answer and its newline behind the output that waits, as the line's answer and what is appended leave it.
-pub put_behind : (line before bytes shown after : List ℕ) (filled from k r room : ℕ) → take filled bytes ≡ before → length before + answers_room (length line + 1) ≤ room
-    → filled ≤ room → length bytes ≡ room → from ≡ filled → k ≡ room - from → AnswerShown line (take k (drop from bytes)) r shown
+pub put_behind : (line before bytes shown after : List ℕ) (filled from k r room : ℕ) → take filled bytes ≡ before
+    → length before + output_room (length line) 0 ≤ room → filled ≤ room → length bytes ≡ room → from ≡ filled → k ≡ room - from → AnswerShown line (take k (drop from bytes)) r shown
     → after ≡ take room (take (from + r) (put_mid from k bytes shown) ++ newline ∷ []) → Behind line before after
 put_behind line before bytes shown after filled from k r room kept fits inside long behind rest A e =
     record {
@@ -158,8 +158,8 @@ put_behind line before bytes shown after filled from k r room kept fits inside l
     waits : length before ≡ from
     waits = ap length (sym front) ∙ length-take-le from bytes (omega arith)
 
-    most : length A.text + 1 ≤ answers_room (length line + 1)
-    most = answers_sevenfold line A.text A.answers
+    most : length A.text ≤ length line + 6
+    most = answers_room line A.text A.answers
 
     has_room : leb (length A.text) (length over) ≡ true
     has_room = le-leb (length A.text) (length over) (omega (arith, most, waits, length-take k (drop from bytes), length-drop from bytes))

@@ -1,7 +1,7 @@
 -- One turn of the desk: a read, what is kept of a line from turn to turn, and what is written (01, "Lines at the planning desk").
--- Holds: `KeptLine`, `kept_line`, `Kept`; `answers_room`; `EndAnswered`, `TextAnswered`, `Turned` (what `lines::Desk::turn` promises); `Run` (turns to the end
+-- Holds: `KeptLine`, `kept_line`, `Kept`; `output_room`; `EndAnswered`, `TextAnswered`, `Turned` (what `lines::Desk::turn` promises); `Run` (turns to the end
 -- of an input), `RunAnswers`.
-use Rattle.std.specs.Prelude.{◌≡◌, List, [], ◌∷◌, ◌++◌, ℕ, ◌*◌, Option, Some, None, take}
+use Rattle.std.specs.Prelude.{◌≡◌, List, [], ◌∷◌, ◌++◌, ℕ, ◌+◌, ◌*◌, Option, Some, None, take}
 use Rattle.desk.specs.Texts.{lines_of, rest_of, last_of, all_lines, Output}
 
 -- What is kept of a line, and for how many characters of one there is room.
@@ -16,9 +16,11 @@ kept_line room characters = record { room = room; characters = characters }
 abbrev pub Kept : List ℕ → KeptLine → Type 0
 Kept begun line = line.characters ≡ take line.room begun
 
--- As many characters as answers with their newlines take at most, where their lines with their newlines take so many (`answers_sevenfold`, line/proofs/Frames).
-abbrev pub answers_room : ℕ → ℕ
-answers_room characters = 7 * characters
+-- As many characters as the answers of a turn and their newlines take at most, where so many characters of a line are kept and a text of so many comes, or the
+-- input ends. An answer is at most six characters longer than its line (`answers_room`, line/proofs/Frames): a character that is kept costs one, and one that
+-- comes seven, since it may end a line. The end of the input may end one too.
+abbrev pub output_room : ℕ → ℕ → ℕ
+output_room kept text = kept + 7 * (text + 1)
 
 -- The input has ended: the line that is begun is answered, unless it is empty, whatever line that was.
 abbrev pub EndAnswered : KeptLine → List ℕ → Type 0

@@ -3,7 +3,7 @@ ghost use Rattle.std.specs.Prelude.{◌≡◌, ◌+◌, ◌≤◌, [], length, I
 ghost use Rattle.std.specs.List.{position};
 ghost use Rattle.std.specs.Option.{option_copied};
 ghost use Rattle.desk.specs.Texts.{is_newline};
-ghost use Rattle.desk.specs.Turns.{kept_line, answers_room, EndAnswered, TextAnswered, Turned};
+ghost use Rattle.desk.specs.Turns.{kept_line, output_room, EndAnswered, TextAnswered, Turned};
 ghost use Rattle.desk.specs.parts.Lines.{Behind};
 
 use crate::text::Text;
@@ -37,7 +37,7 @@ fn newline_in(text: &[u8]) -> Option<usize>
 // The answer to a line, and its newline, behind the output that waits. `answer_line` writes into a part that it is lent and says how long the answer is,
 // so the text's own fields are used here.
 fn put<const OUTPUT: usize>(line: &[u8], areas: &mut Areas, output: &mut Text<OUTPUT>)
-    requires { length output.old + answers_room (length line.now + 1) ≤ OUTPUT }
+    requires { length output.old + output_room (length line.now) 0 ≤ OUTPUT }
     ensures { Behind line.now output.old output.new }
 {
     let from = output.filled;
@@ -71,7 +71,7 @@ impl<const OUTPUT: usize> Desk<OUTPUT> {
 
     // Answers the line that is kept. None is begun then.
     fn answer(&mut self)
-        requires { length self.old.output + answers_room (length self.old.line + 1) ≤ OUTPUT }
+        requires { length self.old.output + output_room (length self.old.line) 0 ≤ OUTPUT }
         ensures written { Behind self.old.line self.old.output self.new.output }
         ensures kept { self.new.line ≡ [] }
     {
@@ -82,7 +82,7 @@ impl<const OUTPUT: usize> Desk<OUTPUT> {
     // Answers the lines that a text ends, and keeps the line that follows.
     fn answer_lines(&mut self, text: &[u8])
         requires empty { self.old.output ≡ [] }
-        requires room { answers_room (LINE + 1 + length text.now) ≤ OUTPUT }
+        requires room { output_room LINE (length text.now) ≤ OUTPUT }
         ensures { TextAnswered text.now (kept_line LINE self.old.line) (kept_line LINE self.new.line) self.new.output }
     {
         let mut rest = text;
@@ -97,7 +97,7 @@ impl<const OUTPUT: usize> Desk<OUTPUT> {
     // Answers the last line, where no newline ends it; an empty one is none.
     fn answer_last(&mut self)
         requires empty { self.old.output ≡ [] }
-        requires room { answers_room (LINE + 1) ≤ OUTPUT }
+        requires room { output_room LINE 0 ≤ OUTPUT }
         ensures { EndAnswered (kept_line LINE self.old.line) self.new.output }
     {
         if !self.line.as_bytes().is_empty() {
@@ -107,7 +107,7 @@ impl<const OUTPUT: usize> Desk<OUTPUT> {
 
     // One turn of the desk, on what a read gave: nothing where a signal interrupted it, and an empty text at the end of the input.
     pub fn turn(&mut self, read: Option<&[u8]>)
-        requires { IfSome (option_copied read) (λ text. answers_room (LINE + 1 + length text) ≤ OUTPUT) }
+        requires { IfSome (option_copied read) (λ text. output_room LINE (length text) ≤ OUTPUT) }
         ensures { Turned (option_copied read.entry) (kept_line LINE self.old.line) (kept_line LINE self.new.line) self.new.output }
     {
         self.output.clear();

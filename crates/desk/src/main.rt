@@ -17,8 +17,9 @@ use text::Text;
 // How much a read may give.
 const INPUT: usize = 4096;
 
-// Room for the answers to a read and to the line that it goes on with, each with a newline.
-const OUTPUT: usize = 7 * (LINE + 1 + INPUT);
+// Room for the answers of a turn, each with a newline. An answer is at most six characters longer than its line: a character that is kept of a line costs one,
+// and one that is read seven, since it may end a line. The end of the input may end one too.
+const OUTPUT: usize = LINE + 7 * (INPUT + 1);
 
 // Room for a message on standard error, and for that with a newline.
 const MESSAGE: usize = 255;
