@@ -25,7 +25,7 @@
 enum side { BEHIND, BEFORE, SIDES };
 
 /* How many bytes more than needed an area has where that is tried, and room for the longest. */
-enum { MORE = 5, ROOM = 64 * 1024 };
+enum { MORE = 5, ROOM = 512 * 1024 };
 
 /* An area between two pages that must not be touched, against one of them. */
 struct area {

@@ -222,19 +222,21 @@ static void receive_dropped(const struct dropped *given)
     take_back(repaired);
 }
 
-/* Frames to weave, and where a run of damage begins. In these settings d is 2t + 1: where t + 1
-   symbols of a window are altered, no message fits. */
+/* Frames to weave, of orders of so many blocks, and where a run of damage begins. In these settings
+   d is 2t + 1: where t + 1 symbols of a window are altered, no message fits. */
 static const struct weaving {
     uint64_t setting;
-    size_t frames, start;
+    size_t frames, blocks, start;
 } weavings[] = {
-    { 2, 3, 0 },
-    { 4, 8, 301 },
-    { 5, 2, 55 },
+    { 2, 3, 3, 0 },
+    { 4, 8, 3, 301 },
+    { 5, 2, 3, 55 },
+    /* As many symbols as may be woven, and a run of 8 * 33 + 1 to the last of them. */
+    { 4, MOST_FRAMES, MOST_BLOCKS, 8 * (MOST_BLOCKS + 3) * 15 - (8 * 33 + 1) },
 };
 
-/* The blocks of each of these orders, and how many bytes more than needed their areas have. */
-enum { WOVEN_BLOCKS = 3, MORE = 3 };
+/* How many bytes more than needed their areas have. */
+enum { MORE = 3 };
 
 /* Weaves frames of a length and unweaves them again. */
 static void weave_and_back(const struct weaving *given, const uint8_t *apart, size_t length)
@@ -288,8 +290,8 @@ static void strike_and_receive(const struct weaving *given, bool dropped, const 
         EXPECT(all(message.bytes + orders_length, MORE, UNTOUCHED));
         EXPECT(all(repaired.bytes + whole, MORE, UNTOUCHED));
     }
-    printf("setting %u, %zu orders woven: all back from a run of %zu %s symbols\n",
-           (unsigned)given->setting, frames, run, dropped ? "unknown" : "altered");
+    printf("setting %u, %zu orders of %zu blocks woven: all back from a run of %zu %s symbols\n",
+           (unsigned)given->setting, frames, given->blocks, run, dropped ? "unknown" : "altered");
     printf("one symbol more: number 7 and zeros for order %zu, the others back\n", lost);
     take_back(woven);
     take_back(order);
@@ -298,12 +300,23 @@ static void strike_and_receive(const struct weaving *given, bool dropped, const 
     take_back(repaired);
 }
 
+/* Frames whose very last byte is no symbol: every call refuses them and gives its place. */
+static void last_symbol_wrong(const struct weaving *given, const uint8_t *incoming, size_t length)
+{
+    uint64_t setting = given->setting, frames = given->frames, place = length - 1;
+    EXPECT(answers(orderlink_weave(setting, frames, incoming, length, NULL, 0), 4, place));
+    EXPECT(answers(orderlink_unweave(setting, frames, incoming, length, NULL, 0), 4, place));
+    EXPECT(refuses(orderlink_decode_woven(setting, frames, incoming, length, NULL, 0, NULL, 0),
+                   4, place));
+    printf("a wrong symbol at place %u: number 4 and this place\n", (unsigned)place);
+}
+
 /* Sends orders woven, and receives them. Unknown symbols are woven like others. */
 static void weave_and_receive(const struct weaving *given)
 {
     const struct setting *setting = &settings[given->setting - 1];
-    size_t order_length = message_length(setting, WOVEN_BLOCKS);
-    size_t length = transmission_length(setting, WOVEN_BLOCKS);
+    size_t order_length = message_length(setting, given->blocks);
+    size_t length = transmission_length(setting, given->blocks);
     struct area orders = lend(given->frames * order_length), apart = lend(given->frames * length);
     for (size_t i = 0; i < orders.length; i++)
         orders.bytes[i] = (uint8_t)((i * i / 3 + 1) % setting->q);
@@ -316,6 +329,8 @@ static void weave_and_receive(const struct weaving *given)
     for (size_t i = 0; i < apart.length; i += 5)
         apart.bytes[i] = UNKNOWN;
     weave_and_back(given, apart.bytes, length);
+    apart.bytes[apart.length - 1] = 254;
+    last_symbol_wrong(given, apart.bytes, apart.length);
     take_back(orders);
     take_back(apart);
 }

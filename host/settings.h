@@ -8,7 +8,7 @@
 #include <stdint.h>
 #include <string.h>
 
-enum { MOST_BLOCKS = 512, MOST_FRAMES = 8 };
+enum { MOST_BLOCKS = 4096, MOST_FRAMES = 8 };
 
 /* What stands in a reception for an unknown symbol. */
 enum { UNKNOWN = 255 };
@@ -62,8 +62,9 @@ static inline struct damage most_damage(const struct setting *setting, int way)
     return most[way];
 }
 
-/* Copies a transmission with exactly such damage in every window; returns what decoding counts of
-   it: the altered symbols before the closing blocks, and all unknown ones. */
+/* Copies a transmission with exactly such damage in every window, altered symbols from its start
+   on, so that as many count as can; returns what decoding counts of it: the altered symbols before
+   the closing blocks, and all unknown ones. */
 static inline struct damage damage_windows(const struct setting *setting, struct damage each,
                                            const uint8_t *sent, uint8_t *reception, size_t length)
 {
@@ -72,7 +73,7 @@ static inline struct damage damage_windows(const struct setting *setting, struct
     for (size_t i = 0; i < length; i++) {
         size_t place = i % window;
         bool dropped = place >= window - each.unknown;
-        bool hit = place % 2 == 0 && place < 2 * each.altered;
+        bool hit = place < each.altered;
         reception[i] = dropped ? UNKNOWN : (uint8_t)((sent[i] + hit) % setting->q);
         counted.altered += i < closing ? hit : 0;
         counted.unknown += dropped;

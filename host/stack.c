@@ -23,7 +23,7 @@
 enum {
     STACK = 256 * 1024,
     LIMIT = 64 * 1024,
-    ROOM = 64 * 1024,
+    ROOM = 512 * 1024,
 };
 
 /* The stack grows from the end of this area towards its first byte. */

@@ -4,7 +4,7 @@
  *
  * Terms
  *   symbol        one byte below q
- *   message       T information blocks of k symbols, 1 <= T <= 512
+ *   message       T information blocks of k symbols, 1 <= T <= 4096
  *   transmission  T + m blocks of n symbols: what is sent for a message
  *   reception     T + m blocks of n symbols: what came in for a transmission
  *   unknown       of a reception, a symbol that was not received: in its place
@@ -52,7 +52,7 @@
  *
  *    1  Is the setting 1, 2, 3, 4 or 5?
  *    2  Is the reception's length a multiple of n and at least (m + 1) * n?
- *    3  Is T at most 512?
+ *    3  Is T at most 4096?
  *    4  Is every symbol below q or, but in encoding, unknown?
  *       Place: the first byte that is not, counted from 0.
  *    5  Does the message area have T * k bytes or more?
@@ -89,7 +89,8 @@ struct orderlink_answer {
                          The closing blocks, T to T + m - 1, do not count, so 0
                          does not say that nothing was altered. */
     uint64_t place;   /* with number 4: the place of the first wrong byte in the
-                         message, the reception or the incoming area; else 0 */
+                         message, the reception or the incoming area, in woven
+                         frames up to 8 * 61485 - 1; else 0 */
     uint32_t unknown; /* after decoding with number 0: how many symbols of the
                          reception are unknown, in all T + m blocks, at most
                          d * ((T + m)/(m + 1), rounded up); else 0 */

@@ -17,6 +17,8 @@ SETTINGS = {
 }
 UNUSED = "a5"
 UNKNOWN = 255
+# The most information blocks of an order, and of one in a line that begins with the setting's number and not with a letter.
+LONGEST, LONGEST_BY_NUMBER = 4096, 512
 
 
 def most_damage(setting):
@@ -353,7 +355,7 @@ def refused_woven():
             asked += [(setting, no_frames, wrong + [0], 14, 0) for no_frames in (0, 1, 9, 2**32 + 2, 2**63, 2**64 - 1)]
             asked += [(setting, D, incoming, 15, 0) for incoming in ([q], wrong + [0], wrong[1:])]
             asked += [(setting, D, [q] * (D * size), 2, 0) for size in (0, m * n, length - 1, length + 1)]
-            asked += [(setting, D, [q] * (D * (513 + m) * n), 3, 0), (setting, D, wrong, 4, D * length - 2)]
+            asked += [(setting, D, [q] * (D * (LONGEST + 1 + m) * n), 3, 0), (setting, D, wrong, 4, D * length - 2)]
             for number, frames, incoming, question, place in asked:
                 yield laid("weave", number, frames, incoming, question, [0] * 3, place)
                 yield laid("unweave", number, frames, incoming, question, [0] * 3, place)
@@ -452,6 +454,131 @@ def block_steps():
                 yield repaired(setting, level, block, block)
 
 
+def answered_lines():
+    """The desk's sample lines; settings that are none; unknown symbols; heads with a letter, which have one character more."""
+    samples = {
+        "1001243123230000": "00000010011",
+        "10012431--------": "00000010011",
+        "1001243123200000": "070000",
+        "1001243523230000": "040003",
+        "": "090000",
+        "4001": "0a0000",
+        "1201": "030000",
+        "1001243": "0a0000",
+    }
+    # Settings 4 and 5, and what is no setting.
+    others = {"5001": "0a0000", "4201": "030000", "5201": "030000", "0001": "010000", "6001": "010000", "f001": "010000"}
+    # Unknown symbols: with an altered one; too many; too few and too many of them; where no symbol stands.
+    dropped = {
+        "10011431------34": "00000110011",
+        "10011431-------4": "070000",
+        "1001------------": "070000",
+        "10012431-------": "0a0000",
+        "10012431---------": "0a0000",
+        "10012431-----5--": "040009",
+        "10012431----g---": "09000c",
+        "-0012431--------": "090000",
+        "100-2431--------": "090003",
+        "-": "090000",
+        "10-": "090002",
+        "1000-": "0a0000",
+        "f000-": "010000",
+        "-" * 7730: "090000",
+    }
+    # A letter; f names no setting, and after 6 there are three digits of T.
+    letters = {
+        "a": "090001",
+        "a-": "090001",
+        "a0-0": "090002",
+        "a00-": "090003",
+        "a0000-": "0a0000",
+        "affff": "030000",
+        "a0001243123230000": "000000a00011",
+        "a00012431--------": "000000a00011",
+        "a0001243123200000": "070000",
+        "a0001243523230000": "040003",
+        "a00012431----g---": "09000d",
+        "f0001": "010000",
+        "60011": "010000",
+    }
+    for line, answer in (samples | others | dropped | letters).items():
+        yield answered_line(line, answer)
+    behind = {"001": "090004", "000-": "090004", "0000": "0a0000", "0001": "0a0000", "1000": "0a0000", "1001": "030000"}
+    for setting, letter in zip(SETTINGS, "abcde"):
+        q, _, k, _, _ = SETTINGS[setting]
+        for line, answer in behind.items():
+            yield answered_line(letter + line, answer)
+        # The same frame by either head, with as many unknown symbols as may be.
+        message = [(i * i + 1) % q for i in range(k)]
+        transmission = transmission_of(setting, message)
+        missing = range(len(transmission) - most_damage(setting), len(transmission))
+        for head in ("%d001" % setting, letter + "0001"):
+            yield answered_line(head + digits(altered_at(setting, transmission, (), missing)), "000000" + head + digits(message))
+
+
+def long_lines():
+    """Frames of 512 and 513 blocks by either head, and the longest of all; lines with more characters than a frame by their head has, and with too many."""
+    for setting, letter in zip(SETTINGS, "abcde"):
+        _, n, k, m, _ = SETTINGS[setting]
+        message, transmission = map(digits, long_order(setting, LONGEST_BY_NUMBER))
+        line = "%d200" % setting + transmission
+        yield answered_line(line, "000000" + line[:4] + message)
+        # The last symbol that counts, the first of the closing blocks, the last of all.
+        closing = len(line) - m * n
+        for place, count in ((closing - 1, 1), (closing, 0), (len(line) - 1, 0)):
+            other = "1" if line[place] == "0" else "0"
+            yield answered_line(line[:place] + other + line[place + 1 :], "00%04x" % count + line[:4] + message)
+        if setting == 2:
+            assert len(line) == 3602
+            yield answered_line(line[:-1] + "8", "040e0d")
+            for other in ("4" + line[1:], "3" + line[1:], line + "0"):
+                yield answered_line(other, "0a0000")
+        if setting == 4:
+            assert len(line) == 7729
+            yield answered_line(line[:-1] + "g", "091e30")
+            yield answered_line("6" + line[1:], "010000")
+            yield answered_line("5" + line[1:], "0a0000")
+            # Such lines got 11 when it was asked of 7,729 characters.
+            longer = {line + "0": "0a0000", line + "g": "091e31", "4201" + line[3:]: "030000", "6" + line: "010000", "g" * 7730: "090000", "0" * 8000: "010000"}
+            for other, answer in longer.items():
+                yield answered_line(other, answer)
+        yield answered_line(letter + "0" + line[1:], "000000" + letter + "0200" + message)
+        message, transmission = map(digits, long_order(setting, LONGEST_BY_NUMBER + 1))
+        yield answered_line("%d201" % setting + transmission, "030000")
+        yield answered_line(letter + "0201" + transmission, "000000" + letter + "0201" + message)
+        head, length = letter + "1000", (LONGEST + m) * n
+        yield answered_line(head + "0" * length, "000000" + head + "0" * (LONGEST * k))
+        if setting == 4:
+            assert 5 + length == 61490
+            yield answered_line(head + "0" * (length - 1) + "g", "09f031")
+            for longer in (head + "0" * (length + 1), "g" * 61491):
+                yield answered_line(longer, "0b0000")
+
+
+def long_orders():
+    """Orders of 513 blocks, which a line has only by a letter, and of 4,096, with windows of them; orders of 4,097, which every call refuses. Where an encoding is
+    refused, its area is a short one."""
+    for setting, (q, n, k, m, _) in SETTINGS.items():
+        for T in (LONGEST_BY_NUMBER + 1, LONGEST):
+            message, transmission = long_order(setting, T)
+            yield encoded(setting, message, 0, transmission)
+            yield encoded(setting, message, 6, [0] * 3)
+            yield decoded(setting, transmission, 0, message, transmission, tail=1)
+            altered = list(transmission)
+            for i in range(0, len(altered), n * (m + 1)):
+                altered[i] = (altered[i] + 1) % q
+            yield decoded(setting, altered, 0, message, transmission)
+            yield displayed(setting, altered, T - 1, 0)
+            yield displayed(setting, altered, T, 12)
+            yield marked(setting, altered, transmission, T - 1, 0)
+        message, transmission = long_order(setting, LONGEST + 1)
+        yield encoded(setting, message, 3, [0] * 3)
+        yield decoded(setting, transmission, 3, message, transmission)
+        yield displayed(setting, transmission, 0, 3)
+        yield displayed(setting, transmission, LONGEST + 1, 3)
+        yield marked(setting, transmission, transmission[:-1], LONGEST + 1, 3)
+
+
 def examples():
     none_fits = [
         (1, "2000 4004 4000 0431"),  # 000, Example 4.2 (a)
@@ -498,74 +625,10 @@ def examples():
         yield decoded(number, transmission, 1, message, transmission)
         yield displayed(number, transmission, 0, 1)
         yield marked(number, transmission, transmission, 0, 1)
-    # The desk's sample lines; question 11's limit, and what is asked after it.
-    samples = {
-        "1001243123230000": "00000010011",
-        "10012431--------": "00000010011",
-        "1001243123200000": "070000",
-        "1001243523230000": "040003",
-        "": "090000",
-        "4001": "0a0000",
-        "1201": "030000",
-        "1001243": "0a0000",
-    }
-    # Settings 4 and 5, and what is no setting.
-    others = {"5001": "0a0000", "4201": "030000", "5201": "030000", "0001": "010000", "6001": "010000", "f001": "010000"}
-    # Unknown symbols: with an altered one; too many; too few and too many of them; where no symbol stands.
-    dropped = {
-        "10011431------34": "00000110011",
-        "10011431-------4": "070000",
-        "1001------------": "070000",
-        "10012431-------": "0a0000",
-        "10012431---------": "0a0000",
-        "10012431-----5--": "040009",
-        "10012431----g---": "09000c",
-        "-0012431--------": "090000",
-        "100-2431--------": "090003",
-        "-": "090000",
-        "10-": "090002",
-        "1000-": "0a0000",
-        "f000-": "010000",
-        "-" * 7730: "0b0000",
-    }
-    for line, answer in (samples | others | dropped).items():
-        yield answered_line(line, answer)
-    for setting, (_, n, _, m, _) in SETTINGS.items():
-        message, transmission = map(digits, long_order(setting, 512))
-        line = "%d200" % setting + transmission
-        yield answered_line(line, "000000" + line[:4] + message)
-        # The last symbol that counts, the first of the closing blocks, the last of all.
-        closing = len(line) - m * n
-        for place, count in ((closing - 1, 1), (closing, 0), (len(line) - 1, 0)):
-            other = "1" if line[place] == "0" else "0"
-            yield answered_line(line[:place] + other + line[place + 1 :], "00%04x" % count + line[:4] + message)
-        if setting == 2:
-            assert len(line) == 3602
-            yield answered_line(line[:-1] + "8", "040e0d")
-            for other in ("4" + line[1:], "3" + line[1:], line + "0"):
-                yield answered_line(other, "0a0000")
-        if setting == 4:
-            assert len(line) == 7729
-            yield answered_line(line[:-1] + "g", "091e30")
-            yield answered_line("6" + line[1:], "010000")
-            yield answered_line("5" + line[1:], "0a0000")
-            for longer in (line + "0", "g" * 7730, "6" + line, line + "00", "0" * 8000):
-                yield answered_line(longer, "0b0000")
-    for setting, (q, n, k, m, t) in SETTINGS.items():
-        message, transmission = long_order(setting, 512)
-        yield encoded(setting, message, 0, transmission)
-        yield decoded(setting, transmission, 0, message, transmission, tail=1)
-        altered = list(transmission)
-        for i in range(0, len(altered), n * (m + 1)):
-            altered[i] = (altered[i] + 1) % q
-        yield decoded(setting, altered, 0, message, transmission)
-        yield displayed(setting, altered, 511, 0)
-        yield displayed(setting, altered, 512, 12)
-        message, transmission = long_order(setting, 513)
-        yield encoded(setting, message, 3, transmission)
-        yield decoded(setting, transmission, 3, message, transmission)
-        yield displayed(setting, transmission, 0, 3)
-        yield displayed(setting, transmission, 513, 3)
+    yield from answered_lines()
+    yield from long_lines()
+    yield from long_orders()
+    for setting, (q, n, k, m, _) in SETTINGS.items():
         # One question after another gets a no, the later ones getting one too.
         message, transmission = long_order(setting, 3)
         wrong = transmission[:8] + [UNKNOWN, q, 254] + transmission[11:]
@@ -575,7 +638,6 @@ def examples():
         yield decoded(setting, transmission, 5, message[1:], transmission[1:])
         yield decoded(setting, transmission, 6, message, transmission[1:])
         yield marked(setting, transmission[:-1], transmission, 3, 2)
-        yield marked(setting, long_order(setting, 513)[1], transmission, 513, 3)
         yield marked(setting, transmission, transmission[:-1], 3, 12)
         yield marked(setting, transmission, transmission[:-1], 2, 13)
     yield from block_steps()

@@ -49,7 +49,7 @@ CALLS = {
     "line": ("L", lambda a: (a["line"], "", ""), lambda r: [r["line"]]),
 }
 
-# The most bytes of an area there; the few calls with a longer one are made by bench/tests alone.
+# The most bytes of an area there; calls with a longer one, those of the longest orders and lines, are made by bench/tests alone.
 LONGEST = 10000
 
 

@@ -9,7 +9,7 @@ pub const MAX_K: usize = 5;
 pub const MAX_WINDOW: usize = 4;
 
 /// The most information blocks in a message, and the most symbols in a transmission.
-pub const MAX_T: usize = 512;
+pub const MAX_T: usize = 4096;
 pub const MAX_SYMBOLS: usize = (MAX_T + MAX_WINDOW - 1) * MAX_N;
 
 /// One block of n symbols, and room after it: as many bytes as are copied in one step.

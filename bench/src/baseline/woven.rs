@@ -4,6 +4,9 @@ use super::code::{Code, MAX_SYMBOLS};
 use super::{check_received, code_of, decode_frame, length_questions};
 use crate::calls::{Answer, Woven, MOST_FRAMES};
 
+/// A frame of so many symbols is a short one.
+const FEW_SYMBOLS: usize = 8192;
+
 /// The code, D and one frame's T, which the questions found, or the refusal.
 type Allowed = Result<(&'static Code, usize, usize), Answer>;
 
@@ -47,16 +50,26 @@ pub fn decode_woven(
         Err(refusal) => woven.answer = refusal,
         Ok((code, frames, blocks)) => {
             let length = reception.len() / frames;
-            let alone = &mut [0; MAX_SYMBOLS][..length];
             let messages = message.chunks_exact_mut(blocks * code.k);
             let areas = messages.zip(transmission.chunks_exact_mut(length)).take(frames);
-            for (f, (message, transmission)) in areas.enumerate() {
-                copy_frame(reception, frames, f, alone);
-                woven.frame[f] = decode_frame(code, alone, message, transmission);
-            }
+            with_zeros(length, |alone| {
+                for (f, (message, transmission)) in areas.enumerate() {
+                    copy_frame(reception, frames, f, alone);
+                    woven.frame[f] = decode_frame(code, alone, message, transmission);
+                }
+            });
         }
     }
     woven
+}
+
+/// Lends so many zeros. Few of them do not take the time of as many as there may be.
+fn with_zeros(length: usize, work: impl FnOnce(&mut [u8])) {
+    if length <= FEW_SYMBOLS {
+        work(&mut [0; FEW_SYMBOLS][..length]);
+    } else {
+        work(&mut [0; MAX_SYMBOLS][..length]);
+    }
 }
 
 /// Copies frame f out of woven ones.

@@ -1,5 +1,6 @@
 //! Times encoding, clean decoding, decoding at the limit with altered, with unknown and with both
-//! symbols, weaving and the decoding of woven frames, and prints the figures as tables.
+//! symbols, weaving and the decoding of woven frames, and prints the figures as tables. Arguments
+//! are other lengths of orders, in information blocks, than those below.
 
 #[cfg(archive)]
 use orderlink_bench::archive;
@@ -7,6 +8,7 @@ use orderlink_bench::baseline;
 use orderlink_bench::calls::{Answer, Calls};
 use orderlink_bench::oracle::{transmission, Setting, SETTINGS};
 use orderlink_bench::sample::{damage_evenly, damage_run, woven, Random};
+use std::env;
 use std::hint::black_box;
 use std::time::Instant;
 
@@ -18,12 +20,12 @@ const IMPLEMENTATIONS: &[Calls] = &[
 ];
 
 /// T of the orders that are timed.
-const LENGTHS: [usize; 3] = [8, 64, 512];
+const LENGTHS: [usize; 4] = [8, 64, 512, 4096];
 
 /// D of the frames that are woven.
 const FRAMES: usize = 4;
 
-/// Information blocks in one batch, whatever the length of its orders.
+/// Information blocks in one batch, whatever the length of its orders; more if one call has more.
 const BATCH_BLOCKS: usize = 4096;
 
 /// Timed batches of each kind; a round has one batch of every kind and implementation.
@@ -84,7 +86,8 @@ struct Row {
 }
 
 fn main() {
-    let mut rows = rows();
+    let lengths = lengths();
+    let mut rows = rows(&lengths);
     for row in &mut rows {
         IMPLEMENTATIONS.iter().for_each(|calls| row.check(calls));
     }
@@ -92,16 +95,27 @@ fn main() {
         rows.iter_mut().for_each(|row| row.time(round));
     }
     print_times(&rows);
-    print_growth(&rows);
+    print_growth(&rows, &lengths);
+}
+
+/// The lengths that the arguments give, or all.
+fn lengths() -> Vec<usize> {
+    let given: Vec<usize> =
+        env::args().skip(1).map(|length| length.parse().expect("a number of blocks")).collect();
+    if given.is_empty() {
+        LENGTHS.to_vec()
+    } else {
+        given
+    }
 }
 
 /// Every setting, call and length in the order of the tables.
-fn rows() -> Vec<Row> {
+fn rows(lengths: &[usize]) -> Vec<Row> {
     let mut rows = Vec::new();
     for works in [&WORKS[..], &WOVEN_WORKS] {
         for setting in &SETTINGS {
             for &(work, call) in works {
-                rows.extend(LENGTHS.map(|blocks| Row::new(setting, work, call, blocks)));
+                rows.extend(lengths.iter().map(|&blocks| Row::new(setting, work, call, blocks)));
             }
         }
     }
@@ -117,7 +131,7 @@ impl Row {
             work,
             call,
             blocks,
-            orders: (0..BATCH_BLOCKS / blocks / frames)
+            orders: (0..(BATCH_BLOCKS / blocks / frames).max(1))
                 .map(|_| Order::new(random, setting, work, blocks))
                 .collect(),
             message: vec![0; frames * setting.message_length(blocks)],
@@ -235,13 +249,13 @@ fn print_times(rows: &[Row]) {
 }
 
 /// How the time per symbol changes from each length to the next.
-fn print_growth(rows: &[Row]) {
+fn print_growth(rows: &[Row], lengths: &[usize]) {
     println!("\nGrowth of the best time per symbol with T; 1.00 is linear in T\n");
     let columns = IMPLEMENTATIONS.iter().flat_map(|calls| {
-        LENGTHS.windows(2).map(|step| format!("{}, {} to {}", calls.name, step[0], step[1]))
+        lengths.windows(2).map(|step| format!("{}, {} to {}", calls.name, step[0], step[1]))
     });
     print_head(&["setting", "call"], columns);
-    for rows in rows.chunks(LENGTHS.len()) {
+    for rows in rows.chunks(lengths.len()) {
         print!("| {} | {} |", rows[0].setting.number, rows[0].call);
         for i in 0..IMPLEMENTATIONS.len() {
             let growth = |step: &[Row]| best(&step[1].times[i]) / best(&step[0].times[i]);

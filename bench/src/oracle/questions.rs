@@ -14,7 +14,7 @@ pub fn encode(number: u64, message: &[u8], area: &mut [u8]) -> Answer {
         return Answer::no(8);
     }
     let blocks = message.len() / setting.k;
-    if blocks > 512 {
+    if blocks > 4096 {
         return Answer::no(3);
     }
     if let Some(place) = message.iter().position(|&symbol| symbol >= setting.q) {
@@ -103,7 +103,7 @@ pub fn reception_questions(
         return Err(Answer::no(2));
     }
     let blocks = length / setting.n - setting.m;
-    if blocks > 512 {
+    if blocks > 4096 {
         return Err(Answer::no(3));
     }
     Ok((setting, blocks))

@@ -23,7 +23,6 @@ struct Search<'a> {
     reception: Vec<&'a [u8]>,
     chosen: Vec<usize>,
     damage: Vec<usize>,
-    found: Vec<Vec<u8>>,
 }
 
 /// Every message that fits a well-formed reception. Demand 3 says that there is at most one.
@@ -47,38 +46,54 @@ fn returned(setting: &Setting, reception: &[u8]) -> Option<Vec<u8>> {
 
 /// Every message that fits, by trying all.
 fn searched(setting: &Setting, reception: &[u8]) -> Vec<Vec<u8>> {
-    let mut search = Search {
+    let search = Search {
         setting,
         contributions: contributions(setting),
         reception: reception.chunks(setting.n).collect(),
         chosen: Vec::new(),
         damage: Vec::new(),
-        found: Vec::new(),
     };
-    search.extend();
-    search.found
+    search.messages()
 }
 
 impl Search<'_> {
-    /// Tries every next information block, as long as the blocks of a window are within d.
-    fn extend(&mut self) {
-        let s = self.chosen.len();
-        if s == self.reception.len() {
-            self.found.push(self.message());
-            return;
+    /// Chooses block after block, as long as those of a window are within d; where none is left to
+    /// try, the one before it is chosen anew. Not by recursion: an order may have 4,096 blocks.
+    fn messages(mut self) -> Vec<Vec<u8>> {
+        let mut found = Vec::new();
+        let mut candidate = Some(0);
+        while let Some(first) = candidate {
+            let is_whole = self.chosen.len() == self.reception.len();
+            if is_whole {
+                found.push(self.message());
+            }
+            candidate = if !is_whole && self.choose(first) { Some(0) } else { self.take_back() };
         }
-        let closing = s >= self.reception.len() - self.setting.m;
+        found
+    }
+
+    /// Chooses for the next block the first information block, from this one on, with which the
+    /// blocks of the last window are within d. Closing blocks have none but zero.
+    fn choose(&mut self, first: usize) -> bool {
+        let closing = self.chosen.len() >= self.reception.len() - self.setting.m;
         let candidates = if closing { 1 } else { self.contributions.information.len() };
         let earlier = earlier_part(self.setting, self.contributions, &self.chosen);
-        for candidate in 0..candidates {
-            self.chosen.push(candidate);
-            self.damage.push(self.block_damage(&earlier, candidate));
-            if self.last_window() <= self.setting.d {
-                self.extend();
+        let before: usize = self.damage.iter().rev().take(self.setting.m).sum();
+        for candidate in first..candidates {
+            let damage = self.block_damage(&earlier, candidate);
+            if before + damage <= self.setting.d {
+                self.chosen.push(candidate);
+                self.damage.push(damage);
+                return true;
             }
-            self.damage.pop();
-            self.chosen.pop();
         }
+        false
+    }
+
+    /// Takes the last choice back; returns the next candidate for its block.
+    fn take_back(&mut self) -> Option<usize> {
+        self.damage.pop();
+        self.chosen.pop().map(|chosen| chosen + 1)
     }
 
     /// The damage of the next received block where this candidate was sent.
@@ -87,11 +102,6 @@ impl Search<'_> {
         let own = &self.contributions.blocks[0][candidate];
         let sent = earlier.iter().zip(own).map(|(&a, &b)| self.setting.add(a, b));
         sent.zip(received).map(|(sent, &received)| damage(sent, received)).sum()
-    }
-
-    /// The damage over the last m+1 blocks, or over all while there are fewer.
-    fn last_window(&self) -> usize {
-        self.damage.iter().rev().take(self.setting.m + 1).sum()
     }
 
     fn message(&self) -> Vec<u8> {

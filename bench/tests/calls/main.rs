@@ -11,7 +11,7 @@ mod woven;
 #[cfg(archive)]
 use orderlink_bench::archive;
 use orderlink_bench::baseline;
-use orderlink_bench::calls::{Calls, MOST_FRAMES};
+use orderlink_bench::calls::{Answer, Calls, MOST_FRAMES};
 use orderlink_bench::oracle::{self, SETTINGS};
 use orderlink_bench::sample::Random;
 
@@ -138,6 +138,7 @@ fn assert_struck(more: usize) {
 #[test]
 fn longest_woven_frames() {
     assert_known(woven::longest());
+    assert_known(woven::longest_with_a_wrong_symbol());
 }
 
 #[test]
@@ -157,28 +158,31 @@ fn random_short_decodings() {
 
 #[test]
 fn random_long_decodings() {
-    let counts = [(100_000, 24), (3_000, 520)];
+    let counts = [(100_000, 24), (3_000, 520), (100, 4_400)];
     assert_searched(cases::decode, &counts, &[0, 1, 2, 3, 4, 5, 6, 7]);
 }
 
 #[test]
 fn random_encodings() {
-    assert_searched(cases::encode, &[(150_000, 24), (3_000, 520)], &[0, 1, 3, 4, 6, 8]);
+    let counts = [(150_000, 24), (3_000, 520), (300, 4_400)];
+    assert_searched(cases::encode, &counts, &[0, 1, 3, 4, 6, 8]);
 }
 
 #[test]
 fn random_markings() {
-    assert_searched(cases::marks, &[(150_000, 24), (3_000, 520)], &[0, 1, 2, 3, 12, 13]);
+    let counts = [(150_000, 24), (3_000, 520), (300, 4_400)];
+    assert_searched(cases::marks, &counts, &[0, 1, 2, 3, 12, 13]);
 }
 
 #[test]
 fn random_weavings() {
-    assert_searched(cases::weave, &[(60_000, 12), (2_000, 520)], &[0, 1, 2, 3, 4, 6, 14, 15]);
+    let counts = [(60_000, 12), (2_000, 520), (100, 4_400)];
+    assert_searched(cases::weave, &counts, &[0, 1, 2, 3, 4, 6, 14, 15]);
 }
 
 #[test]
 fn random_woven_decodings() {
-    let counts = [(60_000, 5), (10_000, 24), (1_000, 520)];
+    let counts = [(60_000, 5), (10_000, 24), (1_000, 520), (30, 4_400)];
     assert_searched(cases::decode_woven, &counts, &[0, 1, 2, 3, 4, 5, 6, 7, 14, 15]);
 }
 
@@ -193,6 +197,26 @@ fn stored_windows() {
         assert_eq!((answer, part), (call.answer, call.part.as_slice()), "{call:?}");
         let start = &call.reception[call.start..];
         assert!(part.is_empty() || std::ptr::eq(part.as_ptr(), start.as_ptr()), "{call:?}");
+    }
+}
+
+/// The windows of the longest orders, and none of those too long.
+#[test]
+fn longest_windows() {
+    for setting in &SETTINGS {
+        let random = &mut Random::new(setting.number);
+        let received = random.bytes(setting.transmission_length(orders::LONGEST + 1));
+        let longest = &received[..setting.transmission_length(orders::LONGEST)];
+        let last = orders::LONGEST as u64 - 1;
+        let expect = |reception, j, number, part| {
+            assert_eq!(baseline::window(setting.number, reception, j), part);
+            assert_eq!(baseline::window_answer(setting.number, reception, j), Answer::no(number));
+        };
+        expect(longest, 0, 0, &longest[..setting.window_length()]);
+        expect(longest, last, 0, &longest[last as usize * setting.n..]);
+        expect(longest, last + 1, 12, &[]);
+        expect(&received, 0, 3, &[]);
+        expect(&received, last + 2, 3, &[]);
     }
 }
 

@@ -15,6 +15,9 @@ pub type Known = (Call, Outcome);
 /// What the areas that a call may write hold before it.
 pub const UNUSED: u8 = 0xee;
 
+/// The most information blocks of an order.
+pub const LONGEST: usize = 4096;
+
 /// The ten starred orders, and those of 02's request 106, among them every choice of nine unknown
 /// symbols.
 pub fn worked() -> Vec<Known> {
@@ -168,15 +171,15 @@ pub fn marked(random: &mut Random, setting: &Setting) -> Vec<Known> {
     known
 }
 
-/// Orders of 512 blocks: encoded; decoded with the last symbol that counts and the last of all
+/// Orders of 4,096 blocks: encoded; decoded with the last symbol that counts and the last of all
 /// altered, the first and the one before the last unknown; and these marked in the last window.
 pub fn longest() -> Vec<Known> {
     let random = &mut Random::new(512);
     let calls = |setting: &Setting| {
-        let message = random.symbols(setting, setting.message_length(512));
+        let message = random.symbols(setting, setting.message_length(LONGEST));
         let sent = transmission(setting, &message);
         let mut reception = sent.clone();
-        alter(random, setting, &mut reception[512 * setting.n - 1]);
+        alter(random, setting, &mut reception[LONGEST * setting.n - 1]);
         alter(random, setting, &mut reception[sent.len() - 1]);
         reception[0] = UNKNOWN;
         reception[sent.len() - 2] = UNKNOWN;
@@ -185,24 +188,24 @@ pub fn longest() -> Vec<Known> {
         let answer = Answer { altered: 1, unknown: 2, ..Answer::YES };
         [
             encoding(setting.number, message.clone(), Answer::YES, sent.clone()),
-            marking(setting.number, reception.clone(), sent.clone(), 511, marks),
+            marking(setting.number, reception.clone(), sent.clone(), LONGEST as u64 - 1, marks),
             decoding(setting.number, reception, answer, message, sent),
         ]
     };
     SETTINGS.iter().flat_map(calls).collect()
 }
 
-/// Orders of 513 blocks get 3 from every call, and nothing is written.
+/// Orders of 4,097 blocks get 3 from every call, and nothing is written.
 pub fn too_long() -> Vec<Known> {
     let calls = |setting: &Setting| {
-        let message = vec![0; setting.message_length(513)];
-        let sent = vec![0; setting.transmission_length(513)];
+        let message = vec![0; setting.message_length(LONGEST + 1)];
+        let sent = vec![0; setting.transmission_length(LONGEST + 1)];
         let unused = (vec![UNUSED; message.len()], vec![UNUSED; sent.len()]);
         let answer = Answer::no(3);
         let marks = Marks { answer, marks: 0, set: 0 };
         [
             encoding(setting.number, message, answer, unused.1.clone()),
-            marking(setting.number, sent.clone(), sent.clone(), 512, marks),
+            marking(setting.number, sent.clone(), sent.clone(), LONGEST as u64, marks),
             decoding(setting.number, sent, answer, unused.0, unused.1),
         ]
     };
@@ -223,7 +226,7 @@ pub fn no_setting(number: u64) -> Vec<Known> {
 
 /// A random message, often a short one, with its transmission.
 fn random_order(random: &mut Random, setting: &Setting) -> (Vec<u8>, Vec<u8>) {
-    let longest = *random.pick(&[4, 32, 512]);
+    let longest = if random.once_in(100) { LONGEST } else { *random.pick(&[4, 32, 512]) };
     let blocks = random.between(1, longest);
     let message = random.symbols(setting, setting.message_length(blocks));
     let sent = transmission(setting, &message);

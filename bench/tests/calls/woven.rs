@@ -3,7 +3,7 @@
 //! refusal.
 
 use crate::call::{Call, Outcome, Way};
-use crate::orders::{counted, Known, UNUSED};
+use crate::orders::{counted, Known, LONGEST, UNUSED};
 use orderlink_bench::calls::{Answer, Woven, MOST_FRAMES, UNKNOWN};
 use orderlink_bench::oracle::{self, transmission, Setting, SETTINGS};
 use orderlink_bench::sample::{damage_run, woven, Random};
@@ -141,18 +141,29 @@ pub fn struck(
     known
 }
 
-/// As many frames as can be, each of 512 blocks, with the end of the woven area altered, or
+/// As many frames as can be, each of 4,096 blocks, with the end of the woven area altered, or
 /// dropped.
 pub fn longest() -> Vec<Known> {
     let random = &mut Random::new(104);
     let calls = |setting: &Setting| {
-        let frames = Frames::new(random, setting, MOST_FRAMES, 512);
-        let length = MOST_FRAMES * setting.transmission_length(512);
+        let frames = Frames::new(random, setting, MOST_FRAMES, LONGEST);
+        let length = MOST_FRAMES * setting.transmission_length(LONGEST);
         let struck = [Damage::Alter, Damage::Drop].map(|damage| {
             let run = length - MOST_FRAMES * damage.most(setting)..length;
             frames.struck(random, damage, run)
         });
         frames.woven_and_back().into_iter().chain(struck)
+    };
+    SETTINGS.iter().flat_map(calls).collect()
+}
+
+/// The same with a byte at the very last place that is no symbol: up to 8 × 61,485 − 1.
+pub fn longest_with_a_wrong_symbol() -> Vec<Known> {
+    let calls = |setting: &Setting| {
+        let mut incoming = vec![0; MOST_FRAMES * setting.transmission_length(LONGEST)];
+        let last = incoming.len() - 1;
+        incoming[last] = setting.q;
+        refusals(setting.number, MOST_FRAMES as u64, incoming, Answer::no_at(4, last))
     };
     SETTINGS.iter().flat_map(calls).collect()
 }
@@ -191,7 +202,7 @@ pub fn refused(
     for length in [0, setting.m * setting.n, setting.window_length() - 1, sent + 1] {
         all(number, frames, count * length, Answer::no(2));
     }
-    all(number, frames, count * setting.transmission_length(513), Answer::no(3));
+    all(number, frames, count * setting.transmission_length(LONGEST + 1), Answer::no(3));
     all(number, frames, count * sent, Answer::no_at(4, count * sent - 2));
     let (clean, areas) = (vec![0; count * sent], (count * message, count * sent));
     let no = |question| Woven { answer: Answer::no(question), ..Woven::default() };

@@ -21,7 +21,7 @@ fn random_line(random: &mut Random) -> Vec<u8> {
     match random.below(14) {
         0 => text.truncate(random.below(6)),
         1 => text.truncate(place),
-        2 => text.resize(random.between(7_720, 7_740), b'0'),
+        2 => text.resize(*random.pick(&[7_729, 7_730, 7_731, 7_732, 61_490, 61_491]), b'0'),
         3 => text.push(b'0'),
         4 => text[place] = *random.pick(b"0123456789abcdef"),
         5 => text[place] = random.number() as u8,
@@ -32,10 +32,16 @@ fn random_line(random: &mut Random) -> Vec<u8> {
     text.iter().map(|&byte| if byte == b'\n' { b' ' } else { byte }).collect()
 }
 
-/// A frame that fits two times in three; one in twenty is a long one.
+/// A frame that fits two times in three, behind either head; one in twenty is a long one, and some
+/// have more blocks than their head admits.
 fn frame(random: &mut Random) -> Vec<u8> {
     let setting = random.pick(&SETTINGS);
-    let longest = if random.once_in(20) { 512 } else { 12 };
+    let long_head = random.once_in(2);
+    let longest = match random.below(100) {
+        0 if long_head => 4_120,
+        0..5 => 520,
+        _ => 12,
+    };
     let blocks = random.between(1, longest);
     let message = random.symbols(setting, setting.message_length(blocks));
     let mut symbols = transmission(setting, &message);
@@ -46,8 +52,12 @@ fn frame(random: &mut Random) -> Vec<u8> {
         let times = random.between(1, 8);
         damage_mixed(random, setting, &mut symbols, setting.d + more, times);
     }
-    let head = format!("{}{blocks:03x}", setting.number).into_bytes();
-    head.into_iter().chain(symbols.into_iter().map(character)).collect()
+    let head = if long_head {
+        format!("{:x}{blocks:04x}", setting.number + 9)
+    } else {
+        format!("{}{blocks:03x}", setting.number)
+    };
+    head.bytes().chain(symbols.into_iter().map(character)).collect()
 }
 
 /// What stands for a symbol in a line.

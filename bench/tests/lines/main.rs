@@ -104,7 +104,7 @@ fn wrong_characters() {
     assert_line(b"1001243123230000\r", "090010");
 }
 
-/// Unknown symbols stand after the head, and count as digits.
+/// Unknown symbols stand after the head, whichever it is, and count as digits.
 #[test]
 fn unknown_symbols() {
     assert_line(b"10012431--------", "00000010011");
@@ -117,55 +117,119 @@ fn unknown_symbols() {
     assert_line(b"10012431---------", "0a0000");
     assert_line(b"10012431-----5--", "040009");
     assert_line(b"10012431----g---", "09000c");
-    for (place, answer) in ["090000", "090001", "090002", "090003"].into_iter().enumerate() {
-        let mut line = *b"10012431--------";
-        line[place] = b'-';
-        assert_line(&line, answer);
-        assert_line(&line[..place + 1], answer);
+    for (line, head) in [("10012431--------", 4), ("a00012431--------", 5)] {
+        for place in 0..head {
+            let mut line = line.to_string().into_bytes();
+            line[place] = b'-';
+            let answer = format!("09{place:04x}");
+            assert_line(&line, &answer);
+            assert_line(&line[..place + 1], &answer);
+        }
     }
     assert_line(b"1001-", "0a0000");
     assert_line(b"1000-", "0a0000");
     assert_line(b"f000-", "010000");
     assert_line(b"0001-", "010000");
     assert_line(b"1201-", "030000");
-    assert_line(&[b'-'; 7_729], "090000");
-    assert_line(&[b'-'; 7_730], "0b0000");
+    assert_line(&[b'-'; 61_490], "090000");
+    assert_line(&[b'-'; 61_491], "0b0000");
 }
 
 #[test]
 fn no_blocks() {
     assert_line(b"1000", "0a0000");
     assert_line(b"100000000000", "0a0000");
+    assert_line(b"a0000", "0a0000");
+    assert_line(b"a000000000000", "0a0000");
 }
 
+/// Lines beginning 1 to 5 have three digits of T, up to 512, those beginning a to e four, up to
+/// 4,096.
 #[test]
 fn settings() {
     for setting in "12345".chars() {
+        assert_line(format!("{setting}00").as_bytes(), "090003");
         assert_line(format!("{setting}001").as_bytes(), "0a0000");
         assert_line(format!("{setting}201").as_bytes(), "030000");
+        assert_line(format!("{setting}fff").as_bytes(), "030000");
     }
-    for setting in "06789abcdef".chars() {
+    for setting in "abcde".chars() {
+        assert_line(format!("{setting}001").as_bytes(), "090004");
+        assert_line(format!("{setting}0001").as_bytes(), "0a0000");
+        assert_line(format!("{setting}1001").as_bytes(), "030000");
+        assert_line(format!("{setting}ffff").as_bytes(), "030000");
+    }
+    for setting in "06789f".chars() {
+        assert_line(format!("{setting}00").as_bytes(), "090003");
         assert_line(format!("{setting}001").as_bytes(), "010000");
+        assert_line(format!("{setting}0001").as_bytes(), "010000");
+        assert_line(format!("{setting}0011").as_bytes(), "010000");
     }
 }
 
-/// The longest frame of every setting. 7,729 characters are read on; 7,730 get 11, whatever they
-/// are.
+/// The same frame behind either head.
+#[test]
+fn heads() {
+    assert_line(b"a0001243123230000", "000000a00011");
+    assert_line(b"a00012431--------", "000000a00011");
+    assert_line(b"a0001243123200000", "070000");
+    assert_line(b"a0001243523230000", "040003");
+    assert_line(b"a0001243123230000-", "0a0000");
+    assert_line(b"a001243123230000", "0a0000");
+    assert_line(b"c00015774100----700", "000000c0001100");
+    assert_line(b"30015774100----700", "0000003001100");
+    assert_line(b"e000g", "090004");
+    assert_line(b"e000", "090004");
+    assert_line(b"e", "090001");
+}
+
+/// A line that begins so and goes on with zeros to a length.
+fn zeros(begin: &str, length: usize) -> String {
+    format!("{begin:0<length$}")
+}
+
+/// The longest frame of every setting, behind either head, and one character less or more.
 #[test]
 fn long_lines() {
-    let longest = [(2060, 522), (3602, 1034), (3595, 1546), (7729, 1546), (7714, 2570)];
-    for (setting, (length, answer)) in (1..).zip(longest) {
-        let head = format!("{setting}200");
-        let answer = format!("{:0<answer$}", format!("000000{head}"));
-        assert_line(format!("{head:0<length$}").as_bytes(), &answer);
-        let one_more = length + 1;
-        let refusal = if length == 7729 { "0b0000" } else { "0a0000" };
-        assert_line(format!("{head:0<one_more$}").as_bytes(), refusal);
+    let short = [(2060, 522), (3602, 1034), (3595, 1546), (7729, 1546), (7714, 2570)];
+    let long = [(16397, 4107), (28691, 8203), (28684, 12299), (61490, 12299), (61475, 20491)];
+    let heads = (1..=5).map(|setting| format!("{setting}200"));
+    let heads = heads.chain("abcde".chars().map(|letter| format!("{letter}1000")));
+    for (head, (length, answer)) in heads.zip(short.into_iter().chain(long)) {
+        let answer = zeros(&format!("000000{head}"), answer);
+        assert_line(zeros(&head, length).as_bytes(), &answer);
+        assert_line(zeros(&head, length - 1).as_bytes(), "0a0000");
+        let refusal = if length == 61_490 { "0b0000" } else { "0a0000" };
+        assert_line(zeros(&head, length + 1).as_bytes(), refusal);
     }
-    assert_line(&[b'z'; 7_729], "090000");
-    assert_line(&[b'z'; 7_730], "0b0000");
+}
+
+/// 61,490 characters are read on, also where the head admits no frame so long: they get what
+/// characters and head get. 61,491 get 11, whatever they are.
+#[test]
+fn lines_too_long() {
+    for length in [7_730, 61_490] {
+        assert_line(zeros("4200", length).as_bytes(), "0a0000");
+        assert_line(zeros("4201", length).as_bytes(), "030000");
+        assert_line(zeros("4200g", length).as_bytes(), "090004");
+        assert_line(zeros("6200", length).as_bytes(), "010000");
+    }
+    assert_line(zeros("4200", 61_491).as_bytes(), "0b0000");
+    assert_line(&[b'z'; 61_490], "090000");
+    assert_line(&[b'z'; 61_491], "0b0000");
     assert_line(&[b'0'; 3_000_000], "0b0000");
     assert_known(&[b'z'; 70_000], b"0b0000\n");
+}
+
+/// The largest places of a wrong character and a wrong symbol, and the largest count, in four
+/// digits.
+#[test]
+fn largest_numbers() {
+    assert_line((zeros("d1000", 61_489) + "g").as_bytes(), "09f031");
+    assert_line((zeros("b1000", 28_690) + "8").as_bytes(), "04700d");
+    let altered = format!("d1000{}", "111100000000000".repeat(4_099));
+    let answer = zeros("004000d1000", 12_299);
+    assert_line(altered.as_bytes(), &answer);
 }
 
 #[test]
