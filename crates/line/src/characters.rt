@@ -1,6 +1,6 @@
 // Characters and digits, one by one and in runs.
-ghost use Rattle.std.specs.Prelude.{◌≡◌, not, map, ◌≤◌, ◌<◌, All, length, position};
-ghost use Rattle.std.specs.List.{AllZip};
+ghost use Rattle.std.specs.Prelude.{◌≡◌, true, not, map, ◌≤◌, ◌<◌, All, length, position};
+ghost use Rattle.std.specs.List.{AllPass, AllZip};
 ghost use Rattle.field.specs.Symbols.{Symbols};
 ghost use Rattle.line.specs.Characters.{digit_of, character_of, number_in};
 ghost use Rattle.line.specs.Questions.{is_digit, is_digit_or_mark};
@@ -41,10 +41,23 @@ pub fn first_wrong_in_head(head: &[u8]) -> Option<usize>
         .position(|character| !question::is_symbol(16, value(*character)))
 }
 
-// The same of a frame, where `-` is right too.
+// Whether all characters of a frame are right: each is one of 0-9, a-f and `-`. No early exit: the compiler looks at many at once.
+fn all_right_in_frame(frame: &[u8]) -> bool
+    ensures { result ≡ true → AllPass is_digit_or_mark frame.now }
+{
+    frame.iter().fold(
+        true,
+        |right, character| right & question::is_received(16, value(*character)),
+    )
+}
+
+// The place of the first wrong character of a frame, where `-` is right too.
 pub fn first_wrong_in_frame(frame: &[u8]) -> Option<usize>
     ensures { result ≡ position (λ c. not (is_digit_or_mark c)) frame.now }
 {
+    if all_right_in_frame(frame) {
+        return None;
+    }
     frame
         .iter()
         .position(|character| !question::is_received(16, value(*character)))
