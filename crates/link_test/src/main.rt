@@ -20,7 +20,7 @@ use std::io::{Error, ErrorKind, Read, Write};
 const START: usize = 51;
 
 // The most bytes of an area.
-const MOST_BYTES: usize = 10000;
+const MOST_BYTES: usize = 16400;
 
 // The value of a digit, and 0 for any other byte. That of `line` is private, and a test reads its input by itself. By std it is no plainer: `to_digit` wants a
 // `char` and gives an `Option<u32>`, and `from_str_radix` wants a `str`.
