@@ -1,7 +1,7 @@
 -- Totals of numbers, counts of the places at which a test holds, and weights of sequences over a field.
 -- Holds: `total_ext`, `total_mono`, `total_most`, `total_add`, `total_scale`, `total_split`, `total_part`, `total_blocks`; `total_short`, `total_run` (terms
 -- that are zero outside some places); `count_of_ext`, `one_le`, `count_of_le`, `count_of_mono`, `count_of_without`; `zero_test`, `nonzero_test`,
--- `zero_uncounted`, `weight_short`; `distance_le`; `total_none`, `total_same`, `total_more` (as a loop adds up).
+-- `zero_uncounted`, `weight_short`; `distance_le`, `distance_run`; `total_none`, `total_same`, `total_more` (as a loop adds up).
 use mathlib.Core.Path.{◌≡◌, refl, sym, ap, ap₂, subst, ◌∙◌}
 use mathlib.Core.Bool.{Bool, true, false, not, ◌&&◌}
 use Prim.Native.Nat.{ℕ, zero, suc, ◌+◌, ◌-◌, ◌*◌, ◌≤◌, ◌<◌}
@@ -185,3 +185,16 @@ module _ (f : ℕ → ℕ) where
 -- Sequences differ in no more symbols than they have.
 pub distance_le : {r : ℕ} (n : ℕ) (a b : ℕ → ℕ) → r ≡ distance n a b → r ≤ n
 distance_le n a b e = subst (λ (t : ℕ). t ≤ n) (sym e) (count_of_le n (λ i. not (eqb (a i) (b i))))
+
+-- Sequences that are the same outside a run of places differ in no more symbols than the run has.
+pub distance_run : (n start run : ℕ) (a b : ℕ → ℕ) → ((i : ℕ) → i < n → i < start → a i ≡ b i) → ((i : ℕ) → i < n → start + run ≤ i → a i ≡ b i)
+    → distance n a b ≤ run
+distance_run n start run a b before after =
+    omega (
+      arith,
+      total_run n start run 1 (λ i. pick (not (eqb (a i) (b i))) 1 0) (λ i l s. same i (before i l s)) (λ i l s. same i (after i l s))
+          (λ i l. one_le (not (eqb (a i) (b i)))),
+    )
+  where
+    same : (i : ℕ) → a i ≡ b i → ◌≡◌ {A = ℕ} (pick (not (eqb (a i) (b i))) 1 0) 0
+    same i e = ap {B = ℕ} (λ (t : Bool). pick (not t) 1 0) (eq-eqb (a i) (b i) e)

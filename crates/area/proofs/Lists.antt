@@ -1,6 +1,6 @@
 -- Lists as blocks: tabulated lists, symbols of a list, equal parts.
 -- Holds: `length_tabulate`, `get_d_tabulate`, `tabulated`, `view_tabulate`, `get_d_zeros`, `equal_part`, `part_equal`;
--- `stored` (a loop that fills places); `place_in_blocks`, `blocks_hold`, `equal_blocks`, `window_view` (places by block and symbol).
+-- `filled`, `stored` (a loop that fills places); `place_in_blocks`, `blocks_hold`, `equal_blocks`, `window_view` (places by block and symbol).
 use mathlib.Core.Path.{◌≡◌, refl, sym, ap, ◌∙◌, subst}
 use mathlib.Core.List.{List}
 use Prim.Native.Nat.{ℕ, zero, suc, ◌+◌, ◌*◌, ◌/◌, ◌%◌, ◌≤◌, ◌<◌}
@@ -54,14 +54,20 @@ part_equal a b n la lb h =
     ext_get_or 0 (take n a) (take n b) (long_a ∙ sym long_b)
     (λ i l. let below : i < n = omega arith in get_or-take n a i 0 below ∙ (h i below ∙ sym (get_or-take n b i 0 below)))
 
--- A loop fills places one after the other: place a is to hold f a, it does for a < i, and f i is stored in place i.
+-- A loop fills places one after the other: place a is to hold what is right for a, it does for a < i, and what is right for i is stored in place i.
+pub filled : {A : Type 0} (none : A) (l : List A) (place : ℕ → ℕ) (right : ℕ → A → Type 0) (i : ℕ) (v : A) → place i < length l → right i v
+    → ((a : ℕ) → a < i → place a ≡ place i → ⊥) → ((a : ℕ) → a < i → right a (get_or l (place a) none))
+    → (a : ℕ) → a < i + 1 → right a (get_or (set l (place i) v) (place a) none)
+filled {A} none l place right i v room e apart before a h = at (ℕ_discrete a i)
+  where
+    at : Dec (a ≡ i) → right a (get_or (set l (place i) v) (place a) none)
+    at (yes s) = subst (λ (t : ℕ). right t (get_or (set l (place i) v) (place t) none)) (sym s) (subst (right i) (sym (get_or-set_same l (place i) v none room)) e)
+    at (no d) = let below : a < i = omega arith in subst (right a) (sym (get_or-set_other l (place i) (place a) v none (apart a below))) (before a below)
+
+-- The same where place a is to hold f a.
 pub stored : (l : List ℕ) (place f : ℕ → ℕ) (i v : ℕ) → place i < length l → v ≡ f i → ((a : ℕ) → a < i → place a ≡ place i → ⊥)
     → ((a : ℕ) → a < i → get_or l (place a) 0 ≡ f a) → (a : ℕ) → a < i + 1 → get_or (set l (place i) v) (place a) 0 ≡ f a
-stored l place f i v room e apart before a h = at (ℕ_discrete a i)
-  where
-    at : Dec (a ≡ i) → get_or (set l (place i) v) (place a) 0 ≡ f a
-    at (yes s) = subst (λ (t : ℕ). get_or (set l (place i) v) (place t) 0 ≡ f t) (sym s) (get_or-set_same l (place i) v 0 room ∙ e)
-    at (no d) = let below : a < i = omega arith in get_or-set_other l (place i) (place a) v 0 (apart a below) ∙ before a below
+stored l place f = filled 0 l place (λ a x. x ≡ f a)
 
 -- A place of a list of blocks of w symbols is a block and a symbol of it.
 pub place_in_blocks : (j i w : ℕ) → 1 ≤ w → i < j * w → (i / w < j) × (i % w < w) × (i / w * w + i % w ≡ i)

@@ -1,5 +1,5 @@
 -- A part of a list as it is lent, and the list with another part in its place (`put_mid`, what a lent part leaves in the whole), place by place.
--- Holds: `front_count`, `front_weight`; `part_size`, `part_length`, `part_symbol`; `put_length`, `put_before`, `put_inside`, `put_after`.
+-- Holds: `front_count`, `front_weight`; `part_size`, `part_length`, `part_symbol`, `part_weight`; `put_length`, `put_before`, `put_inside`, `put_after`.
 -- Of lists of parts of one size (`part_at`, `in_turn`): `parts_apart`, `length_part_at`, `part_at_symbol`; of a part put back (`with_part`) `part_put`,
 -- `length_put`, `part_put_before`, `drop_put`; of an area whose parts are known `take_in_turn`, `in_turn_of_parts`; `length_in_turn`, `part_at_in_turn`; of a
 -- loop that puts one part after another `PartsTo`, `parts_more`.
@@ -17,6 +17,8 @@ use borrow.Rule.Slice.PartMut.{put_mid}
 use Rattle.std.proofs.Common.{rules}
 use Rattle.std.proofs.lemmas.List.{places}
 use Rattle.std.proofs.lemmas.Slice.{overwrites}
+use Rattle.algebra.specs.Ops.{pick}
+use Rattle.algebra.proofs.Weights.{count_of_ext, total_split}
 use Rattle.area.specs.Lists.{part_at, in_turn}
 use Rattle.algebra.specs.Weight.{count_of}
 use Rattle.area.specs.parts.Weights.{weight_to, weight_of}
@@ -41,6 +43,16 @@ module _ (n start : ℕ) (whole : List ℕ) where
 
   pub part_symbol : (i : ℕ) → i < n → get_or (take (start + n - start) (drop start whole)) i 0 ≡ get_or whole (start + i) 0
   part_symbol i l = search (rules, places)
+
+  -- What the part adds to the weight of the list up to it.
+  pub part_weight : start + n ≤ length whole → weight_to whole start + weight_of (take (start + n - start) (drop start whole)) ≡ weight_to whole (start + n)
+  part_weight h =
+      ap (λ (t : ℕ). weight_to whole start + t)
+      (ap (λ (t : ℕ). weight_of (take t (drop start whole))) part_size
+      ∙ (front_weight n (drop start whole) (omega (arith, length-drop start whole))
+      ∙ count_of_ext n (λ i. not (eqb (get_or (drop start whole) i 0) 0)) (λ i. not (eqb (get_or whole (start + i) 0) 0))
+      (λ i l. ap (λ (t : ℕ). not (eqb t 0)) (get_or-drop start whole i 0))))
+      ∙ sym (total_split start n (λ i. pick (not (eqb (get_or whole i 0) 0)) 1 0))
 
 -- The whole with another part ys in the place of the k elements from a on.
 module _ (a k : ℕ) (xs ys : List ℕ) (room : a + k ≤ length xs) (long : length ys ≡ k) where

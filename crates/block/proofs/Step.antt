@@ -1,11 +1,11 @@
 -- The two answers of the block step, from what its parts promise (the chain: distance lemma, locator, spectrum of the error, information).
--- Holds: `step_unknown`, `step_long`, `step_clean`, `step_marked`.
-use mathlib.Core.Path.{◌≡◌, sym, ap, subst, ◌∙◌}
+-- Holds: `known_in_level`, `cost_in_level`; `step_unknown`, `step_long`, `step_clean`, `step_near`, `step_far`, `step_marked`.
+use mathlib.Core.Path.{◌≡◌, refl, sym, ap, subst, ◌∙◌}
 use Rattle.std.specs.Prelude.{Some, None}
 use Rattle.std.specs.Bool.{then_some}
 use mathlib.Core.Bool.{Bool, true, false}
 use mathlib.Core.List.{List}
-use Prim.Native.Nat.{ℕ, ◌+◌, ◌-◌, ◌*◌, ◌≤◌, ◌<◌}
+use Prim.Native.Nat.{ℕ, ◌+◌, ◌-◌, ◌*◌, ◌≤◌, ◌<◌, min}
 use native.Mathlib.Omega.{arith}
 use lib.ListN.{length, replicate}
 use Rattle.algebra.specs.Ops.{pick}
@@ -23,6 +23,7 @@ use Rattle.code.specs.parts.Cost.{symbol_cost, block_cost, level_cost}
 use Rattle.code.specs.Settings.{code_of}
 use Rattle.code.specs.parts.Sound.{Sound}
 use Rattle.code.proofs.Blocks.{combination_ext}
+use Rattle.code.proofs.CodeBelow.{over_field, lifted, combination_number}
 use Rattle.code.proofs.LevelBlocks.{vanishing_in_level}
 use Rattle.code.proofs.Settings.{level_fits}
 use Rattle.code.proofs.Cost.{known_byte, cost_same, cost_count, all_known}
@@ -32,12 +33,29 @@ use Rattle.block.specs.declared.spectrum.Spectrum.{Spectrum}
 use Rattle.block.specs.parts.Locator.{Located}
 use Rattle.block.specs.parts.Factors.{times_factors, unknown_places, Filled}
 use Rattle.block.specs.parts.Candidate.{syndromes_at, Begun, Candidate}
-use Rattle.block.specs.parts.Marking.{RepairMarked, within, beyond}
+use Rattle.block.specs.parts.Marking.{repair_marks, RepairMarked, within, beyond}
 use Rattle.block.specs.parts.Step.{InformationTo, Step, near, far}
 use Rattle.block.proofs.LocatorBelow.{series_vanishes}
 use Rattle.block.proofs.Factors.{no_factors, length_places}
 use Rattle.block.proofs.Marking.{marks_none}
 use Rattle.block.proofs.CandidateBelow.{degree_of_near_below, read_of_near}
+
+-- A block of a level has no unknown symbol ..
+known_in_level : {p : Setting} (S : Sound p) (l : ℕ) (block : List ℕ) (C : InLevel p l block) → (i : ℕ) → i < p.n → at block i < p.q
+known_in_level {p} S l block C i h =
+    subst (λ (t : ℕ). t < p.q) (combination_number p S C.information l i (λ b r u v. C.below b r) ∙ sym (C.same i h))
+    (combination (over_field p S) l (lifted p S C.information) i).1
+
+-- .. and one without unknown symbols costs nothing against its information.
+cost_in_level : (p : Setting) (l : ℕ) (block : List ℕ) → ((i : ℕ) → i < p.n → at block i < p.q) → (C : InLevel p l block)
+    → level_cost p (at block) l C.information ≡ 0
+unfolding block_cost
+cost_in_level p l block known C =
+    omega (
+      arith,
+      total_most p.n 0 (λ i. symbol_cost p.q (at block i) (combination (code_of p) l C.information i))
+          (λ i h. omega (arith, cost_same p.q (at block i) (combination (code_of p) l C.information i) (known i h) (C.same i h))),
+    )
 
 -- More unknown symbols than a level has syndromes cost too much against any information.
 pub step_unknown : (p : Setting) {l : ℕ} {block marks : List ℕ} → level_distance p.n p.k l ≤ unknown_symbols p.q p.n (at block) → marks ≡ replicate p.n 0
@@ -108,18 +126,12 @@ module _ {p : Setting} (S : Sound p) (room : p.n < PLACES) {l : ℕ} (level : l 
       of_level : InLevel p l symbols
       of_level = vanishing_in_level p S l (level_fits p S l level) symbols long (all_symbols filled.below) syndromes_vanish
 
-      -- .. and costs nothing against its information.
+      -- .. and what was received costs nothing against its information.
       free : level_cost p (at block) l of_level.information ≡ 0
       unfolding block_cost
       free =
-          omega (
-            arith,
-            total_most p.n 0 (λ i. symbol_cost p.q (at block i) (combination (code_of p) l of_level.information i))
-                (λ i h. omega (
-                  arith,
-                  cost_same p.q (at block i) (combination (code_of p) l of_level.information i) (known i h) (same_symbol i h ∙ of_level.same i h),
-                )),
-          )
+          total_ext p.n _ _ (λ i h. ap (λ (v : ℕ). symbol_cost p.q v (combination (code_of p) l of_level.information i)) (same_symbol i h))
+          ∙ cost_in_level p l symbols (known_in_level S l symbols of_level) of_level
 
       -- So what was read combines to the same, and no symbol is repaired.
       pub step_clean : {marks : List ℕ} → marks ≡ replicate p.n 0 → Step p l block marks (Some found)
@@ -130,12 +142,21 @@ module _ {p : Setting} (S : Sound p) (room : p.n < PLACES) {l : ℕ} (level : l 
           (unset ∙ marks_none p block l (view p.k found)
           (λ i h. same_symbol i h ∙ of_level.same i h ∙ sym (same_block of_level.information information close i)))
 
-    -- Any other: what was read is near, and what it repairs is marked, or nothing is near, and nothing is marked.
+    -- Any other, by what its repair costs, counted up to the bound: what was read is near, or nothing is.
+    module _ {bound cost : ℕ} (same : bound ≡ level_distance p.n p.k l)
+        (counted : min bound cost ≡ min bound (level_cost p (at block) l (view p.k found))) where
+      pub step_near : {marks : List ℕ} → cost < bound → marks ≡ repair_marks p block l (view p.k found) → Step p l block marks (Some found)
+      step_near h marked = near C.reads.below (omega (arith, same, counted)) marked
+
+      pub step_far : {marks : List ℕ} → bound ≤ cost → marks ≡ replicate p.n 0 → Step p l block marks None
+      step_far h unset =
+          far (λ x information.
+          let never : level_cost p (at block) l x < level_distance p.n p.k l → ⊥ = λ close. omega (arith, same, counted, same_cost x information close) in
+          omega arith)
+          unset
+
+    -- So what was read is near, and what it repairs is marked, or nothing is near, and nothing is marked.
     pub step_marked : {marks : List ℕ} {bound : ℕ} → bound ≡ level_distance p.n p.k l → (b : Bool)
         → RepairMarked p block l (view p.k found) bound marks b → Step p l block marks (then_some b found)
-    step_marked same true (within close marked) = near C.reads.below (omega (arith, same)) marked
-    step_marked {bound = bound} same false (beyond heavy unset) =
-        far (λ x information.
-        let never : level_cost p (at block) l x < level_distance p.n p.k l → ⊥ = λ close. omega (arith, same, heavy, same_cost x information close) in
-        omega arith)
-        unset
+    step_marked same true (within close marked) = step_near same refl close marked
+    step_marked same false (beyond heavy unset) = step_far same refl heavy unset

@@ -6,7 +6,6 @@ ghost use Rattle.field.specs.Fields.{ops_of};
 ghost use Rattle.field.specs.parts.Sequences.{AllBelow, at};
 ghost use Rattle.block.specs.parts.Information.{lacking, BlockRead, InformationRead};
 
-use super::{Information, PLACES};
 use tables::Tables;
 
 // The k values that an information block is recovered from.
@@ -62,13 +61,13 @@ impl BlockValues<'_> {
     }
 }
 
-// The information of so many blocks, each from its k values.
-pub fn read(tables: &Tables, blocks: usize, values: &[u8; PLACES]) -> Information
-    requires { AllBelow tables.now.setting.q values.now × (blocks * tables.now.setting.k ≤ PLACES) }
-    ensures { InformationRead tables.now.setting blocks values.now result }
+// The information of so many blocks, each from its k values, one block after the other from the front of an area; what is past them becomes 0.
+pub fn read(tables: &Tables, blocks: usize, values: &[u8], information: &mut [u8])
+    requires { AllBelow tables.now.setting.q values.now × (blocks * tables.now.setting.k ≤ length values.now) × (blocks * tables.now.setting.k ≤ length information.old) }
+    ensures { InformationRead tables.now.setting blocks values.now information.new }
 {
     let k = tables.setting.k;
-    let mut information: Information = [0; PLACES];
+    information.fill(0);
     // By index: after `chunks_exact_mut` a proof knows the length of the area and none of its symbols.
     for b in 0..blocks {
         let block = BlockValues {
@@ -79,5 +78,4 @@ pub fn read(tables: &Tables, blocks: usize, values: &[u8; PLACES]) -> Informatio
         let end = start + k;
         block.read(&mut information[start..end]);
     }
-    information
 }

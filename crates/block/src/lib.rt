@@ -6,7 +6,7 @@
 // zeros: their places are known, and have factors of their own in the locator (`unknown`).
 #![tactic(auto)]
 
-mod information;
+pub mod information;
 mod locator;
 mod marks;
 mod received;

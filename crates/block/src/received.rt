@@ -91,7 +91,9 @@ impl Received<'_> {
         let blocks = self.l + 1;
         spectrum.add_values(field, self.symbols, p.n);
         let values = locator.extend(field, self.syndromes(), blocks * p.k, &mut spectrum.series);
-        super::information::read(self.tables, blocks, &values)
+        let mut information = [0; PLACES];
+        super::information::read(self.tables, blocks, &values, &mut information);
+        information
     }
 
     // What `block::repair` promises, d_l given.

@@ -70,21 +70,24 @@ level_fits p S l h = let up : l + 1 ≤ p.m + 1 = omega arith in omega (arith, m
 pub information_fits : (p : Setting) → Sound p → p.k ≤ p.n
 information_fits p S = omega (arith, level_fits p S 0 (omega arith))
 
--- A symbol is a byte, so a block has at most 255 of them; memory is bounded with it.
+-- A symbol is a byte, so a block has at most 255 of them; memory and information are bounded with it.
 pub record Sizes (p : Setting) : Type 0 where
   pub symbols : 1 ≤ p.n
   pub symbols_most : p.n ≤ 255
   pub information : 1 ≤ p.k
+  pub information_most : p.k ≤ 255
   pub memory_most : p.m ≤ 255
 
 pub sizes : (p : Setting) → Sound p → Sizes p
 sizes p S =
+    let least : 1 ≤ p.m + 1 = omega arith in
     let all : p.m + 1 ≤ p.m + 1 = omega arith in
     let most : p.n ≤ 255 = omega (arith, S.block, good_small p.q S.good) in
     record {
       symbols = block_positive p S;
       symbols_most = most;
       information = S.information;
+      information_most = omega (arith, S.room, mul-le-mul_right p.k least);
       memory_most = omega (arith, S.room, mul-le-mul all S.information);
     }
 

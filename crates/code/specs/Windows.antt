@@ -100,10 +100,11 @@ most_damage p T = design_distance p.n p.k p.m * windows_for p T
 abbrev pub most_unknown : Setting → ℕ → ℕ
 most_unknown p T = design_distance p.n p.k p.m * windows_for p (T + p.m)
 
--- Examples, computed. The altered count: one block of setting 1; the eight of the worked order with count 12, which has as many as can be; 4,096 of setting 4.
-pub most_altered_samples : (most_altered (setting_of 1) 1 ≡ 4) × (most_altered (setting_of 1) 8 ≡ 12) × (most_altered (setting_of 4) 4096 ≡ 16384)
+-- Examples, computed. The altered count: one block of setting 1; the eight of the worked order with count 12, which has as many as can be; 512 and 4,096 of setting 4.
+pub most_altered_samples : (most_altered (setting_of 1) 1 ≡ 4) × (most_altered (setting_of 1) 8 ≡ 12) × (most_altered (setting_of 4) 512 ≡ 2048)
+    × (most_altered (setting_of 4) 4096 ≡ 16384)
 unfolding distances_to
-most_altered_samples = (refl, refl, refl)
+most_altered_samples = (refl, refl, refl, refl)
 
 -- Of eight blocks of setting 1 the altered symbols twice and the unknown ones; of one block, with its closing blocks, the unknown ones, as many as 02's order
 -- has; of 4,096 of setting 4.

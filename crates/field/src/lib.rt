@@ -104,7 +104,7 @@ impl Lists<'_> {
 
 // The table of the field with q elements: the one place that tells the fields' lists apart. Each call has its q as a constant: from constants the compiler
 // works small tables out itself (docs/PERFORMANCE.md, "Products from lists").
-fn products(q: usize) -> Products
+pub fn products(q: usize) -> Products
     requires { Good q }
     ensures { ProductsOf q result }
 {

@@ -1,7 +1,7 @@
 -- The frame of a line that holds one (questions 11, 9, 1, 3 and 10 got "yes"), from decoding to the line's answer.
 -- Holds: `symbols_count`, `symbols_read`, `symbols_long`, `blocks_is` (the reception and T); `decoding_asked` (decoding's questions ask what is left, 4);
 -- `refusal_line`; `frame_answered` (what decoding gives); `any_room`, `room_is` (the working areas); `shape_message`, `shape_most`; `frame_left`, `frame_said`;
--- `most_answer_lem`, `answers_most`, `answers_room` (an output line's length); `answered_shown` (with room for every frame);
+-- `most_answer_lem`, `answers_most`, `answers_room`, `answers_sevenfold` (an output line's length); `answered_shown` (with room for every frame);
 -- `answers_kept` (a line too long is answered by its beginning).
 use mathlib.Core.Path.{◌≡◌, refl, sym, ap, ap₂, subst, ◌∙◌}
 use mathlib.Core.Bool.{Bool, true, false, ◌&&◌}
@@ -259,6 +259,10 @@ answers_room line text a = answers_within line text (length line + 6) a (omega a
         let blocks : blocks_in line ≤ blocks_in line + p.m = omega arith in
         let message : message_length line ≤ (blocks_in line + p.m) * p.n = mul-le-mul blocks (information_fits p (sound_of (setting_in line) asked.setting)) in
         omega (arith, asked.least, asked.long)
+
+-- So, each with its newline, it is at most seven times as long as the line.
+pub answers_sevenfold : (line text : List ℕ) → Answers line text → length text + 1 ≤ 7 * (length line + 1)
+answers_sevenfold line text a = omega (arith, answers_room line text a)
 
 -- With room for every frame each line is answered.
 pub answered_shown : (line : List ℕ) (w : LineAreas) (output : List ℕ) (r : ℕ) (w' : LineAreas) (output' : List ℕ) → RoomForAll w

@@ -1,10 +1,10 @@
--- 01's sample lines ("The desk program's input"): the refused ones computed, and three more (a wrong character, a short line, a setting
--- that there is not), and 02's with a long head (#107); the two that hold a frame stated, and 02's with unknown symbols (#106) and a long head.
+-- 01's sample lines ("The desk program's input"): the refused ones computed, and four more (a line one character too long, a wrong character, a short line,
+-- a setting that there is not), and 02's with a long head (#107); the two that hold a frame stated, and 02's with unknown symbols (#106) and a long head.
 -- Holds: `sample_symbol` to `sample_short`; `Gets`, `SampleRead`, `SampleNone`, `SampleUnknown`, `SampleLongRead`.
-use Rattle.std.specs.Prelude.{◌≡◌, refl, List, [], ◌∷◌, ◌++◌, map, ℕ, replicate}
+use Rattle.std.specs.Prelude.{◌≡◌, refl, List, [], ◌∷◌, ◌++◌, map, ℕ, ◌+◌, replicate}
 use Rattle.question.specs.Questions.{first_no, passing_to}
 use Rattle.line.specs.Characters.{digit_of, character_of, hex, number_from}
-use Rattle.line.specs.Questions.{line_questions}
+use Rattle.line.specs.Questions.{most_characters, line_questions}
 use Rattle.line.specs.Answering.{refusal, Answers}
 
 -- The first "no" of a line of these digits is answered by a line of those.
@@ -44,6 +44,11 @@ sample_head_cut = refl
 pub sample_length : Refused (1 ∷ 0 ∷ 0 ∷ 1 ∷ 2 ∷ 4 ∷ 3 ∷ []) (0 ∷ 10 ∷ 0 ∷ 0 ∷ 0 ∷ 0 ∷ [])
 unfolding digit_of character_of hex number_from passing_to
 sample_length = refl
+
+-- All letters z: question 11 comes before 9.
+pub sample_long : refusal (first_no (line_questions (replicate (most_characters + 1) 122))) ≡ map character_of (0 ∷ 11 ∷ 0 ∷ 0 ∷ 0 ∷ 0 ∷ [])
+unfolding digit_of character_of hex number_from passing_to
+sample_long = refl
 
 -- "12g" and "12": the first wrong character, else the length.
 pub sample_wrong : refusal (first_no (line_questions (49 ∷ 50 ∷ 103 ∷ []))) ≡ map character_of (0 ∷ 9 ∷ 0 ∷ 0 ∷ 0 ∷ 2 ∷ [])

@@ -160,20 +160,25 @@ woven_decoding_questions number D reception message_room transmission_room =
     ∷ []
 
 -- Examples, computed: which question comes first where several would be answered "no".
--- No setting 257, though its last byte is 1; 8; 4 with its place before 6; 6; yes. A message has no unknown symbols: the mark gets 4.
+-- No setting 257, though its last byte is 1; 8; 4 with its place before 6; 6; yes; of one and two blocks, and of 512. A message has no unknown symbols: the mark
+-- gets 4.
 pub encoding_samples : first_no (encoding_questions 257 [] 0)
     ∷ first_no (encoding_questions 2 (9 ∷ []) 0)
     ∷ first_no (encoding_questions 2 (replicate 3 7 ++ 8 ∷ []) 0)
     ∷ first_no (encoding_questions 2 (replicate 4 7) 27)
     ∷ first_no (encoding_questions 2 (replicate 4 7) 28)
+    ∷ first_no (encoding_questions 2 (replicate 1027 9) 0)
+    ∷ first_no (encoding_questions 2 (replicate 1023 7 ++ 8 ∷ []) 0)
+    ∷ first_no (encoding_questions 2 (replicate 1024 7) 3597)
+    ∷ first_no (encoding_questions 2 (replicate 1024 7) 3598)
     ∷ first_no (encoding_questions 2 (7 ∷ 255 ∷ []) 0)
     ∷ []
-    ≡ answer 1 0 ∷ answer 8 0 ∷ answer 4 3 ∷ answer 6 0 ∷ answer 0 0 ∷ answer 4 1 ∷ []
+    ≡ answer 1 0 ∷ answer 8 0 ∷ answer 4 3 ∷ answer 6 0 ∷ answer 0 0 ∷ answer 8 0 ∷ answer 4 1023 ∷ answer 6 0 ∷ answer 0 0 ∷ answer 4 1 ∷ []
 unfolding passing_to
 encoding_samples = refl
 
--- 1, below the settings and past them; 2 for a length that is no multiple of n, and for one below (m+1) × n; 4 with its place before 5; 5 before 6; 6; yes. With
--- sixteen elements 15 is a symbol, and 16 is none. Unknown symbols pass, with the mark 255 alone.
+-- 1, below the settings and past them; 2 for a length that is no multiple of n, and for one below (m+1) × n; 4 with its place before 5; 5 before 6; 6; yes; of one
+-- block, and of 512. With sixteen elements 15 is a symbol, and 16 is none. Unknown symbols pass, with the mark 255 alone.
 pub decoding_samples : first_no (decoding_questions 0 [] 0 0)
     ∷ first_no (decoding_questions 6 [] 0 0)
     ∷ first_no (decoding_questions 3 (replicate 15 9) 0 0)
@@ -182,22 +187,32 @@ pub decoding_samples : first_no (decoding_questions 0 [] 0 0)
     ∷ first_no (decoding_questions 3 (replicate 14 7) 2 0)
     ∷ first_no (decoding_questions 3 (replicate 14 7) 3 13)
     ∷ first_no (decoding_questions 3 (replicate 14 7) 3 14)
+    ∷ first_no (decoding_questions 3 (replicate 3592 9) 0 0)
+    ∷ first_no (decoding_questions 3 (replicate 3590 7 ++ 8 ∷ []) 0 0)
+    ∷ first_no (decoding_questions 3 (replicate 3591 7) 1535 0)
+    ∷ first_no (decoding_questions 3 (replicate 3591 7) 1536 3590)
+    ∷ first_no (decoding_questions 3 (replicate 3591 7) 1536 3591)
     ∷ first_no (decoding_questions 4 (replicate 59 15 ++ 16 ∷ []) 0 0)
     ∷ first_no (decoding_questions 1 (replicate 4 3 ++ replicate 8 255) 1 12)
     ∷ first_no (decoding_questions 1 (replicate 11 255 ++ 254 ∷ []) 1 12)
     ∷ []
     ≡ answer 1 0 ∷ answer 1 0 ∷ answer 2 0 ∷ answer 2 0 ∷ answer 4 13 ∷ answer 5 0 ∷ answer 6 0 ∷ answer 0 0
+    ∷ answer 2 0 ∷ answer 4 3590 ∷ answer 5 0 ∷ answer 6 0 ∷ answer 0 0
     ∷ answer 4 59 ∷ answer 0 0 ∷ answer 4 11 ∷ []
 unfolding passing_to
 decoding_samples = refl
 
--- 12, for any j, before 13; 13; yes.
+-- 12, for any j, before 13; 13; yes; of one block, and of 512.
 pub marks_samples : first_no (marks_questions 1 12 0 1)
     ∷ first_no (marks_questions 1 12 0 18446744073709551615)
     ∷ first_no (marks_questions 1 12 11 0)
     ∷ first_no (marks_questions 1 12 12 0)
+    ∷ first_no (marks_questions 1 2056 0 512)
+    ∷ first_no (marks_questions 1 2056 0 18446744073709551615)
+    ∷ first_no (marks_questions 1 2056 2055 511)
+    ∷ first_no (marks_questions 1 2056 2056 511)
     ∷ []
-    ≡ answer 12 0 ∷ answer 12 0 ∷ answer 13 0 ∷ answer 0 0 ∷ []
+    ≡ answer 12 0 ∷ answer 12 0 ∷ answer 13 0 ∷ answer 0 0 ∷ answer 12 0 ∷ answer 12 0 ∷ answer 13 0 ∷ answer 0 0 ∷ []
 marks_samples = refl
 
 -- 1 before 14; 14 for no frame, one, nine and 2^64 − 1 frames, before 15; 15 before 2; an empty area passes 15 and gets 2; 2 of one frame's length, though both

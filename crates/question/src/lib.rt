@@ -15,9 +15,11 @@ ghost use Rattle.question.specs.Questions.{woven_questions, weaving_questions, w
 ghost use Rattle.question.specs.Refusals.{asked};
 ghost use Rattle.question.specs.parts.Shapes.{ReceptionOf, MessageOf, WovenOf};
 
+pub use answer::Answer;
 use code::{Setting, SettingNumber};
 use refusal::Refusal;
-use shape::{MOST_BLOCKS, MOST_FRAMES, Rooms, Shape, WovenShape};
+pub use shape::{MOST_BLOCKS, MOST_FRAMES};
+use shape::{Rooms, Shape, WovenShape};
 
 // "Byte 255 in a reception .. means an unknown symbol" (02, #106).
 pub const UNKNOWN_MARK: u8 = 255;

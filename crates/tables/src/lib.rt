@@ -8,9 +8,9 @@ ghost use Rattle.field.specs.Symbols.{Symbols};
 ghost use Rattle.field.specs.parts.Sequences.{at};
 ghost use Rattle.code.specs.Generator.{times_g};
 ghost use Rattle.code.specs.parts.SettingNumbers.{parameters_of};
-ghost use Rattle.code.specs.Settings.{code_of};
+ghost use Rattle.code.specs.Settings.{code_of, setting_of};
 ghost use Rattle.code.specs.Windows.{window_length};
-ghost use Rattle.tables.specs.parts.Rows.{rows_length, Narrow, LaidOut, RowsOf, Ready};
+ghost use Rattle.tables.specs.parts.Rows.{generator_of, rows_length, Narrow, LaidOut, RowsOf, Ready};
 ghost use Rattle.tables.specs.parts.RowsAdded.{RowsAdded};
 
 pub mod combination;
@@ -94,6 +94,37 @@ const GENERATOR_5: [[[u8; 15]; 5]; 3] = [
     ],
 ];
 
+// The nested tables, each its setting's by the rule.
+pub fn generator_1() -> [[[u8; 4]; 1]; 3]
+    ensures { result ≡ generator_of (setting_of 1) }
+{
+    GENERATOR_1
+}
+
+pub fn generator_2() -> [[[u8; 7]; 2]; 3]
+    ensures { result ≡ generator_of (setting_of 2) }
+{
+    GENERATOR_2
+}
+
+pub fn generator_3() -> [[[u8; 7]; 3]; 2]
+    ensures { result ≡ generator_of (setting_of 3) }
+{
+    GENERATOR_3
+}
+
+pub fn generator_4() -> [[[u8; 15]; 3]; 4]
+    ensures { result ≡ generator_of (setting_of 4) }
+{
+    GENERATOR_4
+}
+
+pub fn generator_5() -> [[[u8; 15]; 5]; 3]
+    ensures { result ≡ generator_of (setting_of 5) }
+{
+    GENERATOR_5
+}
+
 // The tables of a setting: its field, and the generator's rows one after the other. Made once in a library call and lent down.
 #[derive(Drop)]
 pub struct Tables {
@@ -111,7 +142,7 @@ fn lay_generator<const N: usize, const K: usize, const POWERS: usize>(
     generator: &[[[u8; N]; K]; POWERS],
     area: &mut [u8],
 )
-    requires { (1 ≤ N) × (K * POWERS * N ≤ length area.old) × (length area.old ≤ LONGEST_ROWS) }
+    requires { (1 ≤ N) × (K * POWERS * N ≤ length area.old) }
     ensures long { length area.new ≡ length area.old }
     ensures laid { LaidOut N K POWERS generator.now area.new }
 {
@@ -122,9 +153,9 @@ fn lay_generator<const N: usize, const K: usize, const POWERS: usize>(
     }
 }
 
-// Lays a setting's rows out: the one place that tells the settings' generators apart.
-fn lay_rows(number: SettingNumber, area: &mut [u8])
-    requires { (rows_length (parameters_of number) ≤ length area.old) × (length area.old ≤ LONGEST_ROWS) }
+// Lays a setting's rows out, at the front of the area: the one place that tells the settings' generators apart.
+pub fn rows(number: SettingNumber, area: &mut [u8])
+    requires { rows_length (parameters_of number) ≤ length area.old }
     ensures long { length area.new ≡ length area.old }
     ensures rows { RowsOf (parameters_of number) area.new }
 {
@@ -143,12 +174,12 @@ impl Tables {
         ensures { result.setting ≡ parameters_of number }
     {
         let setting = Setting::from(number);
-        let mut rows = [0u8; LONGEST_ROWS];
-        lay_rows(number, &mut rows);
+        let mut laid = [0u8; LONGEST_ROWS];
+        rows(number, &mut laid);
         Tables {
             setting,
             field: Field::new(setting.q),
-            rows,
+            rows: laid,
         }
     }
 

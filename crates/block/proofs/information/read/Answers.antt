@@ -4,7 +4,6 @@ use Prim.Native.Nat.{ℕ, ◌+◌, ◌*◌, ◌≤◌, ◌<◌}
 use native.Mathlib.Omega.{arith}
 use lib.ListN.{length}
 use Rattle.area.proofs.Parts.{parts_apart, part_length, length_put}
-use Rattle.block.specs.declared.TheConstants.{PLACES}
 use Rattle.block.proofs.InformationRead.{read_more}
 use Rattle.block.proofs.information.read.Goals as goal
 
@@ -17,6 +16,6 @@ loop-b-preserved c =
     let l = c.loop-b in
     let t = c.args.tables.now in
     let k = t.setting.k in
-    let within : l.b * k + k ≤ length l.information = omega (arith, fits k c.args.blocks l.b PLACES c.loop-b-test.true c.requires.1, l.invariant.1) in
+    let within : l.b * k + k ≤ length l.information = omega (arith, fits k c.args.blocks l.b _ c.loop-b-test.true c.requires.2, l.invariant.1) in
     let long = c.read.auto.information ∙ part_length k (l.b * k) _ within in
     (read_more _ t.ready.sound _ c.requires.0 l.b _ _ within long l.invariant.0 (rw c.part.ensures.part at c.read.ensures), length_put k l.b _ _ within long ∙ l.invariant.1)
