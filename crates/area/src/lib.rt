@@ -44,10 +44,23 @@ pub fn count_from(least: u8, bytes: &[u8]) -> usize
     count_by_parts(least, bytes)
 }
 
-// The weight: how many symbols are not zero. Not copied into its callers either, and not a call of `count_from`, which compares with any byte.
+// The weight of more symbols than a byte has room for. Not copied into its callers, and not a call of `count_from`, which compares with any byte.
+#[cold]
 #[inline(never)]
-pub fn weight(symbols: &[u8]) -> usize
+fn long_weight(symbols: &[u8]) -> usize
     ensures { result ≡ weight_of symbols.now }
 {
     count_by_parts(1, symbols)
+}
+
+// The weight: how many symbols are not zero. Of at most 255, as a window has, it is worked out in the callers: where a window is light, little else is done
+// (docs/PERFORMANCE.md, "Light windows").
+pub fn weight(symbols: &[u8]) -> usize
+    ensures { result ≡ weight_of symbols.now }
+{
+    if symbols.len() <= 255 {
+        usize::from(short_count_from(1, symbols))
+    } else {
+        long_weight(symbols)
+    }
 }

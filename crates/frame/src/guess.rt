@@ -1,8 +1,9 @@
 // The guessed message. What is added to it is taken out of the residual, so that this stays the reception less the guess's transmission.
 // The two areas stay two parameters: a struct of two `&mut` would need two clauses more in each contract, that its references stay the same.
-ghost use Rattle.std.specs.Prelude.{◌≡◌, ◌+◌, ◌*◌, ◌≤◌, ◌<◌, length, get_or};
+ghost use Rattle.std.specs.Prelude.{◌≡◌, ◌+◌, ◌*◌, ◌≤◌, ◌<◌, true, length, get_or};
 ghost use Rattle.field.specs.Symbols.{Symbols};
 ghost use Rattle.code.specs.Windows.{window_length};
+ghost use Rattle.code.specs.parts.Residual.{frame_length};
 ghost use Rattle.tables.specs.parts.RowsAdded.{RowsAdded};
 ghost use Rattle.frame.specs.parts.Frame.{FrameAreas, Revised, Adjusted, Added};
 
@@ -111,7 +112,9 @@ impl Frame<'_> {
     }
 
     // Guesses block i of the message from the k symbols at an end of the residual of its block, unknown ones as zeros: any guess will do. It is right where they
-    // were neither altered nor lost.
+    // were neither altered nor lost. Copied into its caller, as are `guess_block` and `guess_rest`: of functions of their own the compiler has to expect that what
+    // they write changes the tables, and decoding takes up to twice the instructions (docs/PERFORMANCE.md, "Light windows").
+    #[inline(always)]
     fn guess_from(&self, end: End, i: usize, message: &mut [u8], residual: &mut [u8])
         requires { (i < self.now.blocks) × FrameAreas self.now.tables.now.setting self.now.blocks self.now.unknown message.old residual.old }
         ensures { Revised self.now.tables.now.setting self.now.blocks self.now.unknown i message.old residual.old message.new residual.new }
@@ -140,17 +143,20 @@ impl Frame<'_> {
         super::window::is_light(p.q, block, distance)
     }
 
-    // Guesses block i of the message again, if it has such a block and its residual is too heavy: from the first symbols, or else from the last ones.
+    // Whether block i of the message has to be guessed again: it has such a block, and its residual is too heavy.
+    fn is_heavy(&self, i: usize, residual: &[u8]) -> bool
+        requires { length residual.now ≡ frame_length self.now.tables.now.setting self.now.blocks }
+        ensures { result ≡ true → i < self.now.blocks }
+    {
+        i < self.blocks && !self.may_stay(i, residual)
+    }
+
+    // Guesses block i of the message again: from the first symbols, or else from the last ones.
+    #[inline(always)]
     fn guess_block(&self, i: usize, message: &mut [u8], residual: &mut [u8])
-        requires { FrameAreas self.now.tables.now.setting self.now.blocks self.now.unknown message.old residual.old }
+        requires { (i < self.now.blocks) × FrameAreas self.now.tables.now.setting self.now.blocks self.now.unknown message.old residual.old }
         ensures { Revised self.now.tables.now.setting self.now.blocks self.now.unknown i message.old residual.old message.new residual.new }
     {
-        if self.blocks <= i {
-            return;
-        }
-        if self.may_stay(i, residual) {
-            return;
-        }
         self.guess_from(End::First, i, message, residual);
         if self.may_stay(i, residual) {
             return;
@@ -158,13 +164,30 @@ impl Frame<'_> {
         self.guess_from(End::Last, i, message, residual);
     }
 
-    // Guesses blocks j + first .. j + m. Which blocks are guessed is free: nothing rests on a guess.
+    // Guesses block j + s of a window, and those after it that are too heavy.
+    #[inline(always)]
+    fn guess_rest(&self, j: usize, s: usize, message: &mut [u8], residual: &mut [u8])
+        requires { (j < self.now.blocks) × (s ≤ self.now.tables.now.setting.m) × (j + s < self.now.blocks) × FrameAreas self.now.tables.now.setting self.now.blocks self.now.unknown message.old residual.old }
+        ensures { Revised self.now.tables.now.setting self.now.blocks self.now.unknown j message.old residual.old message.new residual.new }
+    {
+        for a in s..self.tables.setting.m + 1 {
+            if a == s || self.is_heavy(j + a, residual) {
+                self.guess_block(j + a, message, residual);
+            }
+        }
+    }
+
+    // Guesses those of blocks j + first .. j + m that are too heavy. Which blocks are guessed is free: nothing rests on a guess. The first of them is looked for by
+    // itself, since what a guess prepares would else be done for every window, also where none is guessed (docs/PERFORMANCE.md, "Light windows").
     pub fn guess_window(&self, j: usize, first: usize, message: &mut [u8], residual: &mut [u8])
         requires { (j < self.now.blocks) × FrameAreas self.now.tables.now.setting self.now.blocks self.now.unknown message.old residual.old }
         ensures { Revised self.now.tables.now.setting self.now.blocks self.now.unknown j message.old residual.old message.new residual.new }
     {
         for s in first..self.tables.setting.m + 1 {
-            self.guess_block(j + s, message, residual);
+            if self.is_heavy(j + s, residual) {
+                self.guess_rest(j, s, message, residual);
+                return;
+            }
         }
     }
 }
