@@ -13,10 +13,33 @@ ghost use Rattle.code.specs.parts.SettingNumbers.{parameters_of};
 ghost use Rattle.tables.specs.parts.Rows.{longest_block};
 
 use code::SettingNumber;
-use std::io::Write;
+use std::io::{Error, Stdout, Write};
 use std::ops::AddAssign;
 use tables::combination::Combination;
 use tables::{LONGEST_BLOCK, Tables};
+
+// Standard output, where what can't be written is passed over: all blocks are gone through, whatever becomes of what is written of them.
+#[derive(Clone, Copy)]
+struct Output {
+    to: Stdout,
+}
+
+impl Output {
+    fn new(rt: &HostRuntime) -> Output {
+        Output { to: rt.stdout() }
+    }
+}
+
+impl Write for Output {
+    fn write(&mut self, bytes: &[u8]) -> Result<usize, Error> {
+        let _ = self.to.write_all(bytes);
+        Ok(bytes.len())
+    }
+
+    fn flush(&mut self) -> Result<(), Error> {
+        Ok(())
+    }
+}
 
 // How many blocks were gone through, how many of them have information near, and on how many the block step and enumeration agree, with the right marks.
 #[derive(Clone, Copy, Default)]
@@ -193,7 +216,7 @@ fn write_tally(
     };
     let all = level.tally(stride, end);
     let _ = writeln!(
-        rt.stdout(),
+        Output::new(rt),
         "{} {l} {} {} {}",
         u64::from(number),
         all.blocks,

@@ -4,6 +4,7 @@
 // A line out: the code block, two digits a symbol, or `none`; then a digit for each symbol, 1 where it is marked.
 ghost use Rattle.std.specs.Prelude.{◌≡◌, ◌≤◌, length};
 
+use super::Output;
 use code::SettingNumber;
 use std::io::{Error, ErrorKind, Read, Write};
 use tables::combination::Combination;
@@ -50,16 +51,16 @@ fn show_repair(rt: &HostRuntime, tables: &Tables, block: &[u8], l: usize) -> Res
                 l,
             };
             for i in 0..n {
-                write!(rt.stdout(), "{:02x}", repaired.symbol(i))?;
+                write!(Output::new(rt), "{:02x}", repaired.symbol(i))?;
             }
         }
-        None => write!(rt.stdout(), "none")?,
+        None => write!(Output::new(rt), "none")?,
     }
-    write!(rt.stdout(), " ")?;
+    write!(Output::new(rt), " ")?;
     for mark in marks {
-        write!(rt.stdout(), "{mark}")?;
+        write!(Output::new(rt), "{mark}")?;
     }
-    writeln!(rt.stdout())
+    writeln!(Output::new(rt))
 }
 
 // One line; an error where the input ends or a line has not this form.

@@ -14,7 +14,7 @@ use question::answer::{Answer, Counts};
 use question::refusal::Refusal;
 use question::shape::MOST_FRAMES;
 use std::fmt;
-use std::io::{Error, ErrorKind, Read, Write};
+use std::io::{Error, ErrorKind, Read, Stdout, Write};
 
 // The bytes of a line before its areas.
 const START: usize = 51;
@@ -41,11 +41,10 @@ fn word(digits: &[u8]) -> u64 {
         .fold(0, |word, digit| word << 4 | u64::from(value(*digit)))
 }
 
-// Reads bytes, two digits each.
-fn read(rt: &HostRuntime, bytes: &mut [u8]) -> Result<(), Error>
+// Reads bytes, two digits each, by way of an array with room for them.
+fn read(rt: &HostRuntime, room: &mut [u8; 2 * MOST_BYTES], bytes: &mut [u8]) -> Result<(), Error>
     requires { length bytes.old ≤ MOST_BYTES }
 {
-    let mut room = [0u8; 2 * MOST_BYTES];
     let digits = &mut room[..2 * bytes.len()];
     rt.stdin().read_exact(digits)?;
     for (byte, pair) in bytes.iter_mut().zip(digits.chunks_exact(2)) {
@@ -54,19 +53,41 @@ fn read(rt: &HostRuntime, bytes: &mut [u8]) -> Result<(), Error>
     Ok(())
 }
 
-// Bytes, written with two digits each.
+// Standard output, where what can't be written is passed over: the lines run to the end of the input, whatever becomes of their answers.
 #[derive(Clone, Copy)]
-struct Digits<'a> {
-    of: &'a [u8],
+struct Output {
+    to: Stdout,
 }
 
-impl fmt::Display for Digits<'_> {
-    fn fmt<W: fmt::Write>(&self, f: &mut fmt::Formatter<W>) -> fmt::Result {
-        for byte in self.of {
-            write!(f, "{byte:02x}")?;
-        }
+impl Output {
+    fn new(rt: &HostRuntime) -> Output {
+        Output { to: rt.stdout() }
+    }
+}
+
+impl Write for Output {
+    fn write(&mut self, bytes: &[u8]) -> Result<usize, Error> {
+        let _ = self.to.write_all(bytes);
+        Ok(bytes.len())
+    }
+
+    fn flush(&mut self) -> Result<(), Error> {
         Ok(())
     }
+}
+
+// Writes bytes, two digits each, by one write: standard output keeps nothing back, and each write is a call of the system. No area has more than MOST_BYTES.
+fn show_digits(rt: &HostRuntime, bytes: &[u8]) -> Result<(), Error> {
+    let digits = *b"0123456789abcdef";
+    let mut room = [0u8; 2 * MOST_BYTES];
+    for (pair, byte) in room.chunks_exact_mut(2).zip(bytes) {
+        pair[0] = digits[usize::from(byte >> 4)];
+        pair[1] = digits[usize::from(byte & 15)];
+    }
+    if let Some(written) = room.get(..2 * bytes.len()) {
+        Output::new(rt).write_all(written)?;
+    }
+    Ok(())
 }
 
 // An answer, written as its number, its place, and how many symbols are altered and unknown.
@@ -90,14 +111,18 @@ fn show_outcome(rt: &HostRuntime, outcome: Result<(), Refusal>, area: &[u8]) -> 
     let answer = Numbers {
         of: Answer::from(outcome.map(|()| Counts::default())),
     };
-    writeln!(rt.stdout(), "{} {}", answer, Digits { of: area })
+    write!(Output::new(rt), "{answer} ")?;
+    show_digits(rt, area)?;
+    writeln!(Output::new(rt))
 }
 
 // What a call left in both of its areas.
 fn show_areas(rt: &HostRuntime, message: &[u8], transmission: &[u8]) -> Result<(), Error> {
-    let message = Digits { of: message };
-    let transmission = Digits { of: transmission };
-    writeln!(rt.stdout(), " {message} {transmission}")
+    write!(Output::new(rt), " ")?;
+    show_digits(rt, message)?;
+    write!(Output::new(rt), " ")?;
+    show_digits(rt, transmission)?;
+    writeln!(Output::new(rt))
 }
 
 fn decode(
@@ -111,7 +136,7 @@ fn decode(
     let answer = Numbers {
         of: Answer::from(outcome),
     };
-    write!(rt.stdout(), "{answer}")?;
+    write!(Output::new(rt), "{answer}")?;
     show_areas(rt, message, transmission)
 }
 
@@ -129,13 +154,13 @@ fn marks(
 ) -> Result<(), Error> {
     let found = Marks::from(display::mark::marks(number, reception, transmission, j));
     let answer = Numbers { of: found.answer };
-    writeln!(rt.stdout(), "{} {} {}", answer, found.marks, found.set)
+    writeln!(Output::new(rt), "{} {} {}", answer, found.marks, found.set)
 }
 
 // The answers of all frames; those that are not there are zeros.
 fn show_frames(rt: &HostRuntime, answers: [Answer; MOST_FRAMES]) -> Result<(), Error> {
     for answer in answers {
-        write!(rt.stdout(), " {}", Numbers { of: answer })?;
+        write!(Output::new(rt), " {}", Numbers { of: answer })?;
     }
     Ok(())
 }
@@ -150,7 +175,7 @@ fn decode_woven(
 ) -> Result<(), Error> {
     let outcome = link::woven::decode_woven(number, frames, reception, message, transmission);
     let woven = WovenAnswer::from(outcome);
-    write!(rt.stdout(), "{}", Numbers { of: woven.answer })?;
+    write!(Output::new(rt), "{}", Numbers { of: woven.answer })?;
     show_frames(rt, woven.frame)?;
     show_areas(rt, message, transmission)
 }
@@ -169,8 +194,8 @@ fn desk_line(rt: &HostRuntime, text: &[u8]) -> Result<(), Error> {
         &mut output,
     );
     if let Some(answer) = output.get(..long) {
-        rt.stdout().write_all(answer)?;
-        rt.stdout().write_all(b"\n")?;
+        Output::new(rt).write_all(answer)?;
+        Output::new(rt).write_all(b"\n")?;
     }
     Ok(())
 }
@@ -237,9 +262,10 @@ fn run(rt: &HostRuntime, head: Head) -> Result<(), Error> {
     let first = &mut first[..head.first];
     let second = &mut second[..head.second];
     let third = &mut third[..head.third];
-    read(rt, first)?;
-    read(rt, second)?;
-    read(rt, third)?;
+    let mut room = [0u8; 2 * MOST_BYTES];
+    read(rt, &mut room, first)?;
+    read(rt, &mut room, second)?;
+    read(rt, &mut room, third)?;
     let mut newline = [0u8; 1];
     rt.stdin().read_exact(&mut newline)?;
     call_on(rt, head, first, second, third)
